@@ -1,0 +1,50 @@
+-- An agent (scanner): what it is by the problem, what it holds, and what a step of it gives. Document 01, 'The rail'.
+use Prim.Native.Nat.{ℕ, pred}
+use mathlib.Core.Bool.{Bool, true, false, not, _&&_, _||_}
+use mathlib.Core.Option.{Option, none, some}
+use mathlib.Core.List.{List, [], _∷_, _++_}
+use lib.Dec.{eqb}
+use Rattle.base.specs.Finite.{allTo}
+use Rattle.agent_rules.specs.Message.{Assignment, known, nobody, Message, Post}
+
+-- an agent's number and its domain (slot count): all of the problem that it has, beside the bans that name it
+pub record Self : Type 0 where
+  pub number : ℕ
+  pub domain : ℕ
+
+-- the bans that name an agent, with the agents above it: agent k at value v bans the own value w
+abbrev pub Bans : Type 0
+Bans = ℕ → ℕ → ℕ → Bool
+
+-- "for each own slot at most one stored reason, the left side of a refusal"
+abbrev pub Nogoods : Type 0
+Nogoods = ℕ → Option Assignment
+
+pub record Agent : Type 0 where
+  pub value : ℕ              -- "its slot", 0 where it has none
+  pub listens : ℕ → Bool     -- "the scanners above it that it listens to"
+  pub informs : ℕ → Bool     -- "those below it that it informs"
+  pub view : Assignment      -- "a slot or unknown for each it listens to"
+  pub nogoods : Nogoods
+
+-- "handed back changed, with what it sends"
+pub record Step : Type 0 where
+  pub agent : Agent
+  pub sent : List Post       -- in the order of sending
+  pub verdict : Bool         -- the verdict "none" fell
+
+unfoldable pub noNogoods : Nogoods
+noNogoods v = none
+
+-- an agent beyond n
+unfoldable pub noAgent : Agent
+noAgent =
+    record { value = 0; listens = λ k. false; informs = λ k. false; view = nobody; nogoods = noNogoods }
+
+-- the agents above, 1 to this number
+unfoldable pub above : Self → ℕ
+above s = pred (s .number)
+
+-- a left side agrees with a view: each agent that it names has that value in the view
+unfoldable pub agrees : Self → Assignment → Assignment → Bool
+agrees s view lhs = allTo (above s) (λ k. not (known (lhs k)) || eqb (lhs k) (view k))

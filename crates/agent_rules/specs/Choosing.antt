@@ -1,0 +1,129 @@
+-- The rules 'Choosing' and 'Backing up' of document 01 (figure 1: ChooseValue, CheckAgentView lines 2-4, Backtrack).
+use Prim.Native.Nat.{ℕ, zero, suc, _+_, _-_}
+use mathlib.Core.Bool.{Bool, true, false, not, _&&_, _||_, cond}
+use mathlib.Core.Option.{Option, none, some}
+use mathlib.Core.List.{List, [], _∷_, _++_}
+use Rattle.base.specs.Finite.{at, lowest, highest, isSome, gather}
+use Rattle.problem.specs.Problem.{maxAgents}
+use Rattle.agent_rules.specs.Message.{Assignment, known, nobody, Message, Info, Back, AddLink, Post}
+use Rattle.agent_rules.specs.Agent.{Self, Bans, Nogoods, Agent, Step, above}
+
+-- ---- whom to blame
+
+-- agent k has a known value in the view that bans the own value v. "Unknown scanners ban nothing."
+unfoldable pub bars : Bans → Assignment → ℕ → ℕ → Bool
+bars bans view v k = known (view k) && bans k (view k) v
+
+-- "blaming the lowest-numbered such scanner"
+unfoldable pub blame : Self → Bans → Assignment → ℕ → Option ℕ
+blame s bans view v = lowest (above s) 1 (bars bans view v)
+
+-- "that scanner has that slot": the left side that names agent k alone, at value v
+unfoldable pub only : ℕ → ℕ → Assignment
+only k v j = at nobody k v j
+
+unfoldable pub blaming : Assignment → Option ℕ → Option Assignment
+blaming view none = none
+blaming view (some k) = some (only k (view k))
+
+-- the reason of own value v once it is tried: the stored one ("A slot with a stored reason is skipped"), else the ban that bars it, else
+-- none, and the value is free
+unfoldable pub reasonOf : Option Assignment → Option Assignment → Option Assignment
+reasonOf none barred = barred
+reasonOf (some lhs) barred = some lhs
+
+unfoldable pub reason : Self → Bans → Assignment → Nogoods → ℕ → Option Assignment
+reason s bans view nogoods v = reasonOf (nogoods v) (blaming view (blame s bans view v))
+
+-- ---- choosing
+
+pub record Choice : Type 0 where
+  pub value : Option ℕ       -- the value taken, if one is free
+  pub nogoods : Nogoods      -- the reasons, with those given on the way
+
+-- "Go through own slots upward": m of them from v on. "The lowest slot still free is taken, those above it are not tried and get no reason."
+unfoldable pub choose : ℕ → ℕ → Self → Bans → Assignment → Nogoods → Choice
+choose zero v s bans view nogoods = record { value = none; nogoods = nogoods }
+choose (suc m) v s bans view nogoods =
+    elim (reason s bans view nogoods v)
+      [ none ↦ record { value = some v; nogoods = nogoods }
+      | some lhs ↦ choose m (suc v) s bans view (at nogoods v (some lhs)) ]
+
+unfoldable pub choice : Self → Bans → Agent → Choice
+choice s bans a = choose (s .domain) 1 s bans (a .view) (a .nogoods)
+
+-- "news goes to all it informs, even if the slot is the old one"
+unfoldable pub infoTo : Agent → ℕ → ℕ → List Post
+infoTo a v k = elim (a .informs k) [ true ↦ record { to = k; message = Info v } ∷ [] | false ↦ [] ]
+
+unfoldable pub infos : Self → Agent → ℕ → List Post
+infos s a v = gather (maxAgents - s .number) (suc (s .number)) (infoTo a v)
+
+-- the agent with what choosing left: its value, 0 for none, and its nogoods
+unfoldable pub chosen : Agent → ℕ → Nogoods → Agent
+chosen a v nogoods =
+    record { value = v; listens = a .listens; informs = a .informs; view = a .view; nogoods = nogoods }
+
+unfoldable pub took : Self → Agent → ℕ → Nogoods → Step
+took s a v nogoods = record { agent = chosen a v nogoods; sent = infos s a v; verdict = false }
+
+-- ---- backing up
+
+-- both sides' agents
+unfoldable pub join : Assignment → Assignment → Assignment
+join l r k = cond (known (l k)) (l k) (r k)
+
+unfoldable pub lhsOf : Option Assignment → Assignment
+lhsOf none = nobody
+lhsOf (some lhs) = lhs
+
+-- "join all left sides": of values 1 to m
+unfoldable pub union : ℕ → Nogoods → Assignment
+union zero nogoods = nobody
+union (suc m) nogoods = join (union m nogoods) (lhsOf (nogoods (suc m)))
+
+-- "If the union is empty, the verdict is "none": the scanner is left without a slot, and its reasons .. remain"
+unfoldable pub failed : Agent → Nogoods → Step
+failed a nogoods = record { agent = chosen a 0 nogoods; sent = []; verdict = true }
+
+-- "the highest-numbered scanner in it gets a refusal: its slot is the one refused, the rest is the left side"
+unfoldable pub refusing : ℕ → Assignment → Post
+refusing k whole = record { to = k; message = Back (at whole k 0) (whole k) }
+
+-- a reason that does not name agent k is kept
+unfoldable pub dropIf : Bool → Assignment → Option Assignment
+dropIf true lhs = none
+dropIf false lhs = some lhs
+
+unfoldable pub without : ℕ → Option Assignment → Option Assignment
+without k none = none
+without k (some lhs) = dropIf (known (lhs k)) lhs
+
+-- "The sender sets that scanner to unknown, drops all reasons naming it"
+unfoldable pub forget : ℕ → Agent → Nogoods → Agent
+forget k a nogoods =
+    record {
+      value = a .value;
+      listens = a .listens;
+      informs = a .informs;
+      view = at (a .view) k 0;
+      nogoods = λ v. without k (nogoods v) }
+
+-- what is sent before the rest of the step
+unfoldable pub after : List Post → Step → Step
+after posts t = record { agent = t .agent; sent = posts ++ t .sent; verdict = t .verdict }
+
+-- Choosing, with backing up. "This repeats until a slot is taken." Each time one agent more of the view is unknown, so `times` above the
+-- number of agents is never used up.
+unfoldable pub settle : ℕ → Self → Bans → Agent → Step
+settle zero s bans a = failed a (choice s bans a .nogoods)
+settle (suc times) s bans a =
+    elim (choice s bans a .value)
+      [ some v ↦ took s a v (choice s bans a .nogoods)
+      | none ↦ elim (highest (above s) (λ k. known (union (s .domain) (choice s bans a .nogoods) k)))
+        [ none ↦ failed a (choice s bans a .nogoods)
+        | some k ↦ after (refusing k (union (s .domain) (choice s bans a .nogoods)) ∷ [])
+            (settle times s bans (forget k a (choice s bans a .nogoods))) ] ]
+
+unfoldable pub checkView : Self → Bans → Agent → Step
+checkView s bans a = settle (s .number) s bans a

@@ -1,0 +1,4 @@
+pub mod Message
+pub mod Agent
+pub mod Choosing
+pub mod Receiving

@@ -1,0 +1,126 @@
+-- What an agent does with a message, and at the start. Document 01, 'What a scanner does' (figure 1: ProcessInfo, ResolveConflict; figure 2:
+-- ResolveConflict, SetLink, CheckAddLink).
+use Prim.Native.Nat.{ℕ}
+use mathlib.Core.Bool.{Bool, true, false, not, _&&_, _||_, cond}
+use mathlib.Core.Option.{Option, none, some}
+use mathlib.Core.List.{List, [], _∷_, _++_}
+use lib.Dec.{eqb}
+use Rattle.base.specs.Finite.{at, allTo, isSome, gather}
+use Rattle.agent_rules.specs.Message.{Assignment, known, nobody, Message, Info, Back, AddLink, Post}
+use Rattle.agent_rules.specs.Agent.{Self, Bans, Nogoods, Agent, Step, noNogoods, above, agrees}
+use Rattle.agent_rules.specs.Choosing.{blame, after, checkView}
+
+-- a step that sends what it is given to send and does not choose
+unfoldable pub quiet : Agent → List Post → Step
+quiet a posts = record { agent = a; sent = posts; verdict = false }
+
+-- the own value, told to one agent
+unfoldable pub answer : Agent → ℕ → List Post
+answer a to = record { to = to; message = Info (a .value) } ∷ []
+
+-- ---- News
+
+-- "drop reasons that disagree with it"
+unfoldable pub keepIf : Bool → Assignment → Option Assignment
+keepIf true lhs = some lhs
+keepIf false lhs = none
+
+unfoldable pub agreeing : Self → Assignment → Option Assignment → Option Assignment
+agreeing s view none = none
+agreeing s view (some lhs) = keepIf (agrees s view lhs) lhs
+
+-- "Update the view, drop reasons that disagree with it."
+unfoldable pub updated : Self → Agent → ℕ → ℕ → Agent
+updated s a from v =
+    record {
+      value = a .value;
+      listens = a .listens;
+      informs = a .informs;
+      view = at (a .view) from v;
+      nogoods = λ w. agreeing s (at (a .view) from v) (a .nogoods w) }
+
+-- the own value is banned against a known value of the view
+unfoldable pub conflicts : Self → Bans → Assignment → ℕ → Bool
+conflicts s bans view v = isSome (blame s bans view v)
+
+-- "If the own slot is now banned, choose; else nothing."
+unfoldable pub onInfo : Self → Bans → Agent → ℕ → ℕ → Step
+onInfo s bans a from v =
+    elim (conflicts s bans (at (a .view) from v) (a .value))
+      [ true ↦ checkView s bans (updated s a from v) | false ↦ quiet (updated s a from v) [] ]
+
+-- ---- Refusal
+
+-- a left-side agent that is listened to has that value in the view. "Unknown does not match."
+unfoldable pub matches : Agent → Assignment → ℕ → Bool
+matches a lhs k = not (known (lhs k)) || not (a .listens k) || eqb (lhs k) (a .view k)
+
+-- "It holds if the refused slot is the receiver's slot and each left-side scanner that the receiver listens to has that slot in its view."
+unfoldable pub holds : Self → Agent → Assignment → ℕ → Bool
+holds s a lhs v = eqb v (a .value) && allTo (above s) (matches a lhs)
+
+-- a left-side agent not listened to
+unfoldable pub unheard : Agent → Assignment → ℕ → Bool
+unheard a lhs k = known (lhs k) && not (a .listens k)
+
+unfoldable pub addLinkTo : Agent → Assignment → ℕ → List Post
+addLinkTo a lhs k = elim (unheard a lhs k) [ true ↦ record { to = k; message = AddLink } ∷ [] | false ↦ [] ]
+
+-- "for each left-side scanner not listened to, upward, send a link request"
+unfoldable pub addLinks : Self → Agent → Assignment → List Post
+addLinks s a lhs = gather (above s) 1 (addLinkTo a lhs)
+
+-- ".. listen to it, put its slot into the view. Then store the left side as the reason, clear the slot"
+unfoldable pub accepting : Agent → Assignment → ℕ → Agent
+accepting a lhs v =
+    record {
+      value = 0;
+      listens = λ k. a .listens k || known (lhs k);
+      informs = a .informs;
+      view = λ k. cond (unheard a lhs k) (lhs k) (a .view k);
+      nogoods = at (a .nogoods) v (some lhs) }
+
+-- "If it does not hold: where the refused slot is the own slot, send news to the sender; otherwise nothing."
+unfoldable pub outdated : Agent → ℕ → ℕ → Step
+outdated a from v = quiet a (elim (eqb v (a .value)) [ true ↦ answer a from | false ↦ [] ])
+
+unfoldable pub onBack : Self → Bans → Agent → ℕ → Assignment → ℕ → Step
+onBack s bans a from lhs v =
+    elim (holds s a lhs v)
+      [ true ↦ after (addLinks s a lhs) (checkView s bans (accepting a lhs v)) | false ↦ outdated a from v ]
+
+-- ---- Link request: "Inform the sender from now on and send it news."
+
+unfoldable pub informing : Agent → ℕ → Agent
+informing a from =
+    record {
+      value = a .value;
+      listens = a .listens;
+      informs = at (a .informs) from true;
+      view = a .view;
+      nogoods = a .nogoods }
+
+unfoldable pub onAddLink : Agent → ℕ → Step
+onAddLink a from = quiet (informing a from) (answer a from)
+
+-- ---- a message, of whatever kind
+
+unfoldable pub receive : Self → Bans → Agent → ℕ → Message → Step
+receive s bans a from (Info v) = onInfo s bans a from v
+receive s bans a from (Back lhs v) = onBack s bans a from lhs v
+receive s bans a from AddLink = onAddLink a from
+
+-- this message makes this agent choose
+unfoldable pub chooses : Self → Bans → Agent → ℕ → Message → Bool
+chooses s bans a from (Info v) = conflicts s bans (at (a .view) from v) (a .value)
+chooses s bans a from (Back lhs v) = holds s a lhs v
+chooses s bans a from AddLink = false
+
+-- ---- Start: "All views are unknown, each scanner chooses."
+
+unfoldable pub fresh : (ℕ → Bool) → (ℕ → Bool) → Agent
+fresh listens informs =
+    record { value = 0; listens = listens; informs = informs; view = nobody; nogoods = noNogoods }
+
+unfoldable pub begin : Self → Bans → (ℕ → Bool) → (ℕ → Bool) → Step
+begin s bans listens informs = checkView s bans (fresh listens informs)

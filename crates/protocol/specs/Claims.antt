@@ -1,0 +1,68 @@
+-- The claims. Each is proved elsewhere against the type that stands here.
+use Prim.Native.Nat.{ℕ, _+_, _*_, _^_, _≤_}
+use mathlib.Core.Path.{_≡_}
+use mathlib.Core.Bool.{true, false}
+use mathlib.Core.List.{List, [], map}
+use Rattle.problem.specs.Problem.{Problem, largestDomain, inRange, Obeys}
+use Rattle.problem.specs.Sheet.{Valid, decode}
+use Rattle.protocol.specs.Network.{Network, start}
+use Rattle.protocol.specs.Shape.{inShape}
+use Rattle.protocol.specs.Run.{Line, Try, idle, run}
+use Rattle.protocol.specs.Calls.{
+  Call, triesOf, leftByAll, triedByAll, madeByAll, replay, answers, answersOf, Stretch, linesOf, markedIn, AllFull, ExactlyFull, roundStretch,
+}
+
+-- 16 × n × (d + 2)^n
+unfoldable pub mostRounds : Problem → ℕ
+mostRounds p = 16 * p .count * (largestDomain p + 2) ^ p .count
+
+-- Demand 2: a network reached from the start with nothing waiting and no verdict breaks no ban.
+abbrev pub SoundAtRest : Problem → Type 0
+SoundAtRest p =
+    (calls : List Call) → leftByAll calls (start p) .verdict ≡ false → idle (leftByAll calls (start p)) ≡ true
+      → Obeys p (λ i. leftByAll calls (start p) .agents i .value)
+
+-- Demand 2: the verdict comes only where no choice of values obeys all bans.
+abbrev pub CompleteVerdict : Problem → Type 0
+CompleteVerdict p = (calls : List Call) → leftByAll calls (start p) .verdict ≡ true → (σ : ℕ → ℕ) → Obeys p σ → ⊥
+
+-- Every network reached from the start is in shape.
+abbrev pub StaysInShape : Problem → Type 0
+StaysInShape p = (calls : List Call) → inShape (leftByAll calls (start p)) ≡ true
+
+-- Demand 3: however the list's deliveries are marked off into rounds without overlap, the full ones are at most 16 × n × (d + 2)^n.
+abbrev pub RoundBound : Problem → Type 0
+RoundBound p =
+    (calls : List Call) (marking : List Stretch) → linesOf marking ≡ triedByAll calls (start p) → AllFull p [] marking
+      → markedIn marking ≤ mostRounds p
+
+-- Demand 3, of the runs: the full rounds that all runs of a list return, together.
+abbrev pub RunBound : Problem → Type 0
+RunBound p = (calls : List Call) → madeByAll calls (start p) ≤ mostRounds p
+
+-- Demand 3: "Each run .. returns exactly how many of these were full": a run's own rounds cut up what it tries; it counts a round exactly if it
+-- is full at its place in the list, and returns how many it counts.
+pub record RunCounts (p : Problem) (calls : List Call) (k : ℕ) : Type 0 where
+  pub cuts : linesOf (map roundStretch (run k (leftByAll calls (start p)) .rounds)) ≡ triesOf (run k (leftByAll calls (start p)) .rounds)
+  pub exact : ExactlyFull p (triedByAll calls (start p)) (map roundStretch (run k (leftByAll calls (start p)) .rounds))
+  pub returned : run k (leftByAll calls (start p)) .made ≡ markedIn (map roundStretch (run k (leftByAll calls (start p)) .rounds))
+
+abbrev pub RunsCount : Problem → Type 0
+RunsCount p = (calls : List Call) (k : ℕ) → RunCounts p calls k
+
+-- Delivering a run's tries one by one from the network that it was given leaves the network that it returns, and refuses exactly the tries that
+-- it saw refused. Of every network, in shape or not.
+pub record Replays (k : ℕ) (w : Network) : Type 0 where
+  pub leaves : replay (triesOf (run k w .rounds)) w ≡ run k w .network
+  pub refuses : answers (triesOf (run k w .rounds)) w ≡ answersOf (run k w .rounds)
+
+abbrev pub Replay : Type 0
+Replay = (k : ℕ) (w : Network) → Replays k w
+
+-- ---- for which problems
+
+abbrev pub EveryProblem : (Problem → Type 0) → Type 0
+EveryProblem C = (p : Problem) → inRange p ≡ true → C p
+
+abbrev pub EverySheet : (Problem → Type 0) → Type 0
+EverySheet C = (sheet : List ℕ) (p : Problem) → decode sheet ≡ Valid p → C p

@@ -1,0 +1,7 @@
+pub mod Network
+pub mod Shape
+pub mod Delivery
+pub mod Run
+pub mod Calls
+pub mod Claims
+pub mod Nights

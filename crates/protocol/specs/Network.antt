@@ -1,0 +1,91 @@
+-- The network (rail): the problem, the agents, and the channels (lines) between them; and the start. Document 01, 'The rail', 'Start'.
+use Prim.Native.Nat.{ℕ, zero, suc}
+use mathlib.Core.Bool.{Bool, true, false, not, _||_}
+use mathlib.Core.Option.{Option, none, some}
+use mathlib.Core.List.{List, [], _∷_, _++_}
+use lib.Dec.{eqb}
+use Rattle.base.specs.Finite.{at, within, allTo}
+use Rattle.problem.specs.Problem.{Problem, domain, banned, linked, emptyProblem}
+use Rattle.problem.specs.Sheet.{SheetFault, faultNumber, Decoded, Valid, Invalid, decode}
+use Rattle.agent_rules.specs.Message.{Message, Post, sentTo}
+use Rattle.agent_rules.specs.Agent.{Self, Bans, Agent, Step, noAgent}
+use Rattle.agent_rules.specs.Receiving.{receive, begin}
+
+-- Two networks are the same when they are equal: the record holds what document 01 says that two rails must agree in, and nothing else.
+pub record Network : Type 0 where
+  pub problem : Problem                        -- n, slot counts and bans
+  pub verdict : Bool                           -- the verdict "none" stands
+  pub agents : ℕ → Agent                       -- by number
+  pub channel : ℕ → ℕ → List Message           -- by sender and receiver: the messages waiting, first in first out
+
+-- "empty rail (n = 0, all else zero)"
+unfoldable pub emptyNetwork : Network
+emptyNetwork = record { problem = emptyProblem; verdict = false; agents = λ i. noAgent; channel = λ i j. [] }
+
+-- ---- what an agent has of the problem
+
+unfoldable pub selfOf : Problem → ℕ → Self
+selfOf p i = record { number = i; domain = domain p i }
+
+unfoldable pub bansOf : Problem → ℕ → Bans
+bansOf p i k v w = banned p k i v w
+
+-- ---- an agent's step, put into the network
+
+-- what agent j sends goes to the ends of its channels
+unfoldable pub posted : ℕ → List Post → (ℕ → ℕ → List Message) → ℕ → ℕ → List Message
+posted j posts channel x y = elim (eqb x j) [ true ↦ channel x y ++ sentTo y posts | false ↦ channel x y ]
+
+unfoldable pub withStep : Network → ℕ → Step → Network
+withStep w j t =
+    record {
+      problem = w .problem;
+      verdict = w .verdict || t .verdict;
+      agents = at (w .agents) j (t .agent);
+      channel = posted j (t .sent) (w .channel) }
+
+-- the channel from i to j with these messages left on it
+unfoldable pub withChannel : Network → ℕ → ℕ → List Message → Network
+withChannel w i j left =
+    record {
+      problem = w .problem; verdict = w .verdict; agents = w .agents; channel = at (w .channel) i (at (w .channel i) j left) }
+
+-- agent j's step on the message m from i
+unfoldable pub stepOn : Network → ℕ → ℕ → Message → Step
+stepOn w i j m = receive (selfOf (w .problem) j) (bansOf (w .problem) j) (w .agents j) i m
+
+-- m taken off the channel from i to j, which is left with the others, and handed to j
+unfoldable pub handed : Network → ℕ → ℕ → Message → List Message → Network
+handed w i j m others = withStep (withChannel w i j others) j (stepOn w i j m)
+
+-- ---- the start
+
+-- agent i's first step: linked agents above are listened to, linked agents below informed
+unfoldable pub begun : Problem → ℕ → Step
+begun p i = begin (selfOf p i) (bansOf p i) (λ k. linked p k i) (λ k. linked p i k)
+
+unfoldable pub startAgent : Problem → ℕ → Agent
+startAgent p i = elim (within (p .count) i) [ true ↦ begun p i .agent | false ↦ noAgent ]
+
+unfoldable pub startChannel : Problem → ℕ → ℕ → List Message
+startChannel p i j = elim (within (p .count) i) [ true ↦ sentTo j (begun p i .sent) | false ↦ [] ]
+
+unfoldable pub start : Problem → Network
+start p =
+    record {
+      problem = p;
+      verdict = not (allTo (p .count) (λ i. not (begun p i .verdict)));
+      agents = startAgent p;
+      channel = startChannel p }
+
+-- the start for a sheet, and the number that it answers
+pub record Started : Type 0 where
+  pub number : ℕ
+  pub network : Network
+
+unfoldable pub startedOn : Decoded → Started
+startedOn (Valid p) = record { number = 0; network = start p }
+startedOn (Invalid f) = record { number = faultNumber f; network = emptyNetwork }
+
+unfoldable pub startSheet : List ℕ → Started
+startSheet sheet = startedOn (decode sheet)

@@ -1,0 +1,186 @@
+-- The worked nights of document 01 that are marked P, and two more: scripts of calls and of what must be seen between them.
+use Prim.Native.Nat.{ℕ, zero, suc, _+_, _*_, _/_, _%_}
+use mathlib.Core.Path.{_≡_}
+use mathlib.Core.Bool.{Bool, true, false, not, _&&_, _||_}
+use mathlib.Core.List.{List, [], _∷_, _++_}
+use lib.ListN.{length, getD, replicate}
+use lib.Dec.{eqb, ltb}
+use Rattle.base.specs.Finite.{fromOne, allTo}
+use Rattle.problem.specs.Problem.{maxAgents}
+use Rattle.agent_rules.specs.Message.{Assignment, Message, Info, Back, AddLink}
+use Rattle.protocol.specs.Network.{Network, Started, startSheet}
+use Rattle.protocol.specs.Delivery.{answerNumber, deliver, askValue}
+use Rattle.protocol.specs.Run.{Ending, None, Plan, Jammed, Faulty, Open, Broken, endingWord, Ran, run}
+
+-- ---- sheets, as bytes
+
+-- a ban: lower agent, higher agent, value of the lower, value of the higher
+pub record Ban : Type 0 where
+  pub lower : ℕ
+  pub higher : ℕ
+  pub lowerValue : ℕ
+  pub higherValue : ℕ
+
+abbrev pub ban : ℕ → ℕ → ℕ → ℕ → Ban
+ban i v j w = record { lower = i; higher = j; lowerValue = v; higherValue = w }
+
+-- two bytes, low byte first
+unfoldable pub twoBytes : ℕ → List ℕ
+twoBytes k = k % 256 ∷ k / 256 ∷ []
+
+-- the index of the next record, zero behind the last
+unfoldable pub nextIndex : ℕ → List Ban → ℕ
+nextIndex r [] = 0
+nextIndex r (b ∷ bs) = suc r
+
+-- records chained in their order, from record r on
+unfoldable pub records : ℕ → List Ban → List ℕ
+records r [] = []
+records r (b ∷ bs) =
+    (b .lower ∷ b .higher ∷ b .lowerValue ∷ b .higherValue ∷ []) ++ twoBytes (nextIndex r bs) ++ (0 ∷ 0 ∷ []) ++ records (suc r) bs
+
+unfoldable pub padded : ℕ → List ℕ → List ℕ
+padded zero l = []
+padded (suc m) [] = 0 ∷ padded m []
+padded (suc m) (x ∷ l) = x ∷ padded m l
+
+-- the sheet with these slot counts and bans
+unfoldable pub sheet : List ℕ → List Ban → List ℕ
+sheet domains bans =
+    (length domains ∷ 1 ∷ []) ++ twoBytes (nextIndex 0 bans) ++ twoBytes (length bans) ++ (0 ∷ 0 ∷ [])
+      ++ padded 12 domains ++ (0 ∷ 0 ∷ 0 ∷ 0 ∷ []) ++ records 1 bans
+
+-- ---- messages, compared
+
+-- the partial assignment with these values for agents 1, 2, ..
+unfoldable pub values : List ℕ → Assignment
+values l = fromOne 0 (λ k. getD l k 0)
+
+unfoldable pub sameMessage : Message → Message → Bool
+sameMessage (Info v) (Info w) = eqb v w
+sameMessage (Info v) (Back l w) = false
+sameMessage (Info v) AddLink = false
+sameMessage (Back k v) (Info w) = false
+sameMessage (Back k v) (Back l w) = allTo maxAgents (λ i. eqb (k i) (l i)) && eqb v w
+sameMessage (Back k v) AddLink = false
+sameMessage AddLink (Info w) = false
+sameMessage AddLink (Back l w) = false
+sameMessage AddLink AddLink = true
+
+unfoldable pub sameMessages : List Message → List Message → Bool
+sameMessages [] [] = true
+sameMessages [] (n ∷ ns) = false
+sameMessages (m ∷ ms) [] = false
+sameMessages (m ∷ ms) (n ∷ ns) = sameMessage m n && sameMessages ms ns
+
+unfoldable pub sameNumbers : List ℕ → List ℕ → Bool
+sameNumbers [] [] = true
+sameNumbers [] (y ∷ ys) = false
+sameNumbers (x ∷ xs) [] = false
+sameNumbers (x ∷ xs) (y ∷ ys) = eqb x y && sameNumbers xs ys
+
+-- ---- scripts
+
+pub data Scene : Type 0 where
+  Runs : ℕ → Ending → ℕ → Scene               -- a run with so many rounds allowed: its word, its full rounds
+  Delivers : ℕ → ℕ → ℕ → Scene                -- a delivery on a line: its number
+  Waiting : ℕ → ℕ → List Message → Scene      -- a line holds exactly these, head first
+  Values : List ℕ → Scene                     -- asked, agents 1, 2, .. give these values, and number 0
+
+unfoldable pub asked : ℕ → List ℕ → Network → Bool
+asked i [] w = true
+asked i (v ∷ vs) w = eqb (answerNumber (askValue w i .answer)) 0 && eqb (askValue w i .value) v && asked (suc i) vs w
+
+unfoldable pub ranAs : Ending → ℕ → Ran → Bool
+ranAs e made r = sameNumbers (endingWord (r .ending)) (endingWord e) && eqb (r .made) made
+
+-- a script holds from a network on
+unfoldable pub holdsFrom : List Scene → Network → Bool
+holdsFrom [] w = true
+holdsFrom (Runs k e made ∷ cs) w = let r = run k w in ranAs e made r && holdsFrom cs (r .network)
+holdsFrom (Delivers i j number ∷ cs) w =
+    let d = deliver w i j in eqb (answerNumber (d .answer)) number && holdsFrom cs (d .network)
+holdsFrom (Waiting i j ms ∷ cs) w = sameMessages (w .channel i j) ms && holdsFrom cs w
+holdsFrom (Values vs ∷ cs) w = asked 1 vs w && holdsFrom cs w
+
+-- ---- nights
+
+pub data Night : Type 0 where
+  Played : List ℕ → List Scene → Night        -- the start for this sheet gives 0, and the script holds from there
+  SameStart : List ℕ → List ℕ → Night         -- the starts for two sheets are the same
+
+abbrev pub NightHolds : Night → Type 0
+NightHolds (Played s script) = (eqb (startSheet s .number) 0 && holdsFrom script (startSheet s .network)) ≡ true
+NightHolds (SameStart s t) = startSheet s ≡ startSheet t
+
+abbrev pub AllHold : List Night → Type 0
+AllHold [] = Unit {0}
+AllHold (c ∷ cs) = NightHolds c × AllHold cs
+
+unfoldable pub sheet1 : List ℕ
+sheet1 = sheet (1 ∷ []) []
+
+unfoldable pub sheet2 : List ℕ
+sheet2 = sheet (1 ∷ 1 ∷ []) (ban 1 1 2 1 ∷ [])
+
+unfoldable pub sheet3 : List ℕ
+sheet3 = sheet (2 ∷ 2 ∷ []) (ban 1 1 2 1 ∷ [])
+
+unfoldable pub sheet4 : List ℕ
+sheet4 = sheet (2 ∷ 2 ∷ []) (ban 1 1 2 1 ∷ ban 1 1 2 1 ∷ [])
+
+unfoldable pub sheet5 : List ℕ
+sheet5 = sheet (2 ∷ 1 ∷ []) (ban 1 1 2 1 ∷ [])
+
+-- as document 01 prints it
+unfoldable pub sheet9 : List ℕ
+sheet9 =
+    0x03 ∷ 0x01 ∷ 0x01 ∷ 0x00 ∷ 0x02 ∷ 0x00 ∷ 0x00 ∷ 0x00 ∷ 0x02 ∷ 0x01 ∷ 0x02 ∷ 0x00 ∷ 0x00 ∷ 0x00 ∷ 0x00 ∷ 0x00 ∷ 0x00 ∷ 0x00 ∷ 0x00 ∷ 0x00
+      ∷ 0x00 ∷ 0x00 ∷ 0x00 ∷ 0x00
+      ∷ 0x01 ∷ 0x03 ∷ 0x01 ∷ 0x01 ∷ 0x02 ∷ 0x00 ∷ 0x00 ∷ 0x00
+      ∷ 0x02 ∷ 0x03 ∷ 0x01 ∷ 0x02 ∷ 0x00 ∷ 0x00 ∷ 0x00 ∷ 0x00
+      ∷ []
+
+-- "the highest-numbered blamed" would end in 3 rounds
+unfoldable pub sheetBlame : List ℕ
+sheetBlame = sheet (2 ∷ 1 ∷ 2 ∷ []) (ban 1 1 2 1 ∷ ban 1 2 3 1 ∷ ban 1 2 3 2 ∷ ban 2 1 3 2 ∷ [])
+
+-- "unknown counts as matching" would end in 3 rounds
+unfoldable pub sheetUnknown : List ℕ
+sheetUnknown =
+    sheet (2 ∷ 2 ∷ 2 ∷ [])
+      (ban 1 1 2 1 ∷ ban 1 1 2 2 ∷ ban 1 2 2 1 ∷ ban 1 1 3 2 ∷ ban 2 1 3 1 ∷ ban 2 2 3 2 ∷ [])
+
+unfoldable pub empty : Assignment
+empty = values []
+
+unfoldable pub nights : List Night
+nights =
+    -- P1
+    Played sheet1 (Runs 100000 Plan 0 ∷ Values (1 ∷ []) ∷ [])
+    -- P2; P7, after its verdict
+    ∷ Played sheet2 (Runs 100000 None 2 ∷ Delivers 1 2 7 ∷ [])
+    -- P3; P8's second half, at rest
+    ∷ Played sheet3 (Runs 100000 Plan 1 ∷ Values (1 ∷ 2 ∷ []) ∷ Delivers 1 2 8 ∷ [])
+    -- P4
+    ∷ SameStart sheet4 sheet3
+    -- P5
+    ∷ Played sheet5 (Runs 100000 Plan 3 ∷ Values (2 ∷ 1 ∷ []) ∷ [])
+    -- P6
+    ∷ Played sheet2 (Runs 0 Open 0 ∷ [])
+    -- P8's first half
+    ∷ Played sheet1 (Delivers 1 1 6 ∷ [])
+    -- P9
+    ∷ Played sheet9 (Runs 100000 Plan 5 ∷ Values (2 ∷ 1 ∷ 1 ∷ []) ∷ [])
+    -- P9, round by round: agent 2 sends to 3 at the start and in rounds 2 and 4 only, and asks agent 1 for a link before it refuses its value
+    ∷ Played sheet9 (
+        Waiting 2 3 (Info 1 ∷ [])
+        ∷ Runs 1 Open 1 ∷ Waiting 2 3 []
+        ∷ Runs 1 Open 1 ∷ Waiting 2 1 (AddLink ∷ Back empty 1 ∷ []) ∷ Waiting 2 3 (Info 1 ∷ [])
+        ∷ Runs 1 Open 1 ∷ Waiting 2 3 []
+        ∷ Runs 1 Open 1 ∷ Waiting 2 3 (Info 1 ∷ [])
+        ∷ Runs 1 Plan 1 ∷ Waiting 2 3 []
+        ∷ Values (2 ∷ 1 ∷ 1 ∷ []) ∷ [])
+    ∷ Played sheetBlame (Runs 100000 None 4 ∷ [])
+    ∷ Played sheetUnknown (Runs 100000 Plan 4 ∷ Values (2 ∷ 2 ∷ 1 ∷ []) ∷ [])
+    ∷ []

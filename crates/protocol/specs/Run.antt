@@ -1,0 +1,179 @@
+-- Rounds and the run. Document 01, 'Rounds and the run', first paragraph.
+use Prim.Native.Nat.{ℕ, zero, suc, _+_}
+use mathlib.Core.Bool.{Bool, true, false, not, _&&_, _||_}
+use mathlib.Core.Option.{Option, none, some}
+use mathlib.Core.List.{List, [], _∷_, _++_}
+use lib.ListN.{length, replicate}
+use lib.Dec.{eqb, leb}
+use Rattle.base.specs.Finite.{allTo, isSome, gather}
+use Rattle.agent_rules.specs.Message.{Message}
+use Rattle.protocol.specs.Network.{Network}
+use Rattle.protocol.specs.Shape.{inShape}
+use Rattle.protocol.specs.Delivery.{
+  Rejection, BadShape, BadNumbers, VerdictStands, EmptyChannel, AlreadyInformed, NoRoom, rejectionNumber, Answer, Accepted, Rejected, Delivery, deliver,
+}
+
+-- a channel (line), by its ends
+pub record Line : Type 0 where
+  pub from : ℕ
+  pub to : ℕ
+
+-- a delivery tried on a line, and what it was answered
+pub record Try : Type 0 where
+  pub line : Line
+  pub answer : Answer
+
+-- ---- what waits
+
+unfoldable pub isEmpty : List Message → Bool
+isEmpty [] = true
+isEmpty (m ∷ ms) = false
+
+-- nothing waits
+unfoldable pub idle : Network → Bool
+idle w = allTo (w .problem .count) (λ i. allTo (w .problem .count) (λ j. isEmpty (w .channel i j)))
+
+-- "it visits lines by sender, then receiver, upward, and delivers as many messages as the line held when the round began": the lines,
+-- each as often as it holds a message
+unfoldable pub visits : Network → List Line
+visits w =
+    gather (w .problem .count) 1 (λ i. gather (w .problem .count) 1 (λ j.
+      replicate (length (w .channel i j)) (record { from = i; to = j })))
+
+-- ---- one round
+
+-- a round on its way
+pub record Sweep : Type 0 where
+  pub network : Network
+  pub delivered : ℕ                 -- accepted deliveries
+  pub fault : Option Rejection      -- the rejection that stops the run
+  pub tried : List Try              -- in order
+
+unfoldable pub beginRound : Network → Sweep
+beginRound w = record { network = w; delivered = 0; fault = none; tried = [] }
+
+-- "It stops at a verdict, .. at the first refusal"
+unfoldable pub stopped : Sweep → Bool
+stopped s = s .network .verdict || isSome (s .fault)
+
+unfoldable pub faultOf : Answer → Option Rejection
+faultOf Accepted = none
+faultOf (Rejected r) = some r
+
+unfoldable pub counts : Answer → ℕ
+counts Accepted = 1
+counts (Rejected r) = 0
+
+-- the round with one more delivery tried
+unfoldable pub tally : Sweep → Line → Delivery → Sweep
+tally s l d =
+    record {
+      network = d .network;
+      delivered = s .delivered + counts (d .answer);
+      fault = faultOf (d .answer);
+      tried = s .tried ++ (record { line = l; answer = d .answer } ∷ []) }
+
+unfoldable pub attempt : Sweep → Line → Sweep
+attempt s l = elim (stopped s) [ true ↦ s | false ↦ tally s l (deliver (s .network) (l .from) (l .to)) ]
+
+unfoldable pub sweep : Sweep → List Line → Sweep
+sweep s [] = s
+sweep s (l ∷ ls) = sweep (attempt s l) ls
+
+unfoldable pub round : Network → Sweep
+round w = sweep (beginRound w) (visits w)
+
+-- "The round in which the run stops counts if all that waited at its start was delivered", as every other round does
+unfoldable pub isFull : Network → Sweep → Bool
+isFull w s = eqb (s .delivered) (length (visits w))
+
+-- ---- the run
+
+-- how a run ends: one of five words, or rejected
+pub data Ending : Type 0 where
+  None : Ending        -- "`none` for the verdict"
+  Plan : Ending        -- "`plan` for nothing waiting"
+  Jammed : Ending      -- "`jammed` after a 10"
+  Faulty : Ending      -- "`faulty` after a 9"
+  Open : Ending        -- "else `open`"
+  Broken : Ending      -- "The run refuses only with 5"
+
+-- the number that the run answers
+unfoldable pub endingNumber : Ending → ℕ
+endingNumber None = 0
+endingNumber Plan = 0
+endingNumber Jammed = 0
+endingNumber Faulty = 0
+endingNumber Open = 0
+endingNumber Broken = rejectionNumber BadShape
+
+-- the word, in ASCII; no word where the run is rejected
+unfoldable pub endingWord : Ending → List ℕ
+endingWord None = 110 ∷ 111 ∷ 110 ∷ 101 ∷ []
+endingWord Plan = 112 ∷ 108 ∷ 97 ∷ 110 ∷ []
+endingWord Jammed = 106 ∷ 97 ∷ 109 ∷ 109 ∷ 101 ∷ 100 ∷ []
+endingWord Faulty = 102 ∷ 97 ∷ 117 ∷ 108 ∷ 116 ∷ 121 ∷ []
+endingWord Open = 111 ∷ 112 ∷ 101 ∷ 110 ∷ []
+endingWord Broken = []
+
+-- a round that the run made: what it tried, and whether it counts
+pub record Round : Type 0 where
+  pub tried : List Try
+  pub full : Bool
+
+pub record Ran : Type 0 where
+  pub network : Network
+  pub made : ℕ               -- full rounds made
+  pub ending : Ending
+  pub rounds : List Round    -- every round, in order
+
+unfoldable pub faultEnding : Rejection → Ending
+faultEnding BadShape = Open
+faultEnding BadNumbers = Open
+faultEnding VerdictStands = Open
+faultEnding EmptyChannel = Open
+faultEnding AlreadyInformed = Faulty
+faultEnding NoRoom = Jammed
+
+unfoldable pub endingFor : Option Rejection → Ending
+endingFor none = Open
+endingFor (some r) = faultEnding r
+
+-- the verdict comes first, then nothing waiting
+unfoldable pub endingAt : Network → Option Rejection → Ending
+endingAt w f = elim (w .verdict) [ true ↦ None | false ↦ elim (idle w) [ true ↦ Plan | false ↦ endingFor f ] ]
+
+unfoldable pub finish : Network → ℕ → List Round → Option Rejection → Ran
+finish w made rounds f = record { network = w; made = made; ending = endingAt w f; rounds = rounds }
+
+unfoldable pub oneIf : Bool → ℕ
+oneIf true = 1
+oneIf false = 0
+
+-- Two figures: the rounds left that the run may use, and the full rounds made.
+unfoldable pub runFrom : ℕ → ℕ → List Round → Network → Ran
+runFrom zero made rounds w = finish w made rounds none
+runFrom (suc left) made rounds w =
+    elim (w .verdict || idle w)
+      [ true ↦ finish w made rounds none
+      | false ↦
+        let s = round w in
+        let made′ = made + oneIf (isFull w s) in
+        let rounds′ = rounds ++ (record { tried = s .tried; full = isFull w s } ∷ []) in
+        elim (isSome (s .fault))
+          [ true ↦ finish (s .network) made′ rounds′ (s .fault)
+          | false ↦ runFrom left made′ rounds′ (s .network) ] ]
+
+-- "0 to 1,000,000; more is taken as 1,000,000"
+unfoldable pub maxRounds : ℕ
+maxRounds = 1000000
+
+unfoldable pub allowed : ℕ → ℕ
+allowed k = elim (leb k maxRounds) [ true ↦ k | false ↦ maxRounds ]
+
+-- "The run refuses only with 5, zero rounds and that number in place of the word; on a rail with a verdict it returns `none`, zero rounds."
+unfoldable pub run : ℕ → Network → Ran
+run k w =
+    elim (inShape w)
+      [ true ↦ runFrom (allowed k) 0 [] w
+      | false ↦ record { network = w; made = 0; ending = Broken; rounds = [] } ]
