@@ -21,17 +21,17 @@ abbrev pub Nogoods : Type 0
 Nogoods = ℕ → Option Assignment
 
 pub record Agent : Type 0 where
-  pub value : ℕ              -- "its slot", 0 where it has none
-  pub listens : ℕ → Bool     -- "the scanners above it that it listens to"
-  pub informs : ℕ → Bool     -- "those below it that it informs"
-  pub view : Assignment      -- "a slot or unknown for each it listens to"
+  pub value : ℕ  -- "its slot", 0 where it has none
+  pub listens : ℕ → Bool  -- "the scanners above it that it listens to"
+  pub informs : ℕ → Bool  -- "those below it that it informs"
+  pub view : Assignment  -- "a slot or unknown for each it listens to"
   pub nogoods : Nogoods
 
 -- "handed back changed, with what it sends"
 pub record Step : Type 0 where
   pub agent : Agent
-  pub sent : List Post       -- in the order of sending
-  pub verdict : Bool         -- the verdict "none" fell
+  pub sent : List Post  -- in the order of sending
+  pub verdict : Bool  -- the verdict "none" fell
 
 unfoldable pub noNogoods : Nogoods
 noNogoods v = none

@@ -38,16 +38,17 @@ reason s bans view nogoods v = reasonOf (nogoods v) (blaming view (blame s bans 
 -- ---- choosing
 
 pub record Choice : Type 0 where
-  pub value : Option ℕ       -- the value taken, if one is free
-  pub nogoods : Nogoods      -- the reasons, with those given on the way
+  pub value : Option ℕ  -- the value taken, if one is free
+  pub nogoods : Nogoods  -- the reasons, with those given on the way
 
 -- "Go through own slots upward": m of them from v on. "The lowest slot still free is taken, those above it are not tried and get no reason."
 unfoldable pub choose : ℕ → ℕ → Self → Bans → Assignment → Nogoods → Choice
 choose zero v s bans view nogoods = record { value = none; nogoods = nogoods }
 choose (suc m) v s bans view nogoods =
-    elim (reason s bans view nogoods v)
-      [ none ↦ record { value = some v; nogoods = nogoods }
-      | some lhs ↦ choose m (suc v) s bans view (at nogoods v (some lhs)) ]
+    elim (reason s bans view nogoods v) [
+      | none ↦ record { value = some v; nogoods = nogoods }
+      | some lhs ↦ choose m (suc v) s bans view (at nogoods v (some lhs))
+    ]
 
 unfoldable pub choice : Self → Bans → Agent → Choice
 choice s bans a = choose (s .domain) 1 s bans (a .view) (a .nogoods)
@@ -107,7 +108,8 @@ forget k a nogoods =
       listens = a .listens;
       informs = a .informs;
       view = at (a .view) k 0;
-      nogoods = λ v. without k (nogoods v) }
+      nogoods = λ v. without k (nogoods v);
+    }
 
 -- what is sent before the rest of the step
 unfoldable pub after : List Post → Step → Step
@@ -118,12 +120,14 @@ after posts t = record { agent = t .agent; sent = posts ++ t .sent; verdict = t 
 unfoldable pub settle : ℕ → Self → Bans → Agent → Step
 settle zero s bans a = failed a (choice s bans a .nogoods)
 settle (suc times) s bans a =
-    elim (choice s bans a .value)
-      [ some v ↦ took s a v (choice s bans a .nogoods)
-      | none ↦ elim (highest (above s) (λ k. known (union (s .domain) (choice s bans a .nogoods) k)))
-        [ none ↦ failed a (choice s bans a .nogoods)
+    elim (choice s bans a .value) [
+      | some v ↦ took s a v (choice s bans a .nogoods)
+      | none ↦ elim (highest (above s) (λ k. known (union (s .domain) (choice s bans a .nogoods) k))) [
+        | none ↦ failed a (choice s bans a .nogoods)
         | some k ↦ after (refusing k (union (s .domain) (choice s bans a .nogoods)) ∷ [])
-            (settle times s bans (forget k a (choice s bans a .nogoods))) ] ]
+            (settle times s bans (forget k a (choice s bans a .nogoods)))
+      ]
+    ]
 
 unfoldable pub checkView : Self → Bans → Agent → Step
 checkView s bans a = settle (s .number) s bans a

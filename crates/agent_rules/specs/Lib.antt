@@ -2,3 +2,4 @@ pub mod Message
 pub mod Agent
 pub mod Choosing
 pub mod Receiving
+pub mod Shape

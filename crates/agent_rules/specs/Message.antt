@@ -15,9 +15,9 @@ unfoldable pub nobody : Assignment
 nobody k = 0
 
 pub data Message : Type 0 where
-  Info : ℕ → Message                    -- news: "the sender's slot"
-  Back : Assignment → ℕ → Message       -- refusal: the left side, "and one slot the receiver must not take"
-  AddLink : Message                     -- link request
+  Info : ℕ → Message  -- news: "the sender's slot"
+  Back : Assignment → ℕ → Message  -- refusal: the left side, "and one slot the receiver must not take"
+  AddLink : Message  -- link request
 
 -- a message on its way
 pub record Post : Type 0 where

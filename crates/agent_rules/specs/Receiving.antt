@@ -37,7 +37,8 @@ updated s a from v =
       listens = a .listens;
       informs = a .informs;
       view = at (a .view) from v;
-      nogoods = λ w. agreeing s (at (a .view) from v) (a .nogoods w) }
+      nogoods = λ w. agreeing s (at (a .view) from v) (a .nogoods w);
+    }
 
 -- the own value is banned against a known value of the view
 unfoldable pub conflicts : Self → Bans → Assignment → ℕ → Bool
@@ -47,7 +48,7 @@ conflicts s bans view v = isSome (blame s bans view v)
 unfoldable pub onInfo : Self → Bans → Agent → ℕ → ℕ → Step
 onInfo s bans a from v =
     elim (conflicts s bans (at (a .view) from v) (a .value))
-      [ true ↦ checkView s bans (updated s a from v) | false ↦ quiet (updated s a from v) [] ]
+    [ true ↦ checkView s bans (updated s a from v) | false ↦ quiet (updated s a from v) [] ]
 
 -- ---- Refusal
 
@@ -78,7 +79,8 @@ accepting a lhs v =
       listens = λ k. a .listens k || known (lhs k);
       informs = a .informs;
       view = λ k. cond (unheard a lhs k) (lhs k) (a .view k);
-      nogoods = at (a .nogoods) v (some lhs) }
+      nogoods = at (a .nogoods) v (some lhs);
+    }
 
 -- "If it does not hold: where the refused slot is the own slot, send news to the sender; otherwise nothing."
 unfoldable pub outdated : Agent → ℕ → ℕ → Step
@@ -87,7 +89,7 @@ outdated a from v = quiet a (elim (eqb v (a .value)) [ true ↦ answer a from | 
 unfoldable pub onBack : Self → Bans → Agent → ℕ → Assignment → ℕ → Step
 onBack s bans a from lhs v =
     elim (holds s a lhs v)
-      [ true ↦ after (addLinks s a lhs) (checkView s bans (accepting a lhs v)) | false ↦ outdated a from v ]
+    [ true ↦ after (addLinks s a lhs) (checkView s bans (accepting a lhs v)) | false ↦ outdated a from v ]
 
 -- ---- Link request: "Inform the sender from now on and send it news."
 
@@ -98,7 +100,8 @@ informing a from =
       listens = a .listens;
       informs = at (a .informs) from true;
       view = a .view;
-      nogoods = a .nogoods }
+      nogoods = a .nogoods;
+    }
 
 unfoldable pub onAddLink : Agent → ℕ → Step
 onAddLink a from = quiet (informing a from) (answer a from)

@@ -22,9 +22,9 @@ unfoldable pub maxPairs : ℕ
 maxPairs = 66
 
 pub record Problem : Type 0 where
-  pub count : ℕ            -- n
-  pub domains : List ℕ     -- twelve slot counts, zero beyond n
-  pub bans : List ℕ        -- the ban table: 66 words of 64 bits
+  pub count : ℕ  -- n
+  pub domains : List ℕ  -- twelve slot counts, zero beyond n
+  pub bans : List ℕ  -- the ban table: 66 words of 64 bits
 
 -- the slot count of agent i
 unfoldable pub domain : Problem → ℕ → ℕ
@@ -83,7 +83,7 @@ domainInRange p i = elim (leb i (p .count)) [ true ↦ within maxDomain (domain 
 unfoldable pub wordOwned : ℕ → ℕ → ℕ → Bool
 wordOwned d e word =
     ltb word (2 ^ 64)
-      && allTo maxDomain (λ v. allTo maxDomain (λ w. not (bit word (bitAt v w)) || (within d v && within e w)))
+    && allTo maxDomain (λ v. allTo maxDomain (λ w. not (bit word (bitAt v w)) || (within d v && within e w)))
 
 unfoldable pub bansOwned : Problem → Bool
 bansOwned p =

@@ -9,10 +9,10 @@ use Rattle.problem.specs.Problem.{Problem, maxAgents, maxDomain, domain,
 
 -- why a sheet is rejected
 pub data SheetFault : Type 0 where
-  BadLength : SheetFault   -- "length under 24, or not 24 + 8m"
-  BadHeader : SheetFault   -- "a header byte outside its range, or first index above m"
-  BadRecord : SheetFault   -- "a chain record: scanners not .., a slot not owned, next above m, last bytes not zero"
-  Cycle : SheetFault       -- "the chain comes back to a record"
+  BadLength : SheetFault  -- "length under 24, or not 24 + 8m"
+  BadHeader : SheetFault  -- "a header byte outside its range, or first index above m"
+  BadRecord : SheetFault  -- "a chain record: scanners not .., a slot not owned, next above m, last bytes not zero"
+  Cycle : SheetFault  -- "the chain comes back to a record"
 
 -- the table's number
 unfoldable pub faultNumber : SheetFault → ℕ
@@ -65,18 +65,18 @@ withoutBans s = record { count = agentsIn s; domains = domainsIn s; bans = noBan
 unfoldable pub domainGood : List ℕ → ℕ → Bool
 domainGood s i =
     elim (leb i (agentsIn s))
-      [ true ↦ within maxDomain (domain (withoutBans s) i) | false ↦ eqb (domain (withoutBans s) i) 0 ]
+    [ true ↦ within maxDomain (domain (withoutBans s) i) | false ↦ eqb (domain (withoutBans s) i) 0 ]
 
 unfoldable pub headerGood : List ℕ → Bool
 headerGood s =
     within maxAgents (agentsIn s)
-      && eqb (byteAt s 1) 1
-      && leb (recordsIn s) maxRecords
-      && eqb (wordFrom s 6) 0
-      && allTo maxAgents (domainGood s)
-      && eqb (wordFrom s 20) 0
-      && eqb (wordFrom s 22) 0
-      && leb (firstIn s) (recordsIn s)
+    && eqb (byteAt s 1) 1
+    && leb (recordsIn s) maxRecords
+    && eqb (wordFrom s 6) 0
+    && allTo maxAgents (domainGood s)
+    && eqb (wordFrom s 20) 0
+    && eqb (wordFrom s 22) 0
+    && leb (firstIn s) (recordsIn s)
 
 -- ---- the records, numbered from 1
 
@@ -101,12 +101,12 @@ nextOf s r = wordFrom s (recordStart r + 4)
 unfoldable pub recordGood : List ℕ → ℕ → Bool
 recordGood s r =
     ltb 0 (lowerOf s r)
-      && ltb (lowerOf s r) (higherOf s r)
-      && leb (higherOf s r) (agentsIn s)
-      && within (domain (withoutBans s) (lowerOf s r)) (lowerValueOf s r)
-      && within (domain (withoutBans s) (higherOf s r)) (higherValueOf s r)
-      && leb (nextOf s r) (recordsIn s)
-      && eqb (wordFrom s (recordStart r + 6)) 0
+    && ltb (lowerOf s r) (higherOf s r)
+    && leb (higherOf s r) (agentsIn s)
+    && within (domain (withoutBans s) (lowerOf s r)) (lowerValueOf s r)
+    && within (domain (withoutBans s) (higherOf s r)) (higherValueOf s r)
+    && leb (nextOf s r) (recordsIn s)
+    && eqb (wordFrom s (recordStart r + 6)) 0
 
 -- the table with the ban of record r
 unfoldable pub withRecord : List ℕ → ℕ → List ℕ → List ℕ
@@ -119,21 +119,27 @@ withRecord s r t = withBan t (lowerOf s r) (higherOf s r) (lowerValueOf s r) (hi
 unfoldable pub walk : ℕ → List ℕ → ℕ → (ℕ → Bool) → List ℕ → Decoded
 walk zero s r met t = Invalid Cycle
 walk (suc steps) s r met t =
-    elim (eqb r 0)
-      [ true ↦ Valid (record { count = agentsIn s; domains = domainsIn s; bans = t })
-      | false ↦ elim (met r)
-        [ true ↦ Invalid Cycle
-        | false ↦ elim (recordGood s r)
-          [ true ↦ walk steps s (nextOf s r) (at met r true) (withRecord s r t)
-          | false ↦ Invalid BadRecord ] ] ]
+    elim (eqb r 0) [
+      | true ↦ Valid (record { count = agentsIn s; domains = domainsIn s; bans = t })
+      | false ↦ elim (met r) [
+        | true ↦ Invalid Cycle
+        | false ↦ elim (recordGood s r) [
+          | true ↦ walk steps s (nextOf s r) (at met r true) (withRecord s r t)
+          | false ↦ Invalid BadRecord
+        ]
+      ]
+    ]
 
 -- "Checks: length under 24; header; total length; then the walk. First fault decides."
 unfoldable pub decode : List ℕ → Decoded
 decode s =
-    elim (ltb (length s) headerLength)
-      [ true ↦ Invalid BadLength
-      | false ↦ elim (headerGood s)
-        [ false ↦ Invalid BadHeader
-        | true ↦ elim (eqb (length s) (headerLength + recordLength * recordsIn s))
-          [ false ↦ Invalid BadLength
-          | true ↦ walk (suc (recordsIn s)) s (firstIn s) (λ r. false) noBans ] ] ]
+    elim (ltb (length s) headerLength) [
+      | true ↦ Invalid BadLength
+      | false ↦ elim (headerGood s) [
+        | false ↦ Invalid BadHeader
+        | true ↦ elim (eqb (length s) (headerLength + recordLength * recordsIn s)) [
+          | false ↦ Invalid BadLength
+          | true ↦ walk (suc (recordsIn s)) s (firstIn s) (λ r. false) noBans
+        ]
+      ]
+    ]

@@ -15,8 +15,8 @@ use Rattle.protocol.specs.Run.{Line, Try, Round, Ran, counts, oneIf, run
 -- ---- calls
 
 pub data Call : Type 0 where
-  Deliver : ℕ → ℕ → Call    -- of the line from one agent to another, any two numbers
-  Run : ℕ → Call            -- with a number of rounds that it may use
+  Deliver : ℕ → ℕ → Call  -- of the line from one agent to another, any two numbers
+  Run : ℕ → Call  -- with a number of rounds that it may use
 
 unfoldable pub lineOf : Try → Line
 lineOf t = t .line
@@ -133,8 +133,8 @@ abbrev pub ExactlyFull : Problem → List Line → List Stretch → Type 0
 ExactlyFull p before [] = Unit {0}
 ExactlyFull p before (s ∷ ss) =
     (s .marked ≡ true → FullRound p before (s .lines))
-      × (FullRound p before (s .lines) → s .marked ≡ true)
-      × ExactlyFull p (before ++ s .lines) ss
+    × (FullRound p before (s .lines) → s .marked ≡ true)
+    × ExactlyFull p (before ++ s .lines) ss
 
 -- a run's own rounds: "those in which it visits the lines"
 unfoldable pub roundStretch : Round → Stretch

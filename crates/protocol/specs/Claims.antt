@@ -9,7 +9,20 @@ use Rattle.protocol.specs.Network.{Network, start}
 use Rattle.protocol.specs.Shape.{inShape}
 use Rattle.protocol.specs.Run.{Line, Try, idle, run}
 use Rattle.protocol.specs.Calls.{
-  Call, triesOf, leftByAll, triedByAll, madeByAll, replay, answers, answersOf, Stretch, linesOf, markedIn, AllFull, ExactlyFull, roundStretch,
+  Call,
+  triesOf,
+  leftByAll,
+  triedByAll,
+  madeByAll,
+  replay,
+  answers,
+  answersOf,
+  Stretch,
+  linesOf,
+  markedIn,
+  AllFull,
+  ExactlyFull,
+  roundStretch,
 }
 
 -- 16 × n × (d + 2)^n
@@ -20,7 +33,7 @@ mostRounds p = 16 * p .count * (largestDomain p + 2) ^ p .count
 abbrev pub SoundAtRest : Problem → Type 0
 SoundAtRest p =
     (calls : List Call) → leftByAll calls (start p) .verdict ≡ false → idle (leftByAll calls (start p)) ≡ true
-      → Obeys p (λ i. leftByAll calls (start p) .agents i .value)
+    → Obeys p (λ i. leftByAll calls (start p) .agents i .value)
 
 -- Demand 2: the verdict comes only where no choice of values obeys all bans.
 abbrev pub CompleteVerdict : Problem → Type 0
@@ -34,7 +47,7 @@ StaysInShape p = (calls : List Call) → inShape (leftByAll calls (start p)) ≡
 abbrev pub RoundBound : Problem → Type 0
 RoundBound p =
     (calls : List Call) (marking : List Stretch) → linesOf marking ≡ triedByAll calls (start p) → AllFull p [] marking
-      → markedIn marking ≤ mostRounds p
+    → markedIn marking ≤ mostRounds p
 
 -- Demand 3, of the runs: the full rounds that all runs of a list return, together.
 abbrev pub RunBound : Problem → Type 0

@@ -13,12 +13,12 @@ use Rattle.protocol.specs.Shape.{hasRoom, inShape}
 
 -- why a call is rejected
 pub data Rejection : Type 0 where
-  BadShape : Rejection         -- "the shape below is broken"
-  BadNumbers : Rejection       -- "scanner numbers not 1 to n, or equal"
-  VerdictStands : Rejection    -- "verdict already stands"
-  EmptyChannel : Rejection     -- "that line is empty"
+  BadShape : Rejection  -- "the shape below is broken"
+  BadNumbers : Rejection  -- "scanner numbers not 1 to n, or equal"
+  VerdictStands : Rejection  -- "verdict already stands"
+  EmptyChannel : Rejection  -- "that line is empty"
   AlreadyInformed : Rejection  -- "link request from a scanner already informed"
-  NoRoom : Rejection           -- "no room"
+  NoRoom : Rejection  -- "no room"
 
 -- the table's number
 unfoldable pub rejectionNumber : Rejection → ℕ
@@ -47,7 +47,7 @@ isAccepted (Rejected r) = false
 pub record Delivery : Type 0 where
   pub network : Network
   pub answer : Answer
-  pub sent : List Post       -- by the receiver, in order; nothing where the delivery is rejected
+  pub sent : List Post  -- by the receiver, in order; nothing where the delivery is rejected
 
 -- "The rail given"
 unfoldable pub rejecting : Rejection → Network → Delivery
@@ -71,22 +71,27 @@ fits w = allTo maxAgents (λ i. allTo maxAgents (λ j. hasRoom w i j))
 unfoldable pub deliverHead : Network → ℕ → ℕ → List Message → Delivery
 deliverHead w i j [] = rejecting EmptyChannel w
 deliverHead w i j (m ∷ others) =
-    elim (asksAgain (w .agents j) i m)
-      [ true ↦ rejecting AlreadyInformed w
-      | false ↦ elim (fits (handed w i j m others))
-        [ true ↦ record { network = handed w i j m others; answer = Accepted; sent = stepOn w i j m .sent }
-        | false ↦ rejecting NoRoom w ] ]
+    elim (asksAgain (w .agents j) i m) [
+      | true ↦ rejecting AlreadyInformed w
+      | false ↦ elim (fits (handed w i j m others)) [
+        | true ↦ record { network = handed w i j m others; answer = Accepted; sent = stepOn w i j m .sent }
+        | false ↦ rejecting NoRoom w
+      ]
+    ]
 
 -- "Delivery tests 5 to 10 in that order."
 unfoldable pub deliver : Network → ℕ → ℕ → Delivery
 deliver w i j =
-    elim (inShape w)
-      [ false ↦ rejecting BadShape w
-      | true ↦ elim (numbersGood w i j)
-        [ false ↦ rejecting BadNumbers w
-        | true ↦ elim (w .verdict)
-          [ true ↦ rejecting VerdictStands w
-          | false ↦ deliverHead w i j (w .channel i j) ] ] ]
+    elim (inShape w) [
+      | false ↦ rejecting BadShape w
+      | true ↦ elim (numbersGood w i j) [
+        | false ↦ rejecting BadNumbers w
+        | true ↦ elim (w .verdict) [
+          | true ↦ rejecting VerdictStands w
+          | false ↦ deliverHead w i j (w .channel i j)
+        ]
+      ]
+    ]
 
 -- ---- "Asking a scanner's slot refuses with 5 or 6 and slot 0; a scanner left without a slot by the verdict gives 0 and no refusal."
 
@@ -96,8 +101,10 @@ pub record Asked : Type 0 where
 
 unfoldable pub askValue : Network → ℕ → Asked
 askValue w i =
-    elim (inShape w)
-      [ false ↦ record { answer = Rejected BadShape; value = 0 }
-      | true ↦ elim (within (w .problem .count) i)
-        [ false ↦ record { answer = Rejected BadNumbers; value = 0 }
-        | true ↦ record { answer = Accepted; value = w .agents i .value } ] ]
+    elim (inShape w) [
+      | false ↦ record { answer = Rejected BadShape; value = 0 }
+      | true ↦ elim (within (w .problem .count) i) [
+        | false ↦ record { answer = Rejected BadNumbers; value = 0 }
+        | true ↦ record { answer = Accepted; value = w .agents i .value }
+      ]
+    ]

@@ -13,10 +13,10 @@ use Rattle.agent_rules.specs.Receiving.{receive, begin}
 
 -- Two networks are the same when they are equal: the record holds what document 01 says that two rails must agree in, and nothing else.
 pub record Network : Type 0 where
-  pub problem : Problem                        -- n, slot counts and bans
-  pub verdict : Bool                           -- the verdict "none" stands
-  pub agents : ℕ → Agent                       -- by number
-  pub channel : ℕ → ℕ → List Message           -- by sender and receiver: the messages waiting, first in first out
+  pub problem : Problem  -- n, slot counts and bans
+  pub verdict : Bool  -- the verdict "none" stands
+  pub agents : ℕ → Agent  -- by number
+  pub channel : ℕ → ℕ → List Message  -- by sender and receiver: the messages waiting, first in first out
 
 -- "empty rail (n = 0, all else zero)"
 unfoldable pub emptyNetwork : Network
@@ -42,13 +42,18 @@ withStep w j t =
       problem = w .problem;
       verdict = w .verdict || t .verdict;
       agents = at (w .agents) j (t .agent);
-      channel = posted j (t .sent) (w .channel) }
+      channel = posted j (t .sent) (w .channel);
+    }
 
 -- the channel from i to j with these messages left on it
 unfoldable pub withChannel : Network → ℕ → ℕ → List Message → Network
 withChannel w i j left =
     record {
-      problem = w .problem; verdict = w .verdict; agents = w .agents; channel = at (w .channel) i (at (w .channel i) j left) }
+      problem = w .problem;
+      verdict = w .verdict;
+      agents = w .agents;
+      channel = at (w .channel) i (at (w .channel i) j left);
+    }
 
 -- agent j's step on the message m from i
 unfoldable pub stepOn : Network → ℕ → ℕ → Message → Step
@@ -76,7 +81,8 @@ start p =
       problem = p;
       verdict = not (allTo (p .count) (λ i. not (begun p i .verdict)));
       agents = startAgent p;
-      channel = startChannel p }
+      channel = startChannel p;
+    }
 
 -- the start for a sheet, and the number that it answers
 pub record Started : Type 0 where

@@ -48,7 +48,7 @@ padded (suc m) (x ∷ l) = x ∷ padded m l
 unfoldable pub sheet : List ℕ → List Ban → List ℕ
 sheet domains bans =
     (length domains ∷ 1 ∷ []) ++ twoBytes (nextIndex 0 bans) ++ twoBytes (length bans) ++ (0 ∷ 0 ∷ [])
-      ++ padded 12 domains ++ (0 ∷ 0 ∷ 0 ∷ 0 ∷ []) ++ records 1 bans
+    ++ padded 12 domains ++ (0 ∷ 0 ∷ 0 ∷ 0 ∷ []) ++ records 1 bans
 
 -- ---- messages, compared
 
@@ -82,10 +82,10 @@ sameNumbers (x ∷ xs) (y ∷ ys) = eqb x y && sameNumbers xs ys
 -- ---- scripts
 
 pub data Scene : Type 0 where
-  Runs : ℕ → Ending → ℕ → Scene               -- a run with so many rounds allowed: its word, its full rounds
-  Delivers : ℕ → ℕ → ℕ → Scene                -- a delivery on a line: its number
-  Waiting : ℕ → ℕ → List Message → Scene      -- a line holds exactly these, head first
-  Values : List ℕ → Scene                     -- asked, agents 1, 2, .. give these values, and number 0
+  Runs : ℕ → Ending → ℕ → Scene  -- a run with so many rounds allowed: its word, its full rounds
+  Delivers : ℕ → ℕ → ℕ → Scene  -- a delivery on a line: its number
+  Waiting : ℕ → ℕ → List Message → Scene  -- a line holds exactly these, head first
+  Values : List ℕ → Scene  -- asked, agents 1, 2, .. give these values, and number 0
 
 unfoldable pub asked : ℕ → List ℕ → Network → Bool
 asked i [] w = true
@@ -106,8 +106,8 @@ holdsFrom (Values vs ∷ cs) w = asked 1 vs w && holdsFrom cs w
 -- ---- nights
 
 pub data Night : Type 0 where
-  Played : List ℕ → List Scene → Night        -- the start for this sheet gives 0, and the script holds from there
-  SameStart : List ℕ → List ℕ → Night         -- the starts for two sheets are the same
+  Played : List ℕ → List Scene → Night  -- the start for this sheet gives 0, and the script holds from there
+  SameStart : List ℕ → List ℕ → Night  -- the starts for two sheets are the same
 
 abbrev pub NightHolds : Night → Type 0
 NightHolds (Played s script) = (eqb (startSheet s .number) 0 && holdsFrom script (startSheet s .network)) ≡ true
@@ -136,10 +136,10 @@ sheet5 = sheet (2 ∷ 1 ∷ []) (ban 1 1 2 1 ∷ [])
 unfoldable pub sheet9 : List ℕ
 sheet9 =
     0x03 ∷ 0x01 ∷ 0x01 ∷ 0x00 ∷ 0x02 ∷ 0x00 ∷ 0x00 ∷ 0x00 ∷ 0x02 ∷ 0x01 ∷ 0x02 ∷ 0x00 ∷ 0x00 ∷ 0x00 ∷ 0x00 ∷ 0x00 ∷ 0x00 ∷ 0x00 ∷ 0x00 ∷ 0x00
-      ∷ 0x00 ∷ 0x00 ∷ 0x00 ∷ 0x00
-      ∷ 0x01 ∷ 0x03 ∷ 0x01 ∷ 0x01 ∷ 0x02 ∷ 0x00 ∷ 0x00 ∷ 0x00
-      ∷ 0x02 ∷ 0x03 ∷ 0x01 ∷ 0x02 ∷ 0x00 ∷ 0x00 ∷ 0x00 ∷ 0x00
-      ∷ []
+    ∷ 0x00 ∷ 0x00 ∷ 0x00 ∷ 0x00
+    ∷ 0x01 ∷ 0x03 ∷ 0x01 ∷ 0x01 ∷ 0x02 ∷ 0x00 ∷ 0x00 ∷ 0x00
+    ∷ 0x02 ∷ 0x03 ∷ 0x01 ∷ 0x02 ∷ 0x00 ∷ 0x00 ∷ 0x00 ∷ 0x00
+    ∷ []
 
 -- "the highest-numbered blamed" would end in 3 rounds
 unfoldable pub sheetBlame : List ℕ
@@ -149,7 +149,7 @@ sheetBlame = sheet (2 ∷ 1 ∷ 2 ∷ []) (ban 1 1 2 1 ∷ ban 1 2 3 1 ∷ ban 1
 unfoldable pub sheetUnknown : List ℕ
 sheetUnknown =
     sheet (2 ∷ 2 ∷ 2 ∷ [])
-      (ban 1 1 2 1 ∷ ban 1 1 2 2 ∷ ban 1 2 2 1 ∷ ban 1 1 3 2 ∷ ban 2 1 3 1 ∷ ban 2 2 3 2 ∷ [])
+    (ban 1 1 2 1 ∷ ban 1 1 2 2 ∷ ban 1 2 2 1 ∷ ban 1 1 3 2 ∷ ban 2 1 3 1 ∷ ban 2 2 3 2 ∷ [])
 
 unfoldable pub empty : Assignment
 empty = values []
@@ -174,13 +174,13 @@ nights =
     ∷ Played sheet9 (Runs 100000 Plan 5 ∷ Values (2 ∷ 1 ∷ 1 ∷ []) ∷ [])
     -- P9, round by round: agent 2 sends to 3 at the start and in rounds 2 and 4 only, and asks agent 1 for a link before it refuses its value
     ∷ Played sheet9 (
-        Waiting 2 3 (Info 1 ∷ [])
-        ∷ Runs 1 Open 1 ∷ Waiting 2 3 []
-        ∷ Runs 1 Open 1 ∷ Waiting 2 1 (AddLink ∷ Back empty 1 ∷ []) ∷ Waiting 2 3 (Info 1 ∷ [])
-        ∷ Runs 1 Open 1 ∷ Waiting 2 3 []
-        ∷ Runs 1 Open 1 ∷ Waiting 2 3 (Info 1 ∷ [])
-        ∷ Runs 1 Plan 1 ∷ Waiting 2 3 []
-        ∷ Values (2 ∷ 1 ∷ 1 ∷ []) ∷ [])
+    Waiting 2 3 (Info 1 ∷ [])
+    ∷ Runs 1 Open 1 ∷ Waiting 2 3 []
+    ∷ Runs 1 Open 1 ∷ Waiting 2 1 (AddLink ∷ Back empty 1 ∷ []) ∷ Waiting 2 3 (Info 1 ∷ [])
+    ∷ Runs 1 Open 1 ∷ Waiting 2 3 []
+    ∷ Runs 1 Open 1 ∷ Waiting 2 3 (Info 1 ∷ [])
+    ∷ Runs 1 Plan 1 ∷ Waiting 2 3 []
+    ∷ Values (2 ∷ 1 ∷ 1 ∷ []) ∷ [])
     ∷ Played sheetBlame (Runs 100000 None 4 ∷ [])
     ∷ Played sheetUnknown (Runs 100000 Plan 4 ∷ Values (2 ∷ 2 ∷ 1 ∷ []) ∷ [])
     ∷ []

@@ -10,7 +10,19 @@ use Rattle.agent_rules.specs.Message.{Message}
 use Rattle.protocol.specs.Network.{Network}
 use Rattle.protocol.specs.Shape.{inShape}
 use Rattle.protocol.specs.Delivery.{
-  Rejection, BadShape, BadNumbers, VerdictStands, EmptyChannel, AlreadyInformed, NoRoom, rejectionNumber, Answer, Accepted, Rejected, Delivery, deliver,
+  Rejection,
+  BadShape,
+  BadNumbers,
+  VerdictStands,
+  EmptyChannel,
+  AlreadyInformed,
+  NoRoom,
+  rejectionNumber,
+  Answer,
+  Accepted,
+  Rejected,
+  Delivery,
+  deliver,
 }
 
 -- a channel (line), by its ends
@@ -38,16 +50,16 @@ idle w = allTo (w .problem .count) (λ i. allTo (w .problem .count) (λ j. isEmp
 unfoldable pub visits : Network → List Line
 visits w =
     gather (w .problem .count) 1 (λ i. gather (w .problem .count) 1 (λ j.
-      replicate (length (w .channel i j)) (record { from = i; to = j })))
+    replicate (length (w .channel i j)) (record { from = i; to = j })))
 
 -- ---- one round
 
 -- a round on its way
 pub record Sweep : Type 0 where
   pub network : Network
-  pub delivered : ℕ                 -- accepted deliveries
-  pub fault : Option Rejection      -- the rejection that stops the run
-  pub tried : List Try              -- in order
+  pub delivered : ℕ  -- accepted deliveries
+  pub fault : Option Rejection  -- the rejection that stops the run
+  pub tried : List Try  -- in order
 
 unfoldable pub beginRound : Network → Sweep
 beginRound w = record { network = w; delivered = 0; fault = none; tried = [] }
@@ -71,7 +83,8 @@ tally s l d =
       network = d .network;
       delivered = s .delivered + counts (d .answer);
       fault = faultOf (d .answer);
-      tried = s .tried ++ (record { line = l; answer = d .answer } ∷ []) }
+      tried = s .tried ++ (record { line = l; answer = d .answer } ∷ []);
+    }
 
 unfoldable pub attempt : Sweep → Line → Sweep
 attempt s l = elim (stopped s) [ true ↦ s | false ↦ tally s l (deliver (s .network) (l .from) (l .to)) ]
@@ -91,12 +104,12 @@ isFull w s = eqb (s .delivered) (length (visits w))
 
 -- how a run ends: one of five words, or rejected
 pub data Ending : Type 0 where
-  None : Ending        -- "`none` for the verdict"
-  Plan : Ending        -- "`plan` for nothing waiting"
-  Jammed : Ending      -- "`jammed` after a 10"
-  Faulty : Ending      -- "`faulty` after a 9"
-  Open : Ending        -- "else `open`"
-  Broken : Ending      -- "The run refuses only with 5"
+  None : Ending  -- "`none` for the verdict"
+  Plan : Ending  -- "`plan` for nothing waiting"
+  Jammed : Ending  -- "`jammed` after a 10"
+  Faulty : Ending  -- "`faulty` after a 9"
+  Open : Ending  -- "else `open`"
+  Broken : Ending  -- "The run refuses only with 5"
 
 -- the number that the run answers
 unfoldable pub endingNumber : Ending → ℕ
@@ -123,9 +136,9 @@ pub record Round : Type 0 where
 
 pub record Ran : Type 0 where
   pub network : Network
-  pub made : ℕ               -- full rounds made
+  pub made : ℕ  -- full rounds made
   pub ending : Ending
-  pub rounds : List Round    -- every round, in order
+  pub rounds : List Round  -- every round, in order
 
 unfoldable pub faultEnding : Rejection → Ending
 faultEnding BadShape = Open
@@ -154,15 +167,17 @@ oneIf false = 0
 unfoldable pub runFrom : ℕ → ℕ → List Round → Network → Ran
 runFrom zero made rounds w = finish w made rounds none
 runFrom (suc left) made rounds w =
-    elim (w .verdict || idle w)
-      [ true ↦ finish w made rounds none
+    elim (w .verdict || idle w) [
+      | true ↦ finish w made rounds none
       | false ↦
-        let s = round w in
-        let made′ = made + oneIf (isFull w s) in
-        let rounds′ = rounds ++ (record { tried = s .tried; full = isFull w s } ∷ []) in
-        elim (isSome (s .fault))
-          [ true ↦ finish (s .network) made′ rounds′ (s .fault)
-          | false ↦ runFrom left made′ rounds′ (s .network) ] ]
+          let s = round w in
+          let made′ = made + oneIf (isFull w s) in
+          let rounds′ = rounds ++ (record { tried = s .tried; full = isFull w s } ∷ []) in
+          elim (isSome (s .fault)) [
+            | true ↦ finish (s .network) made′ rounds′ (s .fault)
+            | false ↦ runFrom left made′ rounds′ (s .network)
+          ]
+    ]
 
 -- "0 to 1,000,000; more is taken as 1,000,000"
 unfoldable pub maxRounds : ℕ
@@ -174,6 +189,7 @@ allowed k = elim (leb k maxRounds) [ true ↦ k | false ↦ maxRounds ]
 -- "The run refuses only with 5, zero rounds and that number in place of the word; on a rail with a verdict it returns `none`, zero rounds."
 unfoldable pub run : ℕ → Network → Ran
 run k w =
-    elim (inShape w)
-      [ true ↦ runFrom (allowed k) 0 [] w
-      | false ↦ record { network = w; made = 0; ending = Broken; rounds = [] } ]
+    elim (inShape w) [
+      | true ↦ runFrom (allowed k) 0 [] w
+      | false ↦ record { network = w; made = 0; ending = Broken; rounds = [] }
+    ]

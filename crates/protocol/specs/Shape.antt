@@ -9,15 +9,14 @@ use Rattle.base.specs.Finite.{within, allTo, every, isSome}
 use Rattle.problem.specs.Problem.{Problem, maxAgents, maxDomain, owns, linked, inRange}
 use Rattle.agent_rules.specs.Message.{Assignment, known, Message, Info, Back, AddLink}
 use Rattle.agent_rules.specs.Agent.{Nogoods, Agent}
+use Rattle.agent_rules.specs.Shape.{maxNamed}
 use Rattle.protocol.specs.Network.{Network}
 
 -- "132 lines of eight places"
 unfoldable pub capacity : ℕ
 capacity = 8
 
--- An agent's record and a left side have room to name the agents 1 to 16; those above n must not be named.
-unfoldable pub maxNamed : ℕ
-maxNamed = 16
+-- An agent's record and a left side have room to name the agents 1 to `maxNamed`, 16; those above n must not be named.
 
 -- each agent that a partial assignment names passes
 unfoldable pub eachNamed : Assignment → (ℕ → ℕ → Bool) → Bool
@@ -67,22 +66,23 @@ nogoodsFit w i =
 unfoldable pub unused : Agent → Bool
 unused a =
     eqb (a .value) 0
-      && eachIn (a .listens) (λ k. false)
-      && eachIn (a .informs) (λ k. false)
-      && eachNamed (a .view) (λ k v. false)
-      && allTo maxDomain (λ v. not (isSome (a .nogoods v)))
+    && eachIn (a .listens) (λ k. false)
+    && eachIn (a .informs) (λ k. false)
+    && eachNamed (a .view) (λ k v. false)
+    && allTo maxDomain (λ v. not (isSome (a .nogoods v)))
 
 unfoldable pub agentInShape : Network → ℕ → Bool
 agentInShape w i =
-    elim (leb i (w .problem .count))
-      [ true ↦ holdsValue w i
+    elim (leb i (w .problem .count)) [
+      | true ↦ holdsValue w i
           && listensUpward w i
           && informsDownward w i
           && linkedListen w i
           && informedListen w i
           && viewListened w i
           && nogoodsFit w i
-      | false ↦ unused (w .agents i) ]
+      | false ↦ unused (w .agents i)
+    ]
 
 -- ---- the channels
 
@@ -110,5 +110,5 @@ channelInShape w i j = hasRoom w i j && every (messageFits w i j) (w .channel i 
 unfoldable pub inShape : Network → Bool
 inShape w =
     inRange (w .problem)
-      && allTo maxAgents (agentInShape w)
-      && allTo maxAgents (λ i. allTo maxAgents (λ j. channelInShape w i j))
+    && allTo maxAgents (agentInShape w)
+    && allTo maxAgents (λ i. allTo maxAgents (λ j. channelInShape w i j))

@@ -1,0 +1,3 @@
+pub mod Tests
+pub mod Search
+pub mod Lists
