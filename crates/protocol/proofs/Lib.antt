@@ -1,1 +1,3 @@
 mod Nights
+pub mod Moves
+pub mod Rounds
