@@ -3,3 +3,4 @@ pub mod Agent
 pub mod Choosing
 pub mod Receiving
 pub mod Shape
+pub mod Cases

@@ -43,8 +43,8 @@ abbrev pub Waits : Problem → (ℕ → Agent) → ℕ → ℕ → Message → T
 Waits p agents i j (Info v) = agents j .listens i ≡ true
 Waits p agents i j (Back lhs v) =
     (agents i .listens j ≡ true)
-      × ((x : ℕ) → known (lhs x) ≡ true → (1 ≤ x) × (x < j))
-      × Excludes (Obeys p) j v lhs
+    × ((x : ℕ) → known (lhs x) ≡ true → (1 ≤ x) × (x < j))
+    × Excludes (Obeys p) j v lhs
 Waits p agents i j AddLink = agents i .listens j ≡ true
 
 -- y's view v of x, x's value u, what waits from x to y and back: once all Infos are in, the view is the value; or it is unknown and a Back that

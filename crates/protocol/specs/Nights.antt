@@ -1,13 +1,12 @@
--- The worked nights of document 01 that are marked P, and two more: scripts of calls and of what must be seen between them.
-use Prim.Native.Nat.{ℕ, zero, suc, _+_, _*_, _/_, _%_}
+-- The worked nights of document 01 that are marked P, and three more: scripts of calls and of what must be seen between them.
+use Prim.Native.Nat.{ℕ, zero, suc, _/_, _%_}
 use mathlib.Core.Path.{_≡_}
-use mathlib.Core.Bool.{Bool, true, false, not, _&&_, _||_}
+use mathlib.Core.Bool.{Bool, true, false, _&&_}
 use mathlib.Core.List.{List, [], _∷_, _++_}
-use lib.ListN.{length, getD, replicate}
-use lib.Dec.{eqb, ltb}
-use Rattle.base.specs.Finite.{fromOne, allTo}
-use Rattle.problem.specs.Problem.{maxAgents}
+use lib.ListN.{length}
+use lib.Dec.{eqb}
 use Rattle.agent_rules.specs.Message.{Assignment, Message, Info, Back, AddLink}
+use Rattle.agent_rules.specs.Cases.{values, sameMessage}
 use Rattle.protocol.specs.Network.{Network, Started, startSheet}
 use Rattle.protocol.specs.Delivery.{answerNumber, deliver, askValue}
 use Rattle.protocol.specs.Run.{Ending, None, Plan, Jammed, Faulty, Open, Broken, endingWord, Ran, run}
@@ -51,21 +50,6 @@ sheet domains bans =
     ++ padded 12 domains ++ (0 ∷ 0 ∷ 0 ∷ 0 ∷ []) ++ records 1 bans
 
 -- ---- messages, compared
-
--- the partial assignment with these values for agents 1, 2, ..
-unfoldable pub values : List ℕ → Assignment
-values l = fromOne 0 (λ k. getD l k 0)
-
-unfoldable pub sameMessage : Message → Message → Bool
-sameMessage (Info v) (Info w) = eqb v w
-sameMessage (Info v) (Back l w) = false
-sameMessage (Info v) AddLink = false
-sameMessage (Back k v) (Info w) = false
-sameMessage (Back k v) (Back l w) = allTo maxAgents (λ i. eqb (k i) (l i)) && eqb v w
-sameMessage (Back k v) AddLink = false
-sameMessage AddLink (Info w) = false
-sameMessage AddLink (Back l w) = false
-sameMessage AddLink AddLink = true
 
 unfoldable pub sameMessages : List Message → List Message → Bool
 sameMessages [] [] = true
@@ -151,6 +135,10 @@ sheetUnknown =
     sheet (2 ∷ 2 ∷ 2 ∷ [])
     (ban 1 1 2 1 ∷ ban 1 1 2 2 ∷ ban 1 2 2 1 ∷ ban 1 1 3 2 ∷ ban 2 1 3 1 ∷ ban 2 2 3 2 ∷ [])
 
+-- visited by receiver first, the verdict would cut round 2 short: 1 round
+unfoldable pub sheetOrder : List ℕ
+sheetOrder = sheet (2 ∷ 1 ∷ 1 ∷ []) (ban 1 1 2 1 ∷ ban 2 1 3 1 ∷ [])
+
 unfoldable pub empty : Assignment
 empty = values []
 
@@ -183,4 +171,5 @@ nights =
     ∷ Values (2 ∷ 1 ∷ 1 ∷ []) ∷ [])
     ∷ Played sheetBlame (Runs 100000 None 4 ∷ [])
     ∷ Played sheetUnknown (Runs 100000 Plan 4 ∷ Values (2 ∷ 2 ∷ 1 ∷ []) ∷ [])
+    ∷ Played sheetOrder (Runs 100000 None 2 ∷ [])
     ∷ []

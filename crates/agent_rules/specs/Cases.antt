@@ -1,0 +1,247 @@
+-- Single steps of one agent, worked by hand from document 01's 'What a scanner does': at least one for each branch of each rule and for each
+-- entry of 'Misreadings to catch' that one step can show.
+use Prim.Native.Nat.{ℕ, zero, suc}
+use mathlib.Core.Bool.{Bool, true, false, not, _&&_, _||_}
+use mathlib.Core.Option.{Option, none, some}
+use mathlib.Core.List.{List, [], _∷_}
+use lib.ListN.{getD}
+use lib.Dec.{eqb}
+use Rattle.base.specs.Finite.{fromOne, allTo}
+use Rattle.problem.specs.Problem.{maxAgents, maxDomain}
+use Rattle.agent_rules.specs.Message.{Assignment, Message, Info, Back, AddLink, Post}
+use Rattle.agent_rules.specs.Agent.{Self, Bans, Nogoods, Agent, Step}
+use Rattle.agent_rules.specs.Receiving.{receive, begin}
+
+-- ---- values by lists
+
+-- the values of agents 1, 2, ..
+unfoldable pub values : List ℕ → Assignment
+values l = fromOne 0 (λ k. getD l k 0)
+
+unfoldable pub member : List ℕ → ℕ → Bool
+member [] k = false
+member (x ∷ xs) k = eqb x k || member xs k
+
+-- the nogoods of own values 1, 2, ..
+unfoldable pub nogoods : List (Option Assignment) → Nogoods
+nogoods l = fromOne none (λ v. getD l v none)
+
+-- agent k at value v bans the own value w
+pub record Ban : Type 0 where
+  pub agent : ℕ
+  pub value : ℕ
+  pub own : ℕ
+
+abbrev pub ban : ℕ → ℕ → ℕ → Ban
+ban k v w = record { agent = k; value = v; own = w }
+
+unfoldable pub bansOf : List Ban → Bans
+bansOf [] k v w = false
+bansOf (b ∷ bs) k v w = (eqb (b .agent) k && eqb (b .value) v && eqb (b .own) w) || bansOf bs k v w
+
+abbrev pub agent : ℕ → List ℕ → List ℕ → List ℕ → List (Option Assignment) → Agent
+agent v listens informs view stored =
+    record { value = v; listens = member listens; informs = member informs; view = values view; nogoods = nogoods stored }
+
+abbrev pub post : ℕ → Message → Post
+post k m = record { to = k; message = m }
+
+-- ---- compared
+
+unfoldable pub sameBool : Bool → Bool → Bool
+sameBool true b = b
+sameBool false b = not b
+
+unfoldable pub sameSet : (ℕ → Bool) → (ℕ → Bool) → Bool
+sameSet f g = allTo maxAgents (λ k. sameBool (f k) (g k))
+
+unfoldable pub sameAssignment : Assignment → Assignment → Bool
+sameAssignment f g = allTo maxAgents (λ k. eqb (f k) (g k))
+
+unfoldable pub sameNogood : Option Assignment → Option Assignment → Bool
+sameNogood none none = true
+sameNogood none (some g) = false
+sameNogood (some f) none = false
+sameNogood (some f) (some g) = sameAssignment f g
+
+unfoldable pub sameAgent : Agent → Agent → Bool
+sameAgent a b =
+    eqb (a .value) (b .value)
+    && sameSet (a .listens) (b .listens)
+    && sameSet (a .informs) (b .informs)
+    && sameAssignment (a .view) (b .view)
+    && allTo maxDomain (λ v. sameNogood (a .nogoods v) (b .nogoods v))
+
+unfoldable pub sameMessage : Message → Message → Bool
+sameMessage (Info v) (Info w) = eqb v w
+sameMessage (Info v) (Back l w) = false
+sameMessage (Info v) AddLink = false
+sameMessage (Back k v) (Info w) = false
+sameMessage (Back k v) (Back l w) = sameAssignment k l && eqb v w
+sameMessage (Back k v) AddLink = false
+sameMessage AddLink (Info w) = false
+sameMessage AddLink (Back l w) = false
+sameMessage AddLink AddLink = true
+
+unfoldable pub samePosts : List Post → List Post → Bool
+samePosts [] [] = true
+samePosts [] (q ∷ qs) = false
+samePosts (p ∷ ps) [] = false
+samePosts (p ∷ ps) (q ∷ qs) = eqb (p .to) (q .to) && sameMessage (p .message) (q .message) && samePosts ps qs
+
+-- ---- the cases
+
+pub record StepCase : Type 0 where
+  pub got : Step
+  pub agent : Agent
+  pub sent : List Post
+  pub verdict : Bool
+
+unfoldable pub stepHolds : StepCase → Bool
+stepHolds c =
+    sameAgent (c .got .agent) (c .agent) && samePosts (c .got .sent) (c .sent) && sameBool (c .got .verdict) (c .verdict)
+
+unfoldable pub allHold : List StepCase → Bool
+allHold [] = true
+allHold (c ∷ cs) = stepHolds c && allHold cs
+
+abbrev pub self : ℕ → ℕ → Self
+self i d = record { number = i; domain = d }
+
+-- agent 3 with two values: value 1 is banned by agent 1 at 1, value 2 by agent 2 at 1 (P9's agent 3)
+abbrev pub bans3 : Bans
+bans3 = bansOf (ban 1 1 1 ∷ ban 2 1 2 ∷ [])
+
+-- agent 3 with two values, both banned by agent 1 at 1, value 1 by agent 2 at 1 too
+abbrev pub bansBoth : Bans
+bansBoth = bansOf (ban 1 1 1 ∷ ban 1 1 2 ∷ ban 2 1 1 ∷ [])
+
+unfoldable pub stepCases : List StepCase
+stepCases =
+    -- Start: the lowest value, news to all informed; nothing known bans nothing.
+    record {
+      got = begin (self 3 2) bans3 (member (1 ∷ 2 ∷ [])) (member (5 ∷ 4 ∷ []));
+      agent = agent 1 (1 ∷ 2 ∷ []) (4 ∷ 5 ∷ []) [] [];
+      sent = post 4 (Info 1) ∷ post 5 (Info 1) ∷ [];
+      verdict = false;
+    }
+    -- News that does not ban the own value: the view only.
+    ∷ record {
+      got = receive (self 3 2) bans3 (agent 2 (1 ∷ 2 ∷ []) (4 ∷ []) [] []) 1 (Info 1);
+      agent = agent 2 (1 ∷ 2 ∷ []) (4 ∷ []) (1 ∷ []) [];
+      sent = [];
+      verdict = false;
+    }
+    -- News that disagrees with a stored reason drops it, and only it.
+    ∷ record {
+      got = receive (self 3 2) bans3 (agent 2 (1 ∷ 2 ∷ []) [] (1 ∷ 2 ∷ []) (some (values (1 ∷ [])) ∷ [])) 1 (Info 2);
+      agent = agent 2 (1 ∷ 2 ∷ []) [] (2 ∷ 2 ∷ []) [];
+      sent = [];
+      verdict = false;
+    }
+    ∷ record {
+      got = receive (self 3 2) bans3 (agent 2 (1 ∷ 2 ∷ []) [] (1 ∷ 2 ∷ []) (some (values (1 ∷ [])) ∷ [])) 2 (Info 3);
+      agent = agent 2 (1 ∷ 2 ∷ []) [] (1 ∷ 3 ∷ []) (some (values (1 ∷ [])) ∷ []);
+      sent = [];
+      verdict = false;
+    }
+    -- News that bans the own value: it gets a reason, the lowest free value is taken and told; those above get no reason.
+    ∷ record {
+      got = receive (self 3 3) (bansOf (ban 1 1 1 ∷ ban 1 1 3 ∷ [])) (agent 1 (1 ∷ 2 ∷ []) (4 ∷ []) [] []) 1 (Info 1);
+      agent = agent 2 (1 ∷ 2 ∷ []) (4 ∷ []) (1 ∷ []) (some (values (1 ∷ [])) ∷ []);
+      sent = post 4 (Info 2) ∷ [];
+      verdict = false;
+    }
+    -- A value with a stored reason is skipped though nothing in the view bans it.
+    ∷ record {
+      got = receive (self 3 3) (bansOf (ban 1 1 3 ∷ []))
+          (agent 3 (1 ∷ 2 ∷ []) (4 ∷ []) (0 ∷ 2 ∷ []) (some (values (0 ∷ 2 ∷ [])) ∷ [])) 1 (Info 1);
+      agent = agent 2 (1 ∷ 2 ∷ []) (4 ∷ []) (1 ∷ 2 ∷ []) (some (values (0 ∷ 2 ∷ [])) ∷ []);
+      sent = post 4 (Info 2) ∷ [];
+      verdict = false;
+    }
+    -- The lowest-numbered is blamed: value 1 is banned by agents 1 and 2.
+    ∷ record {
+      got = receive (self 3 2) (bansOf (ban 1 1 1 ∷ ban 2 1 1 ∷ [])) (agent 1 (1 ∷ 2 ∷ []) [] (1 ∷ []) []) 2 (Info 1);
+      agent = agent 2 (1 ∷ 2 ∷ []) [] (1 ∷ 1 ∷ []) (some (values (1 ∷ [])) ∷ []);
+      sent = [];
+      verdict = false;
+    }
+    -- Backing up: the highest-numbered is refused, forgotten, and the reasons naming it dropped; then a value is free again.
+    ∷ record {
+      got = receive (self 3 2) bans3 (agent 2 (1 ∷ 2 ∷ []) (4 ∷ []) (1 ∷ []) (some (values (1 ∷ [])) ∷ [])) 2 (Info 1);
+      agent = agent 2 (1 ∷ 2 ∷ []) (4 ∷ []) (1 ∷ []) (some (values (1 ∷ [])) ∷ []);
+      sent = post 2 (Back (values (1 ∷ [])) 1) ∷ post 4 (Info 2) ∷ [];
+      verdict = false;
+    }
+    -- Backing up twice: with agent 2 forgotten agent 1 still bans both values.
+    ∷ record {
+      got = receive (self 3 2) bansBoth (agent 1 (1 ∷ 2 ∷ []) (4 ∷ []) (0 ∷ 2 ∷ []) (none ∷ some (values (0 ∷ 2 ∷ [])) ∷ [])) 1 (Info 1);
+      agent = agent 1 (1 ∷ 2 ∷ []) (4 ∷ []) [] [];
+      sent = post 2 (Back (values (1 ∷ [])) 2) ∷ post 1 (Back (values []) 1) ∷ post 4 (Info 1) ∷ [];
+      verdict = false;
+    }
+    -- A refusal that holds, its left side listened to: the reason is stored and the next value taken.
+    ∷ record {
+      got = receive (self 2 2) (bansOf []) (agent 1 (1 ∷ []) (3 ∷ 4 ∷ []) (2 ∷ []) []) 4 (Back (values (2 ∷ [])) 1);
+      agent = agent 2 (1 ∷ []) (3 ∷ 4 ∷ []) (2 ∷ []) (some (values (2 ∷ [])) ∷ []);
+      sent = post 3 (Info 2) ∷ post 4 (Info 2) ∷ [];
+      verdict = false;
+    }
+    -- A refusal that holds, its left side not listened to: link requests upward first, then (P9's agent 2, round 2) the refusal to the same
+    -- agent, then the old value told again.
+    ∷ record {
+      got = receive (self 2 1) (bansOf []) (agent 1 [] (3 ∷ []) [] []) 3 (Back (values (1 ∷ [])) 1);
+      agent = agent 1 (1 ∷ []) (3 ∷ []) [] [];
+      sent = post 1 AddLink ∷ post 1 (Back (values []) 1) ∷ post 3 (Info 1) ∷ [];
+      verdict = false;
+    }
+    ∷ record {
+      got = receive (self 4 2) (bansOf []) (agent 1 (2 ∷ []) (5 ∷ []) (0 ∷ 3 ∷ []) []) 5 (Back (values (1 ∷ 3 ∷ 2 ∷ [])) 1);
+      agent = agent 2 (1 ∷ 2 ∷ 3 ∷ []) (5 ∷ []) (1 ∷ 3 ∷ 2 ∷ []) (some (values (1 ∷ 3 ∷ 2 ∷ [])) ∷ []);
+      sent = post 1 AddLink ∷ post 3 AddLink ∷ post 5 (Info 2) ∷ [];
+      verdict = false;
+    }
+    -- A refusal with an empty left side is a stored reason too.
+    ∷ record {
+      got = receive (self 1 2) (bansOf []) (agent 1 [] (2 ∷ []) [] []) 2 (Back (values []) 1);
+      agent = agent 2 [] (2 ∷ []) [] (some (values []) ∷ []);
+      sent = post 2 (Info 2) ∷ [];
+      verdict = false;
+    }
+    -- .. and where every value has one, the verdict: no value, the reasons remain, nothing is sent.
+    ∷ record {
+      got = receive (self 1 2) (bansOf []) (agent 2 [] (2 ∷ []) [] (some (values []) ∷ [])) 2 (Back (values []) 2);
+      agent = agent 0 [] (2 ∷ []) [] (some (values []) ∷ some (values []) ∷ []);
+      sent = [];
+      verdict = true;
+    }
+    -- An outdated refusal of the own value: the view has another value, and the sender is told the own value again.
+    ∷ record {
+      got = receive (self 2 2) (bansOf []) (agent 1 (1 ∷ []) (3 ∷ []) (1 ∷ []) []) 3 (Back (values (2 ∷ [])) 1);
+      agent = agent 1 (1 ∷ []) (3 ∷ []) (1 ∷ []) [];
+      sent = post 3 (Info 1) ∷ [];
+      verdict = false;
+    }
+    -- Unknown does not match.
+    ∷ record {
+      got = receive (self 2 2) (bansOf []) (agent 1 (1 ∷ []) (3 ∷ []) [] []) 3 (Back (values (2 ∷ [])) 1);
+      agent = agent 1 (1 ∷ []) (3 ∷ []) [] [];
+      sent = post 3 (Info 1) ∷ [];
+      verdict = false;
+    }
+    -- An outdated refusal of another value: nothing.
+    ∷ record {
+      got = receive (self 2 2) (bansOf []) (agent 2 (1 ∷ []) (3 ∷ []) (1 ∷ []) []) 3 (Back (values (1 ∷ [])) 1);
+      agent = agent 2 (1 ∷ []) (3 ∷ []) (1 ∷ []) [];
+      sent = [];
+      verdict = false;
+    }
+    -- A link request: the sender is informed from now on.
+    ∷ record {
+      got = receive (self 1 2) (bansOf []) (agent 2 [] (3 ∷ []) [] []) 2 AddLink;
+      agent = agent 2 [] (2 ∷ 3 ∷ []) [] [];
+      sent = post 2 (Info 2) ∷ [];
+      verdict = false;
+    }
+    ∷ []
