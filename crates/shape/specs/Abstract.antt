@@ -1,0 +1,52 @@
+-- What the network's record means. A primed name is the definitions'.
+use Prim.Native.Nat.{ℕ, zero, suc, pred, _+_, _*_, _%_}
+use mathlib.Core.Bool.{Bool, true, false, not, _&&_}
+use mathlib.Core.List.{List, [], _∷_, map}
+use lib.ListN.{getD}
+use lib.Dec.{eqb, ltb}
+use Rattle.base.specs.Finite.{fromOne, within}
+use Rattle.problem.specs.Problem.{Problem, maxAgents}
+use Rattle.agent_rules.specs.Message.{Message as Message′}
+use Rattle.agent_rules.specs.Agent.{Agent as Agent′, noAgent}
+use Rattle.protocol.specs.Network.{Network as Network′}
+use Rattle.agent.specs.declared.Message.the-variants.{AddLink}
+use Rattle.agent.specs.Abstract.{messageOf, agentOf}
+use Rattle.shape.specs.declared.Place.{Place}
+use Rattle.shape.specs.declared.Network.{Network}
+
+-- there is a line from i to j
+unfoldable pub isChannel : ℕ → ℕ → Bool
+isChannel i j = within maxAgents i && within maxAgents j && not (eqb i j)
+
+-- its number, from 0: by sender, then receiver
+unfoldable pub channelAt : ℕ → ℕ → ℕ
+channelAt i j = 11 * pred i + elim (ltb j i) [ true ↦ pred j | false ↦ pred (pred j) ]
+
+unfoldable pub placeOf : Place → Message′
+placeOf p = messageOf (p .message)
+
+unfoldable pub noPlace : Place
+noPlace = record { message = AddLink }
+
+-- the messages of a ring of eight places from `base` on, so many from `head` on, round and round
+unfoldable pub ring : List Place → ℕ → ℕ → ℕ → List Message′
+ring places base head zero = []
+ring places base head (suc count) = placeOf (getD places (base + head % 8) noPlace) ∷ ring places base (suc head) count
+
+unfoldable pub channelOf : Network → ℕ → List Message′
+channelOf r l = ring (r .places) (8 * l) (getD (r .heads) l 0) (getD (r .counts) l 0)
+
+unfoldable pub problemOf : Network → Problem
+problemOf r = record { count = r .count; domains = r .domains; bans = r .bans }
+
+unfoldable pub agentsOf : List Agent′ → ℕ → Agent′
+agentsOf l = fromOne noAgent (λ k. getD l k noAgent)
+
+-- Where in its ring a channel's messages stand, and what its unused places hold, is no part of the network.
+unfoldable pub networkOf : Network → Network′
+networkOf r =
+    record {
+      problem = problemOf r;
+      verdict = r .verdict;
+      agents = agentsOf (map agentOf (r .agents));
+      channel = λ i j. elim (isChannel i j) [ true ↦ channelOf r (channelAt i j) | false ↦ [] ] }
