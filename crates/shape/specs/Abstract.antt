@@ -49,4 +49,5 @@ networkOf r =
       problem = problemOf r;
       verdict = r .verdict;
       agents = agentsOf (map agentOf (r .agents));
-      channel = λ i j. elim (isChannel i j) [ true ↦ channelOf r (channelAt i j) | false ↦ [] ] }
+      channel = λ i j. elim (isChannel i j) [ true ↦ channelOf r (channelAt i j) | false ↦ [] ];
+    }
