@@ -1,3 +1,1 @@
-pub mod Messages
-pub mod Facts
 mod Cases

@@ -1,1 +1,1 @@
-// Definitions and laws; no code.
+// Definitions and single-step cases; no code.

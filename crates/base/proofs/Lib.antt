@@ -1,3 +1,5 @@
 pub mod Tests
 pub mod Search
 pub mod Lists
+pub mod Counting
+pub mod Bits

@@ -1,6 +1,10 @@
--- All and some of a list.
+-- All and some of a list, and the test of each element.
+use mathlib.Core.Path.{_≡_, refl}
+use mathlib.Core.Bool.{Bool, true}
 use mathlib.Core.Logic.{_⊎_, inl, inr}
 use mathlib.Core.List.{List, [], _∷_, _++_}
+use Rattle.base.specs.Finite.{every}
+use Rattle.base.proofs.Tests.{both, to-both}
 
 abbrev pub All : {A : Type 0} → (A → Type 0) → List A → Type 0
 All P [] = Unit {0}
@@ -9,6 +13,10 @@ All P (x ∷ xs) = P x × All P xs
 pub All-append : {A : Type 0} (P : A → Type 0) (l r : List A) → All P l → All P r → All P (l ++ r)
 All-append P [] r h k = k
 All-append P (x ∷ xs) r h k = (h .0, All-append P xs r (h .1) k)
+
+pub All-right : {A : Type 0} (P : A → Type 0) (l r : List A) → All P (l ++ r) → All P r
+All-right P [] r h = h
+All-right P (x ∷ xs) r h = All-right P xs r (h .1)
 
 pub All-map : {A : Type 0} (P Q : A → Type 0) → ((x : A) → P x → Q x) → (l : List A) → All P l → All Q l
 All-map P Q f [] h = tt
@@ -35,3 +43,15 @@ pub any-all : {A : Type 0} (P Q : A → Type 0) → ((x : A) → P x → Q x →
 any-all P Q f [] a h = a
 any-all P Q f (x ∷ xs) (inl a) h = f x a (h .0)
 any-all P Q f (x ∷ xs) (inr a) h = any-all P Q f xs a (h .1)
+
+-- ---- each element passes
+
+pub every-all : {A : Type 0} (p : A → Bool) (l : List A) → every p l ≡ true → All (λ x. p x ≡ true) l
+unfolding every
+every-all p [] e = tt
+every-all p (x ∷ xs) e = let h = both (p x) (every p xs) e in (h .0, every-all p xs (h .1))
+
+pub to-every : {A : Type 0} (p : A → Bool) (l : List A) → All (λ x. p x ≡ true) l → every p l ≡ true
+unfolding every
+to-every p [] h = refl
+to-every p (x ∷ xs) h = to-both (p x) (every p xs) (h .0) (to-every p xs (h .1))

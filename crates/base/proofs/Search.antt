@@ -84,6 +84,11 @@ unfolding allTo
 to-allTo zero p h = refl
 to-allTo (suc m) p h = rw (h (suc m) (omega arith) (omega arith), to-allTo m p (λ k l u. h k l (omega arith)))
 
+pub allTo-false : (m : ℕ) (p : ℕ → Bool) → allTo m p ≡ false → (k : ℕ) × (p k ≡ false)
+unfolding allTo
+allTo-false zero p e = absurd (false≢true (sym e))
+allTo-false (suc m) p e = test (p (suc m)) (λ h. allTo-false m p (rw h at e)) (λ h. (suc m, h))
+
 -- ---- maps
 
 pub at-same {ℓ} : {A : Type ℓ} (f : ℕ → A) (i : ℕ) (a : A) → at f i a i ≡ a

@@ -6,12 +6,15 @@ use mathlib.Core.Option.{Option, none, some}
 use Prim.Native.Nat.{ℕ, zero, suc, _≤_, _<_}
 use native.Mathlib.Omega.{arith}
 use lib.Dec.{eqb, ltb, leb}
-use borrow.Author.Tests.{ltb-true, leb-true, lt-ltb, le-leb}
+use borrow.Author.Tests.{ltb-true, leb-true, lt-ltb, le-leb, eqb-true, eqb-false}
 use Rattle.base.specs.Finite.{within, isSome}
 
 pub test {ℓ} : {C : Type ℓ} (b : Bool) → (b ≡ true → C) → (b ≡ false → C) → C
 test true f g = f refl
 test false f g = g refl
+
+pub eq-test {ℓ} : {C : Type ℓ} (i j : ℕ) → (i ≡ j → C) → (i ≢ j → C) → C
+eq-test i j f g = test (eqb i j) (λ e. f (eqb-true i j e)) (λ e. g (eqb-false i j e))
 
 pub opt {ℓ κ} : {A : Type ℓ} {C : Type κ} (o : Option A) → (o ≡ none → C) → ((x : A) → o ≡ some x → C) → C
 opt none f g = f refl
@@ -44,6 +47,24 @@ or-cases false b e = inr e
 pub or-false-both : (a b : Bool) → a || b ≡ false → (a ≡ false) × (b ≡ false)
 or-false-both true b e = absurd (false≢true (sym e))
 or-false-both false b e = (refl, e)
+
+pub or-right : (a b : Bool) → b ≡ true → a || b ≡ true
+or-right true b e = refl
+or-right false b e = e
+
+pub both : (a b : Bool) → a && b ≡ true → (a ≡ true) × (b ≡ true)
+both a b e = and-eq-true-iff a b .0 e
+
+pub to-both : (a b : Bool) → a ≡ true → b ≡ true → a && b ≡ true
+to-both a b l r = and-eq-true-iff a b .1 (l, r)
+
+pub implied : (a b : Bool) → not a || b ≡ true → a ≡ true → b ≡ true
+implied true b e h = e
+implied false b e h = absurd (false≢true h)
+
+pub to-implied : (a b : Bool) → (a ≡ true → b ≡ true) → not a || b ≡ true
+to-implied true b f = f refl
+to-implied false b f = refl
 
 -- one of 1 to m, as a test and as bounds
 pub within-true : (m k : ℕ) → within m k ≡ true → (1 ≤ k) × (k ≤ m)

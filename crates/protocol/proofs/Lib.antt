@@ -1,3 +1,1 @@
 mod Nights
-pub mod Moves
-pub mod Rounds

@@ -49,7 +49,18 @@ RoundBound p =
     (calls : List Call) (marking : List Stretch) → linesOf marking ≡ triedByAll calls (start p) → AllFull p [] marking
     → markedIn marking ≤ mostRounds p
 
--- Demand 3, of the runs: the full rounds that all runs of a list return, together.
+-- Demand 3: "the full ones of all runs in a list are one such way": a marking of all that the list tries, with as many rounds as its runs return
+-- together.
+pub record RunsMarked (p : Problem) (calls : List Call) : Type 0 where
+  pub marking : List Stretch
+  pub lines : linesOf marking ≡ triedByAll calls (start p)
+  pub full : AllFull p [] marking
+  pub number : markedIn marking ≡ madeByAll calls (start p)
+
+abbrev pub RunsMark : Problem → Type 0
+RunsMark p = (calls : List Call) → RunsMarked p calls
+
+-- So the full rounds that all runs of a list return, together, obey the bound too.
 abbrev pub RunBound : Problem → Type 0
 RunBound p = (calls : List Call) → madeByAll calls (start p) ≤ mostRounds p
 

@@ -1,1 +1,1 @@
-// Definitions and theorems; no code.
+// Definitions, the claims and the worked nights; no code.

@@ -1,13 +1,12 @@
 -- Messages: their sorts, what is sent to whom, and what a view comes to once the Infos of a channel are in.
-use mathlib.Core.Path.{_≡_, refl, sym, ap, _∙_}
-use mathlib.Core.Logic.{_≢_, _⊎_, inl, inr}
+use mathlib.Core.Path.{_≡_, refl}
+use mathlib.Core.Logic.{_⊎_, inl, inr}
 use mathlib.Core.List.{List, [], _∷_, _++_}
-use mathlib.Core.Bool.{true, false}
 use Prim.Native.Nat.{ℕ}
 use lib.Dec.{eqb}
 use Rattle.base.proofs.Tests.{test}
 use Rattle.base.proofs.Lists.{All, All-append}
-use Rattle.agent_rules.specs.Message.{Assignment, Message, Info, Back, AddLink, Post, sentTo}
+use Rattle.agent_rules.specs.Message.{Message, Info, Back, AddLink, Post, sentTo}
 
 -- ---- sorts
 

@@ -8,12 +8,12 @@ use Rattle.base.proofs.Lists.{All, Any}
 use Rattle.problem.specs.Problem.{Problem, linked, Obeys}
 use Rattle.agent_rules.specs.Message.{Assignment, known, Message, Info, Back, AddLink, sentTo}
 use Rattle.agent_rules.specs.Agent.{Agent, Step}
-use Rattle.agent_rules.proofs.Messages.{IsAddLink, Refuses, seen}
-use Rattle.agent_rules.proofs.Facts.{Excludes, Good, Facts}
+use Rattle.agent_facts.proofs.Messages.{IsAddLink, Refuses, seen}
+use Rattle.agent_facts.proofs.Facts.{Excludes, Good, Facts}
 use Rattle.protocol.specs.Network.{Network, selfOf, bansOf}
 use Rattle.protocol.specs.Delivery.{Accepted, Delivery}
 use Rattle.protocol.specs.Run.{Line}
 use Rattle.protocol.specs.Calls.{isLine, attemptOf}
 
 -- ---- a move
 

@@ -2,17 +2,17 @@
 -- this record again, and nothing above it moves.
 use mathlib.Core.Path.{_≡_}
 use mathlib.Core.Logic.{_≢_, _⊎_}
-use mathlib.Core.List.{List, [], _∷_}
+use mathlib.Core.List.{[], _∷_}
 use mathlib.Core.Bool.{Bool, true, false, not, _&&_, cond}
-use mathlib.Core.Option.{Option, none, some}
-use Prim.Native.Nat.{ℕ, suc, _≤_, _<_}
+use mathlib.Core.Option.{none, some}
+use Prim.Native.Nat.{ℕ, _≤_, _<_}
 use Rattle.base.specs.Finite.{at, within, isSome}
 use Rattle.problem.specs.Problem.{maxAgents}
 use Rattle.base.proofs.Lists.{All, Any}
 use Rattle.agent_rules.specs.Message.{Assignment, known, Message, Info, Back, AddLink, sentTo}
 use Rattle.agent_rules.specs.Agent.{Self, Bans, Agent, Step}
 use Rattle.agent_rules.specs.Receiving.{chooses}
-use Rattle.agent_rules.proofs.Messages.{IsInfo, IsBack, IsAddLink, Not, Tells, Refuses, OneLink, seen}
+use Rattle.agent_facts.proofs.Messages.{IsInfo, IsBack, IsAddLink, Not, Refuses, OneLink, seen}
 
 -- an agent at this value is banned against that agent's known value in a view
 abbrev pub Barred : Bans → Assignment → ℕ → ℕ → Type 0

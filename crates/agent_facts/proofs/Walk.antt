@@ -1,0 +1,100 @@
+-- The walk over the own values ("Go through own slots upward"): the value taken is free, and where none is taken every value has a nogood.
+-- A stored nogood stays; a new one names a single agent, whose known value bars the own value.
+use mathlib.Core.Path.{_≡_, refl, sym, _∙_}
+use mathlib.Core.Logic.{_⊎_, inl, inr, ⊎-elim}
+use mathlib.Core.Bool.{true, and-eq-true-iff, false≢true}
+use mathlib.Core.Option.{Option, none, some}
+use Prim.Native.Nat.{ℕ, zero, suc, _+_, _≤_, _<_}
+use native.Mathlib.Omega.{arith}
+use Rattle.base.specs.Finite.{at, isSome}
+use Rattle.base.proofs.Tests.{opt, no-some, eq-test}
+use Rattle.base.proofs.Search.{lowest-some, lowest-none, at-same, at-other}
+use Rattle.agent_rules.specs.Message.{Assignment, known}
+use Rattle.agent_rules.specs.Agent.{Self, Bans, Nogoods, above}
+use Rattle.agent_rules.specs.Choosing.{bars, blame, only, blaming, reasonOf, reason, Choice, choose}
+use Rattle.agent_facts.proofs.Facts.{Barred}
+use Rattle.agent_facts.proofs.Assignments.{to-above}
+
+-- the bans name agents above
+abbrev pub Upward : Self → Bans → Type 0
+Upward s bans = (k v w : ℕ) → bans k v w ≡ true → (1 ≤ k) × (k < s .number)
+
+-- ---- whom to blame
+
+pub blame-some : (s : Self) (bans : Bans) (view : Assignment) (v k : ℕ) → blame s bans view v ≡ some k → Barred bans view v k
+unfolding blame bars
+blame-some s bans view v k e = and-eq-true-iff (known (view k)) (bans k (view k) v) .0 (lowest-some (above s) 1 (bars bans view v) k e)
+
+pub blame-none : (s : Self) (bans : Bans) (view : Assignment) → Upward s bans → (v : ℕ) → blame s bans view v ≡ none
+    → (k : ℕ) → Barred bans view v k → ⊥
+unfolding blame bars
+blame-none s bans view up v e k b =
+    let (l, h) = up k (view k) v (b .1) in
+    false≢true
+    (sym (lowest-none (above s) 1 (bars bans view v) e k l (omega (arith, to-above s k h))) ∙ and-eq-true-iff _ _ .1 b)
+
+-- a value tried is free
+reason-none : (view : Assignment) (o : Option Assignment) (b : Option ℕ) → reasonOf o (blaming view b) ≡ none → (o ≡ none) × (b ≡ none)
+unfolding reasonOf blaming
+reason-none view none none e = (refl, refl)
+reason-none view none (some k) e = no-some (sym e)
+reason-none view (some lhs) b e = no-some (sym e)
+
+-- it is not: its nogood was stored, or it is barred
+reason-some : (view : Assignment) (o : Option Assignment) (b : Option ℕ) (lhs : Assignment) → reasonOf o (blaming view b) ≡ some lhs
+    → (o ≡ some lhs) ⊎ ((k : ℕ) × (b ≡ some k) × (only k (view k) ≡ lhs))
+unfolding reasonOf blaming
+reason-some view none none lhs e = no-some e
+reason-some view none (some k) lhs e = let y : only k (view k) ≡ lhs = cc in inr (k, refl, y)
+reason-some view (some l) b lhs e = inl e
+
+-- ---- the walk
+
+-- what a walk over m values from v on, with these nogoods before it, gives
+pub record Walked (bans : Bans) (view : Assignment) (m v : ℕ) (before : Nogoods) (c : Choice) : Type 0 where
+  pub given : (w : ℕ) (lhs : Assignment) → c .nogoods w ≡ some lhs
+      → (before w ≡ some lhs) ⊎ ((k : ℕ) × Barred bans view w k × (only k (view k) ≡ lhs))
+  pub grows : (w : ℕ) → isSome (before w) ≡ true → isSome (c .nogoods w) ≡ true
+  pub taken : (w : ℕ) → c .value ≡ some w
+      → (v ≤ w) × (w < v + m) × (c .nogoods w ≡ none) × ((k : ℕ) → Barred bans view w k → ⊥)
+  pub full : c .value ≡ none → (w : ℕ) → v ≤ w → w < v + m → isSome (c .nogoods w) ≡ true
+
+pub walked : (s : Self) (bans : Bans) (view : Assignment) → Upward s bans → (m v : ℕ) (before : Nogoods)
+    → Walked bans view m v before (choose m v s bans view before)
+unfolding choose reason isSome
+walked s bans view up zero v before =
+    record { given = λ w lhs e. inl e; grows = λ w h. h; taken = λ w e. no-some e; full = λ _ w l h. absurd (omega arith) }
+walked s bans view up (suc m) v before =
+    opt (reason s bans view before v)
+    (λ e. rw (e, choose)
+    (let (n, b) = reason-none view (before v) (blame s bans view v) e in
+    record {
+      given = λ w lhs h. inl h;
+      grows = λ w h. h;
+      taken = λ w h. let q : v ≡ w = cc in rw (← q) (omega arith, omega arith, n, blame-none s bans view up v b);
+      full = λ h. no-some (sym h);
+    }))
+    (λ lhs e. rw (e, choose)
+    (tried lhs e (choose m (suc v) s bans view (at before v (some lhs))) (walked s bans view up m (suc v) (at before v (some lhs)))))
+  where
+    tried : (l : Assignment) → reason s bans view before v ≡ some l → (c : Choice) → Walked bans view m (suc v) (at before v (some l)) c
+        → Walked bans view (suc m) v before c
+    tried l e c W =
+        record {
+          given = λ w lhs h.
+              ⊎-elim
+              (λ q. eq-test w v
+              (λ u.
+              let z : some l ≡ some lhs = rw (u, at-same) at q in
+              rw u
+              (⊎-elim (λ o. inl o) (λ (k, b, o). inr (k, blame-some s bans view v k b, o))
+              (reason-some view (before v) (blame s bans view v) lhs (e ∙ z))))
+              (λ u. inl (rw (at-other before v (some l) w u) at q)))
+              (λ q. inr q)
+              (W .given w lhs h);
+          grows = λ w h. W .grows w
+              (eq-test w v (λ u. rw (u, at-same)) (λ u. rw (at-other before v (some l) w u) h));
+          taken = λ w h. let (a, b, n, f) = W .taken w h in (omega arith, omega arith, n, f);
+          full = λ h w a b.
+              eq-test w v (λ u. W .grows w (rw (u, at-same))) (λ u. W .full h w (omega arith) (omega arith));
+        }

@@ -1,0 +1,1 @@
+// The agent facts: theorems about the agent's rules; no code.

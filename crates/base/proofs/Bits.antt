@@ -1,0 +1,111 @@
+-- Setting a bit: that bit is 1 then, every other is as it was, and the number stays below the same power of two.
+-- All by halving: bit k + 1 of x is bit k of x / 2.
+use mathlib.Core.Path.{_≡_, refl, sym, ap, _∙_}
+use mathlib.Core.Logic.{_≢_, _⊎_, inl, inr}
+use mathlib.Core.Bool.{true, false, false≢true}
+use Prim.Native.Nat.{ℕ, zero, suc, _+_, _/_, _%_, _^_, _≤_, _<_}
+use native.Mathlib.Nat.{pow-succ', div-div-eq-div-mul, div-one}
+use native.Mathlib.Omega.{arith}
+use lib.Dec.{eqb}
+use borrow.Author.Tests.{eqb-true, eqb-false, eq-eqb}
+use Rattle.base.specs.Bits.{bit, withBit}
+use Rattle.base.proofs.Tests.{test}
+
+-- ---- halving
+
+pub bit-zero : (x : ℕ) → bit x 0 ≡ eqb (x % 2) 1
+unfolding bit
+bit-zero x = ap (λ (y : ℕ). eqb (y % 2) 1) (div-one x)
+
+pub bit-suc : (x k : ℕ) → bit x (suc k) ≡ bit (x / 2) k
+unfolding bit
+bit-suc x k = rw (pow-succ' 2 k, ← div-div-eq-div-mul x 2 (2 ^ k))
+
+half-plus : (x k : ℕ) → (x + 2 ^ suc k) / 2 ≡ x / 2 + 2 ^ k
+half-plus x k = omega arith
+
+parity-plus : (x k : ℕ) → (x + 2 ^ suc k) % 2 ≡ x % 2
+parity-plus x k = omega arith
+
+-- ---- adding 2 ^ k where bit k is 0
+
+plus-same : (k x : ℕ) → bit x k ≡ false → bit (x + 2 ^ k) k ≡ true
+plus-same zero x e =
+    let h = eqb-false (x % 2) 1 (sym (bit-zero x) ∙ e) in bit-zero (x + 1) ∙ eq-eqb ((x + 1) % 2) 1 (odd x h)
+  where
+    odd : (x : ℕ) → (x % 2 ≡ 1 → ⊥) → (x + 1) % 2 ≡ 1
+    odd x h = omega (arith, h)
+plus-same (suc k) x e =
+    rw (bit-suc (x + 2 ^ suc k) k, half-plus x k) (plus-same k (x / 2) (sym (bit-suc x k) ∙ e))
+
+plus-other : (k x j : ℕ) → j ≢ k → bit x k ≡ false → bit (x + 2 ^ k) j ≡ bit x j
+plus-other zero x zero n e = absurd (n refl)
+plus-other zero x (suc j) n e =
+    let h = eqb-false (x % 2) 1 (sym (bit-zero x) ∙ e) in
+    rw (bit-suc (x + 1) j, bit-suc x j) (ap (λ (y : ℕ). bit y j) (half x h))
+  where
+    half : (x : ℕ) → (x % 2 ≡ 1 → ⊥) → (x + 1) / 2 ≡ x / 2
+    half x h = omega (arith, h)
+plus-other (suc k) x zero n e = rw (bit-zero (x + 2 ^ suc k), bit-zero x, parity-plus x k)
+plus-other (suc k) x (suc j) n e =
+    rw (bit-suc (x + 2 ^ suc k) j, bit-suc x j, half-plus x k)
+    (plus-other k (x / 2) j (λ q. n (ap suc q)) (sym (bit-suc x k) ∙ e))
+
+plus-below : (k m x : ℕ) → k < m → x < 2 ^ m → bit x k ≡ false → x + 2 ^ k < 2 ^ m
+plus-below zero (suc m) x l h e =
+    let n = eqb-false (x % 2) 1 (sym (bit-zero x) ∙ e) in omega (arith, n)
+plus-below (suc k) (suc m) x l h e =
+    let r = plus-below k m (x / 2) (omega arith) (omega arith) (sym (bit-suc x k) ∙ e) in omega arith
+plus-below k zero x l h e = absurd (omega arith)
+
+-- ---- setting a bit
+
+pub withBit-same : (x k : ℕ) → bit (withBit x k) k ≡ true
+unfolding withBit
+withBit-same x k = test (bit x k) (λ e. rw e e) (λ e. rw e (plus-same k x e))
+
+pub withBit-other : (x k j : ℕ) → j ≢ k → bit (withBit x k) j ≡ bit x j
+unfolding withBit
+withBit-other x k j n = test (bit x k) (λ e. rw e) (λ e. rw e (plus-other k x j n e))
+
+-- a bit that is 1 after bit k was set
+pub withBit-cases : (x k j : ℕ) → bit (withBit x k) j ≡ true → (bit x j ≡ true) ⊎ (j ≡ k)
+withBit-cases x k j e =
+    test (eqb j k) (λ q. inr (eqb-true j k q)) (λ q. inl (sym (withBit-other x k j (eqb-false j k q)) ∙ e))
+
+pub withBit-keeps : (x k j : ℕ) → bit x j ≡ true → bit (withBit x k) j ≡ true
+withBit-keeps x k j e =
+    test (eqb j k)
+    (λ q. rw (eqb-true j k q) (withBit-same x k))
+    (λ q. withBit-other x k j (eqb-false j k q) ∙ e)
+
+pub withBit-below : (x k m : ℕ) → k < m → x < 2 ^ m → withBit x k < 2 ^ m
+unfolding withBit
+withBit-below x k m l h = test (bit x k) (λ e. rw e h) (λ e. rw e (plus-below k m x l h e))
+
+-- ---- zero has no bit, and nothing else has none
+
+pub bit-of-zero : (k : ℕ) → bit 0 k ≡ false
+bit-of-zero zero = bit-zero 0
+bit-of-zero (suc k) = bit-suc 0 k ∙ bit-of-zero k
+
+-- a bit makes a number positive
+pub bit-positive : (x k : ℕ) → bit x k ≡ true → 1 ≤ x
+bit-positive zero k e = absurd (false≢true (sym (bit-of-zero k) ∙ e))
+bit-positive (suc x) k e = omega arith
+
+-- a positive number below 2 ^ m has a bit below m
+pub some-bit : (m x : ℕ) → 1 ≤ x → x < 2 ^ m → (k : ℕ) × (k < m) × (bit x k ≡ true)
+some-bit zero x l h = absurd (omega arith)
+some-bit (suc m) x l h =
+    test (eqb (x % 2) 1)
+    (λ e. (0, omega arith, bit-zero x ∙ e))
+    (λ e.
+    let n = eqb-false (x % 2) 1 e in
+    let r = some-bit m (x / 2) (omega (arith, n)) (omega arith) in
+    (suc (r .0), omega arith, bit-suc x (r .0) ∙ r .2))
+
+pub no-bits : (m x : ℕ) → x < 2 ^ m → ((k : ℕ) → k < m → bit x k ≡ false) → x ≡ 0
+no-bits m zero l h = refl
+no-bits m (suc x) l h =
+    let r = some-bit m (suc x) (omega arith) l in absurd (false≢true (sym (h (r .0) (r .1)) ∙ r .2))

@@ -1,0 +1,107 @@
+-- A run counts a round exactly if it is full at its place in the list, and returns how many it counts. A round's accepted tries lie within its
+-- visits, and those have each channel as often as messages wait on it: they are as many in all exactly if they are as many on each channel.
+use mathlib.Core.Path.{_≡_, refl, ap}
+use mathlib.Core.Bool.{true, false}
+use mathlib.Core.List.{List, [], _∷_, _++_, map, map-append, append-nil, append-assoc}
+use Prim.Native.Nat.{ℕ, _+_}
+use native.Mathlib.Omega.{arith}
+use Rattle.base.proofs.Counting.{countIf, sublist-whole, sublist-full}
+use Rattle.problem.specs.Problem.{Problem, inRange}
+use Rattle.protocol.specs.Network.{Network, start}
+use Rattle.protocol.specs.Run.{Line, idle, round, Round, oneIf, run}
+use Rattle.protocol.specs.Calls.{
+  lineOf,
+  triesOf,
+  triedByAll,
+  replay,
+  isLine,
+  acceptedOn,
+  Stretch,
+  linesOf,
+  markedIn,
+  ExactlyFull,
+  roundStretch,
+}
+use Rattle.protocol.specs.Claims.{RunsCount, EveryProblem}
+use Rattle.theorems.proofs.Moves.{Invariant}
+use Rattle.theorems.proofs.Rounds.{Full}
+use Rattle.theorems.proofs.Reached.{reached}
+use Rattle.theorems.proofs.Tries.{replay-append, acceptedIn, accepted-count}
+use Rattle.theorems.proofs.Running.{round-swept, roundOf, counts-if, counts-only-if, run-keeps}
+use Rattle.theorems.proofs.Replay.{FollowsRounds, rounds-none, rounds-more, calls-replay}
+use Rattle.theorems.proofs.Visits.{line-self, visits-most, visits-least, busy-waits}
+use Rattle.theorems.proofs.Markings.{marked-append, from-full, to-full}
+
+-- ---- one round
+
+accepted-on : (w : Network) (i j : ℕ)
+    → acceptedOn i j (map lineOf (roundOf w .tried)) w ≡ countIf (isLine i j) (acceptedIn (roundOf w .tried))
+unfolding roundOf
+accepted-on w i j = accepted-count i j (round w .tried) w (round-swept w .follows .sees)
+
+counted-full : (p : Problem) (w : Network) → Invariant p w → idle w ≡ false → roundOf w .full ≡ true
+    → Full (map lineOf (roundOf w .tried)) w
+unfolding roundOf
+counted-full p w I b e =
+    let q = sublist-whole (round-swept w .within) (counts-only-if w e) in
+    record { waits = busy-waits w b; delivers = λ i j. rw (accepted-on w i j, q) (visits-least p w I i j) }
+
+full-counted : (w : Network) → Full (map lineOf (roundOf w .tried)) w → roundOf w .full ≡ true
+unfolding roundOf
+full-counted w F =
+    counts-if w (sublist-full (λ l. isLine (l .from) (l .to)) line-self (round-swept w .within)
+    (λ l. let i = l .from in let j = l .to in omega (arith, visits-most w i j, F .delivers i j, accepted-on w i j)))
+
+-- ---- the rounds of a run, as stretches of the list
+
+pub lines-tries : (rs : List Round) → linesOf (map roundStretch rs) ≡ triesOf rs
+unfolding linesOf roundStretch triesOf
+lines-tries [] = refl
+lines-tries (r ∷ rs) = ap (λ ls. map lineOf (r .tried) ++ ls) (lines-tries rs)
+
+exactly-append : (p : Problem) (before : List Line) (ss ts : List Stretch) → ExactlyFull p before ss
+    → ExactlyFull p (before ++ linesOf ss) ts → ExactlyFull p before (ss ++ ts)
+unfolding linesOf
+exactly-append p before [] ts E F = rw (append-nil before) at F
+exactly-append p before (s ∷ ss) ts E F =
+    (E .0, E .1, exactly-append p (before ++ s .lines) ss ts (E .2) (rw (append-assoc before (s .lines) (linesOf ss)) F))
+
+-- ---- the run
+
+-- the rounds made so far, behind what was tried before the run, and how many were counted
+pub record Counted (p : Problem) (before : List Line) (made : ℕ) (rs : List Round) (w : Network) : Type 0 where
+  pub follows : FollowsRounds (replay before (start p)) rs w
+  pub exact : ExactlyFull p before (map roundStretch rs)
+  pub returned : made ≡ markedIn (map roundStretch rs)
+
+counted-more : (p : Problem) → inRange p ≡ true → (before : List Line) (made : ℕ) (rs : List Round) (w : Network) → w .verdict ≡ false
+    → idle w ≡ false → Counted p before made rs w
+    → Counted p before (made + oneIf (roundOf w .full)) (rs ++ (roundOf w ∷ [])) (round w .network)
+unfolding roundStretch markedIn
+counted-more p r before made rs w v b C =
+    let s = roundStretch (roundOf w) in
+    let here : replay (before ++ linesOf (map roundStretch rs)) (start p) ≡ w =
+    rw (lines-tries rs, replay-append before (triesOf rs) (start p)) (C .follows .leaves) in
+    let I : Invariant p w = rw here at (reached p r (before ++ linesOf (map roundStretch rs)) (rw here v)) in
+    record {
+      follows = rounds-more (replay before (start p)) w rs (C .follows);
+      exact = rw (map-append roundStretch rs (roundOf w ∷ []))
+          (exactly-append p before (map roundStretch rs) (s ∷ []) (C .exact)
+          (λ m. from-full p _ _ (rw here (counted-full p w I b m)), λ F. full-counted w (rw here at (to-full p _ _ F)), tt));
+      returned = rw (map-append roundStretch rs (roundOf w ∷ []), marked-append (map roundStretch rs) (s ∷ []), C .returned)
+          (omega arith);
+    }
+
+-- a run from any network that is reached
+pub run-counted : (p : Problem) → inRange p ≡ true → (before : List Line) (k : ℕ)
+    → Counted p before (run k (replay before (start p)) .made) (run k (replay before (start p)) .rounds) (run k (replay before (start p)) .network)
+unfolding markedIn
+run-counted p r before k =
+    run-keeps (Counted p before) (counted-more p r before) k (replay before (start p))
+    (record { follows = rounds-none (replay before (start p)); exact = tt; returned = refl })
+
+pub runs-count : EveryProblem RunsCount
+runs-count p r calls k =
+    let C = run-counted p r (triedByAll calls (start p)) k in
+    let e = calls-replay calls (start p) in
+    record { cuts = lines-tries _; exact = rw e (C .exact); returned = rw e (C .returned) }

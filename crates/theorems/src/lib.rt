@@ -1,0 +1,1 @@
+// Theorems about the network and lists of calls; no code.
