@@ -1,4 +1,4 @@
--- How many elements of a list pass a test; and lists within lists: one that is as long as the list that it lies in, or has as many of each
+-- How many elements of a list pass a test, how many of 1 to m miss one; and lists within lists: one that is as long as the list that it lies in, or has as many of each
 -- element, is that list.
 use mathlib.Core.Path.{_≡_, refl, sym, ap}
 use mathlib.Core.Logic.{_≢_}
@@ -98,3 +98,38 @@ sublist-full same r empty h = refl
 sublist-full same r (kept {x = x} S) h = ap suc (sublist-full same r S (λ z. omega (arith, h z)))
 sublist-full same r (omitted {y = y} S) h =
     absurd (omega (arith, rw (r y) at (h y), sublist-count (same y) S))
+
+-- ---- how many of 1 to m miss a test
+
+unfoldable pub misses : ℕ → (ℕ → Bool) → ℕ
+misses zero p = 0
+misses (suc m) p = cond (p (suc m)) 0 1 + misses m p
+
+pub misses-most : (m : ℕ) (p : ℕ → Bool) → misses m p ≤ m
+unfolding misses
+misses-most zero p = omega arith
+misses-most (suc m) p =
+    let i = misses-most m p in
+    test (p (suc m)) (λ e. rw e (omega arith)) (λ e. rw e (omega arith))
+
+-- where more pass, fewer miss
+pub misses-le : (m : ℕ) (p q : ℕ → Bool) → ((k : ℕ) → p k ≡ true → q k ≡ true) → misses m q ≤ misses m p
+unfolding misses
+misses-le zero p q h = omega arith
+misses-le (suc m) p q h =
+    let i = misses-le m p q h in
+    test (p (suc m))
+    (λ e. rw (e, h (suc m) e) (omega arith))
+    (λ e. test (q (suc m)) (λ g. rw (e, g) (omega arith)) (λ g. rw (e, g) (omega arith)))
+
+pub misses-lt : (m : ℕ) (p q : ℕ → Bool) → ((k : ℕ) → p k ≡ true → q k ≡ true)
+    → (j : ℕ) → 1 ≤ j → j ≤ m → p j ≡ false → q j ≡ true → misses m q < misses m p
+unfolding misses
+misses-lt zero p q h j l u a b = absurd (omega arith)
+misses-lt (suc m) p q h j l u a b =
+    test (eqb j (suc m))
+    (λ e. let i = misses-le m p q h in let z = eqb-true j (suc m) e in rw (rw z at a, rw z at b) (omega arith))
+    (λ e. let i = misses-lt m p q h j l (omega (arith, eqb-false j (suc m) e)) a b in
+    test (p (suc m))
+    (λ f. rw (f, h (suc m) f) (omega arith))
+    (λ f. test (q (suc m)) (λ g. rw (f, g) (omega arith)) (λ g. rw (f, g) (omega arith))))

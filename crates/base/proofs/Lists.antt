@@ -3,7 +3,9 @@ use mathlib.Core.Path.{_≡_, refl}
 use mathlib.Core.Bool.{Bool, true}
 use mathlib.Core.Logic.{_⊎_, inl, inr}
 use mathlib.Core.List.{List, [], _∷_, _++_}
-use Rattle.base.specs.Finite.{every}
+use Prim.Native.Nat.{ℕ, zero, suc, _+_, _≤_, _<_}
+use native.Mathlib.Omega.{arith}
+use Rattle.base.specs.Finite.{every, gather}
 use Rattle.base.proofs.Tests.{both, to-both}
 
 abbrev pub All : {A : Type 0} → (A → Type 0) → List A → Type 0
@@ -44,6 +46,12 @@ any-all P Q f [] a h = a
 any-all P Q f (x ∷ xs) (inl a) h = f x a (h .0)
 any-all P Q f (x ∷ xs) (inr a) h = any-all P Q f xs a (h .1)
 
+-- where none has P, all have Q
+pub all-but : {A : Type 0} (P Q : A → Type 0) (l : List A) → All (λ x. P x ⊎ Q x) l → (Any P l → ⊥) → All Q l
+all-but P Q [] h f = tt
+all-but P Q (x ∷ xs) (inl h, hs) f = absurd (f (inl h))
+all-but P Q (x ∷ xs) (inr h, hs) f = (h, all-but P Q xs hs (λ a. f (inr a)))
+
 -- ---- each element passes
 
 pub every-all : {A : Type 0} (p : A → Bool) (l : List A) → every p l ≡ true → All (λ x. p x ≡ true) l
@@ -55,3 +63,11 @@ pub to-every : {A : Type 0} (p : A → Bool) (l : List A) → All (λ x. p x ≡
 unfolding every
 to-every p [] h = refl
 to-every p (x ∷ xs) h = to-both (p x) (every p xs) (h .0) (to-every p xs (h .1))
+
+pub gather-all : {A : Type 0} (P : A → Type 0) (f : ℕ → List A) (m k : ℕ) → ((j : ℕ) → k ≤ j → j < k + m → All P (f j))
+    → All P (gather m k f)
+unfolding gather
+gather-all P f zero k h = tt
+gather-all P f (suc m) k h =
+    All-append P (f k) (gather m (suc k) f) (h k (omega arith) (omega arith))
+    (gather-all P f m (suc k) (λ j l u. h j (omega arith) (omega arith)))

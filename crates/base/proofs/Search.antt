@@ -5,10 +5,10 @@ use mathlib.Core.Bool.{Bool, true, false, _&&_, and-eq-true-iff, false≢true}
 use mathlib.Core.Option.{Option, none, some}
 use Prim.Native.Nat.{ℕ, zero, suc, _+_, _≤_, _<_}
 use native.Mathlib.Omega.{arith}
-use lib.Dec.{eqb}
-use borrow.Author.Tests.{eqb-true, eqb-false, eq-eqb, ne-eqb}
-use Rattle.base.specs.Finite.{at, lowest, highest, allTo}
-use Rattle.base.proofs.Tests.{test, no-some}
+use lib.Dec.{eqb, leb}
+use borrow.Author.Tests.{eqb-true, eqb-false, eq-eqb, ne-eqb, leb-true, leb-false}
+use Rattle.base.specs.Finite.{at, lowest, highest, allTo, greatest}
+use Rattle.base.proofs.Tests.{test, eq-test, no-some}
 
 -- ---- the lowest of the m numbers from k on
 
@@ -89,6 +89,20 @@ unfolding allTo
 allTo-false zero p e = absurd (false≢true (sym e))
 allTo-false (suc m) p e = test (p (suc m)) (λ h. allTo-false m p (rw h at e)) (λ h. (suc m, h))
 
+-- ---- the greatest
+
+pub le-greatest : (m : ℕ) (f : ℕ → ℕ) (i : ℕ) → 1 ≤ i → i ≤ m → f i ≤ greatest m f
+unfolding greatest
+le-greatest zero f i l h = absurd (omega arith)
+le-greatest (suc m) f i l h =
+    test (leb (f (suc m)) (greatest m f))
+    (λ e. rw (e, greatest) (test (eqb i (suc m))
+    (λ u. rw (eqb-true i (suc m) u) (leb-true (f (suc m)) (greatest m f) e))
+    (λ u. le-greatest m f i l (omega (arith, eqb-false i (suc m) u)))))
+    (λ e. rw (e, greatest) (test (eqb i (suc m))
+    (λ u. rw (eqb-true i (suc m) u) (omega arith))
+    (λ u. omega (arith, le-greatest m f i l (omega (arith, eqb-false i (suc m) u)), leb-false (f (suc m)) (greatest m f) e))))
+
 -- ---- maps
 
 pub at-same {ℓ} : {A : Type ℓ} (f : ℕ → A) (i : ℕ) (a : A) → at f i a i ≡ a
@@ -98,3 +112,7 @@ at-same f i a = rw (eq-eqb i i refl, at)
 pub at-other {ℓ} : {A : Type ℓ} (f : ℕ → A) (i : ℕ) (a : A) (j : ℕ) → j ≢ i → at f i a j ≡ f j
 unfolding at
 at-other f i a j h = rw (ne-eqb j i h, at)
+
+-- what holds of the new entry, and of the old ones elsewhere, holds of the changed map
+pub at-cases {ℓ} : {A : Type ℓ} (P : A → Type 0) (f : ℕ → A) (i : ℕ) (a : A) (j : ℕ) → (j ≡ i → P a) → (j ≢ i → P (f j)) → P (at f i a j)
+at-cases P f i a j h g = eq-test j i (λ e. rw (e, at-same f i a) (h e)) (λ n. rw (at-other f i a j n) (g n))

@@ -2,6 +2,4 @@ pub mod Network
 pub mod Shape
 pub mod Delivery
 pub mod Run
-pub mod Calls
-pub mod Claims
 pub mod Nights

@@ -30,6 +30,10 @@ pub record Line : Type 0 where
   pub from : ℕ
   pub to : ℕ
 
+-- the line is the one from i to j
+unfoldable pub isLine : ℕ → ℕ → Line → Bool
+isLine i j l = eqb i (l .from) && eqb j (l .to)
+
 -- a delivery tried on a line, and what it was answered
 pub record Try : Type 0 where
   pub line : Line

@@ -9,12 +9,12 @@ use native.Mathlib.Omega.{arith}
 use borrow.Author.Tests.{lt-ltb}
 use Rattle.base.proofs.Tests.{test, to-within}
 use Rattle.problem.specs.Problem.{Problem, domain, owns, banned, inRange, Obeys}
-use Rattle.problem.proofs.Table.{banned-linked, banned-inside}
+use Rattle.problem.proofs.Range.{ranged, banned-linked, banned-inside}
 use Rattle.agent_rules.specs.Message.{Assignment, known}
 use Rattle.agent_facts.proofs.Messages.{seen}
 use Rattle.protocol.specs.Network.{Network, selfOf, bansOf, start}
 use Rattle.protocol.specs.Run.{Line}
-use Rattle.protocol.specs.Calls.{replay}
+use Rattle.theorems.specs.Calls.{replay}
 use Rattle.theorems.proofs.Moves.{Linked, Invariant}
 use Rattle.theorems.proofs.Reached.{reach-all, reached}
 
@@ -35,7 +35,7 @@ at-rest p r w I e =
   where
     broken : (i j : ℕ) → banned p i j (w .agents i .value) (w .agents j .value) ≡ true → ⊥
     broken i j b =
-        let (l, h, n) = banned-inside p r i j _ _ b in
+        let (l, h, n) = banned-inside p (ranged p r) i j _ _ b in
         let G = I .good j (omega arith) n in
         let P = rw (e i j, e j i) at (I .links .pair i j (I .links .linked i j (banned-linked p i j _ _ b))) in
         let s = true-view _ (w .agents j .view i) (w .agents i .value) P in

@@ -7,7 +7,7 @@ use Prim.Native.Nat.{_+_}
 use Rattle.problem.specs.Problem.{Problem, inRange}
 use Rattle.protocol.specs.Network.{Network, start}
 use Rattle.protocol.specs.Run.{Line, oneIf, run}
-use Rattle.protocol.specs.Calls.{
+use Rattle.theorems.specs.Calls.{
   Call,
   Deliver,
   Run,

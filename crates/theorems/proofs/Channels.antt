@@ -16,8 +16,7 @@ use Rattle.agent_rules.specs.Agent.{Agent, Step}
 use Rattle.agent_facts.proofs.Messages.{Tells, afterOne}
 use Rattle.agent_facts.proofs.Facts.{quietView, busyView, Answers, Quiet, Busy}
 use Rattle.protocol.specs.Network.{Network, selfOf, bansOf}
-use Rattle.protocol.specs.Run.{Line}
-use Rattle.protocol.specs.Calls.{isLine}
+use Rattle.protocol.specs.Run.{Line, isLine}
 use Rattle.theorems.proofs.Moves.{Move, OnChannel, hit, put, rest}
 
 -- ---- one agent, one channel

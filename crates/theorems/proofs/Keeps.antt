@@ -12,7 +12,7 @@ use Rattle.base.proofs.Tests.{test}
 use Rattle.base.proofs.Search.{at-other}
 use Rattle.base.proofs.Lists.{All, All-append, All-map, Any, any-right, any-tail}
 use Rattle.problem.specs.Problem.{Problem, inRange, Obeys}
-use Rattle.problem.proofs.Table.{count-in-range}
+use Rattle.problem.proofs.Range.{ranged}
 use Rattle.agent_rules.specs.Message.{Assignment, known, Message, Info, Back, AddLink, sentTo}
 use Rattle.agent_rules.specs.Agent.{Bans, Agent, Step}
 use Rattle.agent_facts.proofs.Messages.{IsInfo, IsAddLink, Not, Refuses, addlink-not-info, seen, seen-tells}
@@ -234,7 +234,7 @@ module _ (p : Problem) (r : inRange p ≡ true) (d : Line) (w w′ : Network) (I
           let unasked = no-request (bansOf p j) a i m (B .why) in
           let was : a .informs y ≡ true = ⊎-elim (λ q. q) (λ q. absurd (unasked (q .1))) (M .facts .joined y n) in
           let (one, low, high) = L .lower y j l in
-          let most = count-in-range p r .1 in
+          let most = ranged p r .high in
           ⊎-elim (λ q. inl q) (λ q. silent (q .0) (q .1) (λ e z. q .2 e)) (B .tells y low (omega arith) was)
 
   pair-kept : (x y : ℕ) → w′ .agents y .listens x ≡ true

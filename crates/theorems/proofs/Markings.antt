@@ -6,10 +6,10 @@ use Prim.Native.Nat.{ℕ, suc, _+_}
 use native.Mathlib.Omega.{arith}
 use Rattle.base.proofs.Tests.{test}
 use Rattle.problem.specs.Problem.{Problem}
-use Rattle.protocol.specs.Network.{Network, start}
+use Rattle.protocol.specs.Network.{start}
 use Rattle.protocol.specs.Run.{Line, oneIf}
-use Rattle.protocol.specs.Calls.{attemptOf, replay, FullRound, Stretch, linesOf, markedIn, AllFull}
-use Rattle.theorems.proofs.Rounds.{Full, Rounds, done, skip, full}
+use Rattle.theorems.specs.Calls.{replay, FullRound, Stretch, linesOf, markedIn, AllFull}
+use Rattle.theorems.proofs.Rounds.{Full, Rounds, done, full, skips}
 use Rattle.theorems.proofs.Tries.{replay-append}
 use Rattle.theorems.proofs.Waiting.{waits-channel}
 
@@ -43,12 +43,6 @@ pub from-full : (p : Problem) (before stretch : List Line) → Full stretch (rep
 from-full p before stretch F =
     let (i, j, h) = F .waits in
     record { waits = (i, j, rw (waits-channel p before i j) h); delivers = λ i j. rw (waits-channel p before i j) (F .delivers i j) }
-
--- tries with no round in them, in front
-skips : (r : ℕ) (gap ds : List Line) (w : Network) → Rounds r ds (replay gap w) → Rounds r (gap ++ ds) w
-unfolding replay
-skips r [] ds w R = R
-skips r (d ∷ gap) ds w R = skip (skips r gap ds (attemptOf d w .network) R)
 
 pub marking-rounds : (p : Problem) (before : List Line) (ss : List Stretch) → AllFull p before ss
     → Rounds (markedIn ss) (linesOf ss) (replay before (start p))

@@ -12,8 +12,8 @@ use Rattle.agent_facts.proofs.Messages.{IsAddLink, Refuses, seen}
 use Rattle.agent_facts.proofs.Facts.{Excludes, Good, Facts}
 use Rattle.protocol.specs.Network.{Network, selfOf, bansOf}
 use Rattle.protocol.specs.Delivery.{Accepted, Delivery}
-use Rattle.protocol.specs.Run.{Line}
-use Rattle.protocol.specs.Calls.{isLine, attemptOf}
+use Rattle.protocol.specs.Run.{Line, isLine}
+use Rattle.theorems.specs.Calls.{attemptOf}
 
 -- ---- a move
 

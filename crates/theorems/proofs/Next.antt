@@ -13,7 +13,7 @@ use Rattle.agent_facts.proofs.Facts.{Handed}
 use Rattle.protocol.specs.Network.{Network, selfOf, bansOf, withStep, withChannel, stepOn, handed}
 use Rattle.protocol.specs.Delivery.{Accepted, isAccepted, rejecting, numbersGood, deliver}
 use Rattle.protocol.specs.Run.{Line}
-use Rattle.protocol.specs.Calls.{attemptOf}
+use Rattle.theorems.specs.Calls.{attemptOf}
 use Rattle.agent_facts.proofs.Agent.{receive-facts, receive-ends}
 use Rattle.theorems.proofs.Moves.{Move, Waits, Invariant, Next, stays, moves, stops}
 use Rattle.theorems.proofs.Outcome.{Outcome, refused, accepted, outcome, numbers}

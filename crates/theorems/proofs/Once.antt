@@ -14,7 +14,7 @@ use Rattle.agent_facts.proofs.Messages.{IsAddLink, Not, Tells, OneLink, one-put
 use Rattle.agent_facts.proofs.Facts.{Sends}
 use Rattle.protocol.specs.Network.{Network, start}
 use Rattle.protocol.specs.Run.{Line}
-use Rattle.protocol.specs.Calls.{replay}
+use Rattle.theorems.specs.Calls.{replay}
 use Rattle.theorems.proofs.Moves.{Move, OnChannel, hit, put, rest, Waits, Invariant}
 use Rattle.theorems.proofs.Channels.{OnAgent, mine, other, on-agent, on-channel, is-line, Turn, turn, quiet-tells}
 use Rattle.theorems.proofs.Start.{no-requests}

@@ -21,6 +21,7 @@ use Rattle.protocol.specs.Delivery.{
   AlreadyInformed,
   NoRoom,
   Accepted,
+  isAccepted,
   Delivery,
   rejecting,
   numbersGood,
@@ -30,7 +31,7 @@ use Rattle.protocol.specs.Delivery.{
   deliver,
 }
 use Rattle.protocol.specs.Run.{Line}
-use Rattle.protocol.specs.Calls.{attemptOf}
+use Rattle.theorems.specs.Calls.{attemptOf}
 
 pub data Outcome (w : Network) (i j : ℕ) (t : Delivery) : Type 0 where
   refused : (r : Rejection) → t ≡ rejecting r w → Outcome w i j t
@@ -77,5 +78,13 @@ unfolding attemptOf rejecting
 shut d w v = go (outcome w (d .from) (d .to))
   where
     go : Outcome w (d .from) (d .to) (deliver w (d .from) (d .to)) → deliver w (d .from) (d .to) .network ≡ w
+    go (refused r e) = rw e
+    go (accepted u g m others l e) = absurd (false≢true (sym u ∙ v))
+
+pub refuses : (d : Line) (w : Network) → w .verdict ≡ true → isAccepted (attemptOf d w .answer) ≡ false
+unfolding attemptOf rejecting isAccepted
+refuses d w v = go (outcome w (d .from) (d .to))
+  where
+    go : Outcome w (d .from) (d .to) (deliver w (d .from) (d .to)) → isAccepted (deliver w (d .from) (d .to) .answer) ≡ false
     go (refused r e) = rw e
     go (accepted u g m others l e) = absurd (false≢true (sym u ∙ v))

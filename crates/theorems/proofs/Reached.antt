@@ -8,7 +8,7 @@ use Rattle.problem.specs.Problem.{Problem, inRange, Obeys}
 use Rattle.agent_rules.specs.Message.{Assignment}
 use Rattle.protocol.specs.Network.{Network, start}
 use Rattle.protocol.specs.Run.{Line}
-use Rattle.protocol.specs.Calls.{attemptOf, replay}
+use Rattle.theorems.specs.Calls.{attemptOf, replay}
 use Rattle.theorems.proofs.Moves.{Move, Invariant, Next, stays, moves, stops}
 use Rattle.theorems.proofs.Outcome.{shut}
 use Rattle.theorems.proofs.Next.{next}

@@ -5,7 +5,7 @@ use mathlib.Core.List.{List, [], _∷_, _++_, map, append-nil, append-assoc}
 use Prim.Native.Nat.{ℕ}
 use Rattle.protocol.specs.Network.{Network}
 use Rattle.protocol.specs.Run.{Round, round, run}
-use Rattle.protocol.specs.Calls.{
+use Rattle.theorems.specs.Calls.{
   Call,
   Deliver,
   Run,
@@ -20,7 +20,7 @@ use Rattle.protocol.specs.Calls.{
   attemptOf,
   replay,
 }
-use Rattle.protocol.specs.Claims.{Replay}
+use Rattle.theorems.specs.Claims.{Replay}
 use Rattle.theorems.proofs.Tries.{replay-append, Follows, follows-none, follows-append}
 use Rattle.theorems.proofs.Running.{round-swept, roundOf, run-keeps}
 

@@ -8,21 +8,9 @@ use native.Mathlib.Omega.{arith}
 use Rattle.base.proofs.Counting.{countIf, sublist-whole, sublist-full}
 use Rattle.problem.specs.Problem.{Problem, inRange}
 use Rattle.protocol.specs.Network.{Network, start}
-use Rattle.protocol.specs.Run.{Line, idle, round, Round, oneIf, run}
-use Rattle.protocol.specs.Calls.{
-  lineOf,
-  triesOf,
-  triedByAll,
-  replay,
-  isLine,
-  acceptedOn,
-  Stretch,
-  linesOf,
-  markedIn,
-  ExactlyFull,
-  roundStretch,
-}
-use Rattle.protocol.specs.Claims.{RunsCount, EveryProblem}
+use Rattle.protocol.specs.Run.{Line, idle, round, Round, oneIf, run, isLine}
+use Rattle.theorems.specs.Calls.{lineOf, triesOf, triedByAll, replay, acceptedOn, Stretch, linesOf, markedIn, ExactlyFull, roundStretch}
+use Rattle.theorems.specs.Claims.{RunsCount, EveryProblem}
 use Rattle.theorems.proofs.Moves.{Invariant}
 use Rattle.theorems.proofs.Rounds.{Full}
 use Rattle.theorems.proofs.Reached.{reached}

@@ -33,7 +33,7 @@ use Rattle.protocol.specs.Run.{
   allowed,
   run,
 }
-use Rattle.protocol.specs.Calls.{lineOf, answerOf, attemptOf}
+use Rattle.theorems.specs.Calls.{lineOf, answerOf, attemptOf}
 use Rattle.theorems.proofs.Tries.{Follows, follows-none, follows-one, follows-append, acceptedIn, accepted-append}
 
 -- ---- a round

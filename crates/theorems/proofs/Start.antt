@@ -11,7 +11,7 @@ use Rattle.base.proofs.Tests.{test, within-true, to-within}
 use Rattle.base.proofs.Search.{to-allTo}
 use Rattle.base.proofs.Lists.{All}
 use Rattle.problem.specs.Problem.{Problem, linked, inRange, Obeys}
-use Rattle.problem.proofs.Table.{count-in-range, domain-in-range, linked-inside}
+use Rattle.problem.proofs.Range.{ranged, linked-inside}
 use Rattle.agent_rules.specs.Message.{Info, sentTo}
 use Rattle.agent_rules.specs.Agent.{noAgent}
 use Rattle.agent_facts.proofs.Messages.{IsAddLink, Not, seen, afterOne}
@@ -26,7 +26,7 @@ module _ (p : Problem) (r : inRange p ≡ true) where
   unfolding begun selfOf
   begins i l h =
       begin-facts (Obeys p) (selfOf p i) (bansOf p i) (λ k. linked p k i) (λ k. linked p i k) (setting p r i l h)
-      (domain-in-range p r i l h .0) (λ k e. let q = linked-inside p r k i e in (q .0, q .1))
+      (ranged p r .domained i l h .0) (λ k e. let q = linked-inside p (ranged p r) k i e in (q .0, q .1))
 
   -- an agent of the problem has begun
   agent-in : (i : ℕ) → 1 ≤ i → i ≤ p .count → startAgent p i ≡ begun p i .agent
@@ -41,12 +41,12 @@ module _ (p : Problem) (r : inRange p ≡ true) where
 
   linked-listens : (x y : ℕ) → linked p x y ≡ true → startAgent p y .listens x ≡ true
   linked-listens x y e =
-      let (l, h, n) = linked-inside p r x y e in
+      let (l, h, n) = linked-inside p (ranged p r) x y e in
       rw (agent-in y (omega arith) n, begins y (omega arith) n .listened) e
 
   linked-informs : (x y : ℕ) → linked p x y ≡ true → startAgent p x .informs y ≡ true
   linked-informs x y e =
-      let (l, h, n) = linked-inside p r x y e in
+      let (l, h, n) = linked-inside p (ranged p r) x y e in
       rw (agent-in x l (omega arith), begins x l (omega arith) .informed) e
 
   listens-linked : (x y : ℕ) → startAgent p y .listens x ≡ true → linked p x y ≡ true
@@ -68,8 +68,8 @@ module _ (p : Problem) (r : inRange p ≡ true) where
   linked-channel : (x y : ℕ) → linked p x y ≡ true → startChannel p x y ≡ Info (startAgent p x .value) ∷ []
   unfolding selfOf
   linked-channel x y e =
-      let (l, h, n) = linked-inside p r x y e in
-      let most = count-in-range p r .1 in
+      let (l, h, n) = linked-inside p (ranged p r) x y e in
+      let most = ranged p r .high in
       rw (channel-in x y l (omega arith), agent-in x l (omega arith)) (begins x l (omega arith) .tells y h (omega arith) e)
 
   unlinked-channel : (x y : ℕ) → linked p x y ≡ false → startChannel p x y ≡ []
@@ -105,7 +105,7 @@ start-invariant p r =
       good = λ i l h. rw (agent-in p r i l h) (begins p r i l h .good);
       links = record {
         informed = λ x y e. linked-listens p r x y (informs-linked p r x y e);
-        lower = λ y x e. linked-inside p r x y (listens-linked p r x y e);
+        lower = λ y x e. linked-inside p (ranged p r) x y (listens-linked p r x y e);
         linked = linked-listens p r;
         waiting = waits p r;
         pair = λ x y e. paired p r x y (listens-linked p r x y e);

@@ -1,18 +1,22 @@
 -- The claims about lists of calls from a fresh start. Each follows from the same of lists of tries, since a list of calls leaves what its tries
 -- leave.
 use mathlib.Core.Path.{_≡_}
-use mathlib.Core.List.{List, []}
+use mathlib.Core.List.{List, [], _∷_}
 use mathlib.Core.Bool.{true}
-use Prim.Native.Nat.{ℕ}
-use Rattle.problem.specs.Problem.{Problem, inRange}
-use Rattle.problem.specs.Sheet.{Valid, decode}
-use Rattle.protocol.specs.Network.{start}
-use Rattle.protocol.specs.Calls.{triedByAll, replay}
-use Rattle.protocol.specs.Claims.{SoundAtRest, CompleteVerdict, RunsMark, EveryProblem, EverySheet}
+use Rattle.problem.specs.Problem.{Problem}
+use Rattle.problem.proofs.Sheet.{decode-in-range}
+use Rattle.protocol.specs.Network.{Network, start}
+use Rattle.protocol.specs.Shape.{inShape}
+use Rattle.theorems.specs.Calls.{Call, Deliver, Run, leftBy, leftByAll, triedByAll, replay, linesOf, markedIn}
+use Rattle.theorems.specs.Claims.{SoundAtRest, CompleteVerdict, RoundBound, RunsMark, RunBound, RunsCount, StaysInShape, EveryProblem, EverySheet}
 use Rattle.theorems.proofs.Reached.{reached}
 use Rattle.theorems.proofs.Accuracy.{rested, ended}
 use Rattle.theorems.proofs.Replay.{calls-replay}
 use Rattle.theorems.proofs.Visits.{idle-empty}
+use Rattle.theorems.proofs.Markings.{marking-rounds}
+use Rattle.theorems.proofs.RoundBound.{round-bound-lines}
+use Rattle.theorems.proofs.RunRounds.{runs-count}
+use Rattle.shape_laws.proofs.Shape.{deliver-keeps, run-keeps, start-in-shape}
 use Rattle.theorems.proofs.CallMarking.{marking, marking-lines, marking-full, marking-made}
 
 -- Demand 2: a network reached with nothing waiting and no verdict breaks no ban.
@@ -26,6 +30,11 @@ sound-at-rest p r calls v i =
 pub complete-verdict : EveryProblem CompleteVerdict
 complete-verdict p r calls v = ended p r (triedByAll calls (start p)) (rw (calls-replay calls (start p)) at v)
 
+-- Demand 3: every way to mark full rounds off has at most 16 × n × (d + 2)^n of them.
+pub round-bound : EveryProblem RoundBound
+unfolding replay
+round-bound p r calls marks _ full = round-bound-lines p r (linesOf marks) (markedIn marks) (marking-rounds p [] marks full)
+
 -- Demand 3: the full rounds that the runs of a list return are one marking.
 pub runs-mark : EveryProblem RunsMark
 unfolding replay
@@ -37,7 +46,47 @@ runs-mark p r calls =
       number = marking-made p r calls [];
     }
 
--- Sheets: what holds of every problem in range holds of every accepted sheet.
-pub every-sheet : (C : Problem → Type 0) → ((sheet : List ℕ) (p : Problem) → decode sheet ≡ Valid p → inRange p ≡ true)
-    → EveryProblem C → EverySheet C
-every-sheet C decoded proved sheet p e = proved p (decoded sheet p e)
+-- .. so together they obey the bound too.
+pub run-bound : EveryProblem RunBound
+run-bound p r calls =
+    let M = runs-mark p r calls in rw (← M .number) (round-bound p r calls (M .marking) (M .lines) (M .full))
+
+-- Every network reached is in shape.
+call-keeps : (c : Call) (w : Network) → inShape w ≡ true → inShape (leftBy c w) ≡ true
+unfolding leftBy
+call-keeps (Deliver i j) w h = deliver-keeps w i j h
+call-keeps (Run k) w h = run-keeps k w h
+
+calls-keep : (calls : List Call) (w : Network) → inShape w ≡ true → inShape (leftByAll calls w) ≡ true
+unfolding leftByAll
+calls-keep [] w h = h
+calls-keep (c ∷ calls) w h = calls-keep calls (leftBy c w) (call-keeps c w h)
+
+pub stays-in-shape : EveryProblem StaysInShape
+stays-in-shape p r calls = calls-keep calls (start p) (start-in-shape p r)
+
+-- ---- sheets: what holds of every problem in range holds of every accepted sheet
+
+every-sheet : (C : Problem → Type 0) → EveryProblem C → EverySheet C
+every-sheet C proved sheet p e = proved p (decode-in-range sheet p e)
+
+pub sheet-sound : EverySheet SoundAtRest
+sheet-sound = every-sheet SoundAtRest sound-at-rest
+
+pub sheet-complete : EverySheet CompleteVerdict
+sheet-complete = every-sheet CompleteVerdict complete-verdict
+
+pub sheet-round-bound : EverySheet RoundBound
+sheet-round-bound = every-sheet RoundBound round-bound
+
+pub sheet-run-bound : EverySheet RunBound
+sheet-run-bound = every-sheet RunBound run-bound
+
+pub sheet-runs-count : EverySheet RunsCount
+sheet-runs-count = every-sheet RunsCount runs-count
+
+pub sheet-runs-mark : EverySheet RunsMark
+sheet-runs-mark = every-sheet RunsMark runs-mark
+
+pub sheet-stays-in-shape : EverySheet StaysInShape
+sheet-stays-in-shape = every-sheet StaysInShape stays-in-shape

@@ -9,8 +9,8 @@ use Rattle.base.proofs.Tests.{test}
 use Rattle.base.proofs.Counting.{countIf}
 use Rattle.protocol.specs.Network.{Network}
 use Rattle.protocol.specs.Delivery.{Answer, isAccepted}
-use Rattle.protocol.specs.Run.{Line, Try, oneIf}
-use Rattle.protocol.specs.Calls.{lineOf, answerOf, attemptOf, replay, answers, isLine, acceptedNow, acceptedOn}
+use Rattle.protocol.specs.Run.{Line, Try, oneIf, isLine}
+use Rattle.theorems.specs.Calls.{lineOf, answerOf, attemptOf, replay, answers, acceptedNow, acceptedOn}
 
 pub replay-append : (a b : List Line) (w : Network) → replay (a ++ b) w ≡ replay b (replay a w)
 unfolding replay

@@ -16,8 +16,7 @@ use Rattle.base.proofs.Counting.{countIf, count-hits, count-misses, gather-leas
 use Rattle.problem.specs.Problem.{Problem}
 use Rattle.agent_rules.specs.Message.{Message, Info, Back, AddLink}
 use Rattle.protocol.specs.Network.{Network}
-use Rattle.protocol.specs.Run.{Line, isEmpty, idle, visits}
-use Rattle.protocol.specs.Calls.{isLine}
+use Rattle.protocol.specs.Run.{Line, isEmpty, idle, visits, isLine}
 use Rattle.theorems.proofs.Moves.{Waits, Invariant}
 
 -- ---- where messages wait

@@ -14,8 +14,8 @@ use Rattle.problem.specs.Problem.{Problem}
 use Rattle.agent_rules.specs.Message.{Message, sentTo}
 use Rattle.protocol.specs.Network.{Network, start}
 use Rattle.protocol.specs.Delivery.{isAccepted, rejecting, deliver}
-use Rattle.protocol.specs.Run.{Line, oneIf}
-use Rattle.protocol.specs.Calls.{attemptOf, replay, isLine, acceptedNow, acceptedOn, sentNow, sentOn, waitsAfter}
+use Rattle.protocol.specs.Run.{Line, oneIf, isLine}
+use Rattle.theorems.specs.Calls.{attemptOf, replay, acceptedNow, acceptedOn, sentNow, sentOn, waitsAfter}
 use Rattle.theorems.proofs.Outcome.{Outcome, refused, accepted, outcome, numbers}
 use Rattle.theorems.proofs.Handed.{handed-head, handed-sent, handed-same}
 use Rattle.theorems.proofs.Channels.{line-ends, is-line}

@@ -5,10 +5,10 @@ use mathlib.Core.Bool.{true, false}
 use mathlib.Core.List.{List, [], map}
 use Rattle.problem.specs.Problem.{Problem, largestDomain, inRange, Obeys}
 use Rattle.problem.specs.Sheet.{Valid, decode}
 use Rattle.protocol.specs.Network.{Network, start}
 use Rattle.protocol.specs.Shape.{inShape}
 use Rattle.protocol.specs.Run.{Line, Try, idle, run}
-use Rattle.protocol.specs.Calls.{
+use Rattle.theorems.specs.Calls.{
   Call,
   triesOf,
   leftByAll,

@@ -8,9 +8,9 @@ use lib.ListN.{length, drop}
 use lib.Dec.{eqb}
 use Rattle.problem.specs.Problem.{Problem}
 use Rattle.agent_rules.specs.Message.{Message, sentTo}
 use Rattle.protocol.specs.Network.{Network, start}
 use Rattle.protocol.specs.Delivery.{Answer, Accepted, Rejected, isAccepted, Delivery, deliver}
-use Rattle.protocol.specs.Run.{Line, Try, Round, Ran, counts, oneIf, run}
+use Rattle.protocol.specs.Run.{Line, isLine, Try, Round, Ran, counts, oneIf, run}
 
 -- ---- calls
 
@@ -76,9 +76,6 @@ answers [] w = []
 answers (l ∷ ls) w = attemptOf l w .answer ∷ answers ls (attemptOf l w .network)
 
 -- ---- what waits at a place of the list
-
-unfoldable pub isLine : ℕ → ℕ → Line → Bool
-isLine i j l = eqb i (l .from) && eqb j (l .to)
 
 -- accepted deliveries of the line from i to j
 unfoldable pub acceptedNow : ℕ → ℕ → Line → Network → ℕ

@@ -1,0 +1,1 @@
+// Every step keeps the shape, forged networks included; no code.
