@@ -1,8 +1,8 @@
 -- What the code's values mean: each as the value of the definitions that it stands for. A primed name is the definitions'.
 use Prim.Native.Nat.{ℕ, pred}
-use mathlib.Core.Bool.{Bool, true, false, _&&_}
+use mathlib.Core.Bool.{true, false, _&&_}
 use mathlib.Core.Option.{Option, none, some}
-use mathlib.Core.List.{List, [], _∷_, map}
+use mathlib.Core.List.{List, map}
 use lib.ListN.{length, getD, take}
 use Rattle.base.specs.Finite.{fromOne, within}
 use Rattle.base.specs.Bits.{bit}

@@ -1,11 +1,11 @@
 -- An agent (scanner): what it is by the problem, what it holds, and what a step of it gives. Document 01, 'The rail'.
 use Prim.Native.Nat.{ℕ, pred}
-use mathlib.Core.Bool.{Bool, true, false, not, _&&_, _||_}
-use mathlib.Core.Option.{Option, none, some}
-use mathlib.Core.List.{List, [], _∷_, _++_}
+use mathlib.Core.Bool.{Bool, false, not, _||_}
+use mathlib.Core.Option.{Option, none}
+use mathlib.Core.List.{List}
 use lib.Dec.{eqb}
 use Rattle.base.specs.Finite.{allTo}
-use Rattle.agent_rules.specs.Message.{Assignment, known, nobody, Message, Post}
+use Rattle.agent_rules.specs.Message.{Assignment, known, nobody, Post}
 
 -- an agent's number and its domain (slot count): all of the problem that it has, beside the bans that name it
 pub record Self : Type 0 where

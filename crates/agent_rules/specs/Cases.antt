@@ -1,6 +1,6 @@
 -- Single steps of one agent, worked by hand from document 01's 'What a scanner does': at least one for each branch of each rule and for each
 -- entry of 'Misreadings to catch' that one step can show.
-use Prim.Native.Nat.{ℕ, zero, suc}
+use Prim.Native.Nat.{ℕ}
 use mathlib.Core.Bool.{Bool, true, false, not, _&&_, _||_}
 use mathlib.Core.Option.{Option, none, some}
 use mathlib.Core.List.{List, [], _∷_}

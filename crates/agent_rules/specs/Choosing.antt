@@ -1,11 +1,11 @@
 -- The rules 'Choosing' and 'Backing up' of document 01 (figure 1: ChooseValue, CheckAgentView lines 2-4, Backtrack).
-use Prim.Native.Nat.{ℕ, zero, suc, _+_, _-_}
-use mathlib.Core.Bool.{Bool, true, false, not, _&&_, _||_, cond}
+use Prim.Native.Nat.{ℕ, zero, suc, _-_}
+use mathlib.Core.Bool.{Bool, true, false, _&&_, cond}
 use mathlib.Core.Option.{Option, none, some}
 use mathlib.Core.List.{List, [], _∷_, _++_}
-use Rattle.base.specs.Finite.{at, lowest, highest, isSome, gather}
+use Rattle.base.specs.Finite.{at, lowest, highest, gather}
 use Rattle.problem.specs.Problem.{maxAgents}
-use Rattle.agent_rules.specs.Message.{Assignment, known, nobody, Message, Info, Back, AddLink, Post}
+use Rattle.agent_rules.specs.Message.{Assignment, known, nobody, Info, Back, Post}
 use Rattle.agent_rules.specs.Agent.{Self, Bans, Nogoods, Agent, Step, above}
 
 -- ---- whom to blame

@@ -3,11 +3,11 @@
 use Prim.Native.Nat.{ℕ}
 use mathlib.Core.Bool.{Bool, true, false, not, _&&_, _||_, cond}
 use mathlib.Core.Option.{Option, none, some}
-use mathlib.Core.List.{List, [], _∷_, _++_}
+use mathlib.Core.List.{List, [], _∷_}
 use lib.Dec.{eqb}
 use Rattle.base.specs.Finite.{at, allTo, isSome, gather}
 use Rattle.agent_rules.specs.Message.{Assignment, known, nobody, Message, Info, Back, AddLink, Post}
-use Rattle.agent_rules.specs.Agent.{Self, Bans, Nogoods, Agent, Step, noNogoods, above, agrees}
+use Rattle.agent_rules.specs.Agent.{Self, Bans, Agent, Step, noNogoods, above, agrees}
 use Rattle.agent_rules.specs.Choosing.{blame, after, checkView}
 
 -- a step that sends what it is given to send and does not choose

@@ -1,9 +1,9 @@
 -- The problem that the agents (scanners) solve: how many they are, their domains (slot counts), and the bans between their values
 -- (slots). Document 01, 'The rail' and 'The sheet'.
-use Prim.Native.Nat.{ℕ, zero, suc, pred, _+_, _*_, _^_, _/_, _%_, _≤_}
+use Prim.Native.Nat.{ℕ, zero, suc, pred, _+_, _*_, _^_, _≤_}
 use mathlib.Core.Path.{_≡_}
 use mathlib.Core.Bool.{Bool, true, false, not, _&&_, _||_}
-use mathlib.Core.List.{List, [], _∷_}
+use mathlib.Core.List.{List}
 use lib.ListN.{length, getD, set, replicate}
 use lib.Dec.{eqb, ltb, leb}
 use Rattle.base.specs.Finite.{within, allTo, greatest}

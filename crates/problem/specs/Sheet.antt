@@ -1,7 +1,7 @@
 -- The sheet: from its bytes to a problem, or the first fault. Document 01, 'The sheet', and the table's numbers 1 to 4.
 use Prim.Native.Nat.{ℕ, zero, suc, pred, _+_, _*_}
-use mathlib.Core.Bool.{Bool, true, false, not, _&&_, _||_}
-use mathlib.Core.List.{List, [], _∷_}
+use mathlib.Core.Bool.{Bool, true, false, _&&_}
+use mathlib.Core.List.{List}
 use lib.ListN.{length, getD, take, drop}
 use lib.Dec.{eqb, ltb, leb}
 use Rattle.base.specs.Finite.{at, within, allTo}

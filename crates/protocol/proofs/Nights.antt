@@ -1,5 +1,5 @@
 -- The worked nights, by computation.
-use mathlib.Core.Path.{_≡_, refl}
+use mathlib.Core.Path.{refl}
 use Rattle.base.specs.Finite.{at, fromOne, within, lowest, highest, allTo, every, gather, isSome}
 use Rattle.base.specs.Bits.{bit, withBit}
 use Rattle.problem.specs.Problem.{maxAgents, maxDomain, maxPairs, domain, owns, pairsBefore, wordAt, bitAt, isPair, banned, linked, withBan, noBans, countInRange, domainInRange, wordOwned, bansOwned, sized, inRange, emptyProblem}

@@ -1,13 +1,12 @@
 -- One delivery, and asking a value. Document 01, the end of 'What a scanner does', and the table's numbers 5 to 10.
-use Prim.Native.Nat.{ℕ, zero, suc}
-use mathlib.Core.Bool.{Bool, true, false, not, _&&_, _||_}
-use mathlib.Core.Option.{Option, none, some}
+use Prim.Native.Nat.{ℕ}
+use mathlib.Core.Bool.{Bool, true, false, not, _&&_}
 use mathlib.Core.List.{List, [], _∷_}
 use lib.Dec.{eqb}
 use Rattle.base.specs.Finite.{within, allTo}
 use Rattle.problem.specs.Problem.{maxAgents}
 use Rattle.agent_rules.specs.Message.{Message, Info, Back, AddLink, Post}
-use Rattle.agent_rules.specs.Agent.{Agent, Step}
+use Rattle.agent_rules.specs.Agent.{Agent}
 use Rattle.protocol.specs.Network.{Network, stepOn, handed}
 use Rattle.protocol.specs.Shape.{hasRoom, inShape}
 

@@ -1,12 +1,11 @@
 -- The network (rail): the problem, the agents, and the channels (lines) between them; and the start. Document 01, 'The rail', 'Start'.
-use Prim.Native.Nat.{ℕ, zero, suc}
+use Prim.Native.Nat.{ℕ}
 use mathlib.Core.Bool.{Bool, true, false, not, _||_}
-use mathlib.Core.Option.{Option, none, some}
-use mathlib.Core.List.{List, [], _∷_, _++_}
+use mathlib.Core.List.{List, [], _++_}
 use lib.Dec.{eqb}
 use Rattle.base.specs.Finite.{at, within, allTo}
 use Rattle.problem.specs.Problem.{Problem, domain, banned, linked, emptyProblem}
-use Rattle.problem.specs.Sheet.{SheetFault, faultNumber, Decoded, Valid, Invalid, decode}
+use Rattle.problem.specs.Sheet.{faultNumber, Decoded, Valid, Invalid, decode}
 use Rattle.agent_rules.specs.Message.{Message, Post, sentTo}
 use Rattle.agent_rules.specs.Agent.{Self, Bans, Agent, Step, noAgent}
 use Rattle.agent_rules.specs.Receiving.{receive, begin}

@@ -7,9 +7,9 @@ use lib.ListN.{length}
 use lib.Dec.{eqb}
 use Rattle.agent_rules.specs.Message.{Assignment, Message, Info, Back, AddLink}
 use Rattle.agent_rules.specs.Cases.{values, sameMessage}
-use Rattle.protocol.specs.Network.{Network, Started, startSheet}
+use Rattle.protocol.specs.Network.{Network, startSheet}
 use Rattle.protocol.specs.Delivery.{answerNumber, deliver, askValue}
-use Rattle.protocol.specs.Run.{Ending, None, Plan, Jammed, Faulty, Open, Broken, endingWord, Ran, run}
+use Rattle.protocol.specs.Run.{Ending, None, Plan, Open, endingWord, Ran, run}
 
 -- ---- sheets, as bytes
 

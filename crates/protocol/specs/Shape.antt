@@ -1,14 +1,13 @@
 -- The shape of a network, clause by clause. Document 01, below the table: "Shape: ..".
-use Prim.Native.Nat.{ℕ, zero, suc, pred}
+use Prim.Native.Nat.{ℕ, pred}
 use mathlib.Core.Bool.{Bool, true, false, not, _&&_, _||_}
 use mathlib.Core.Option.{Option, none, some}
-use mathlib.Core.List.{List, [], _∷_}
 use lib.ListN.{length}
 use lib.Dec.{eqb, ltb, leb}
-use Rattle.base.specs.Finite.{within, allTo, every, isSome}
+use Rattle.base.specs.Finite.{allTo, every, isSome}
 use Rattle.problem.specs.Problem.{Problem, maxAgents, maxDomain, owns, linked, inRange}
 use Rattle.agent_rules.specs.Message.{Assignment, known, Message, Info, Back, AddLink}
-use Rattle.agent_rules.specs.Agent.{Nogoods, Agent}
+use Rattle.agent_rules.specs.Agent.{Agent}
 use Rattle.agent_rules.specs.Shape.{maxNamed}
 use Rattle.protocol.specs.Network.{Network}
 

@@ -2,7 +2,7 @@
 -- rounds in the list of tries.
 use mathlib.Core.Path.{_≡_, refl, sym}
 use mathlib.Core.List.{List, [], _∷_, _++_, append-nil, append-assoc}
-use Prim.Native.Nat.{ℕ, suc, _+_}
+use Prim.Native.Nat.{suc, _+_}
 use native.Mathlib.Omega.{arith}
 use Rattle.base.proofs.Tests.{test}
 use Rattle.problem.specs.Problem.{Problem}

@@ -1,7 +1,7 @@
 -- One accepted delivery with no verdict, as the network level sees it (`Move`), and the invariant of reached networks (`Invariant`).
-use mathlib.Core.Path.{_≡_, refl}
+use mathlib.Core.Path.{_≡_}
 use mathlib.Core.Logic.{_≢_, _⊎_}
-use mathlib.Core.List.{List, [], _∷_, _++_}
+use mathlib.Core.List.{List, _∷_, _++_}
 use mathlib.Core.Bool.{Bool, true, false}
 use Prim.Native.Nat.{ℕ, _≤_, _<_}
 use Rattle.base.proofs.Lists.{All, Any}
@@ -13,7 +13,6 @@ use Rattle.agent_facts.proofs.Facts.{Excludes, Good, Facts}
 use Rattle.protocol.specs.Network.{Network, selfOf, bansOf}
 use Rattle.protocol.specs.Delivery.{Accepted, Delivery}
 use Rattle.protocol.specs.Run.{Line, isLine}
-use Rattle.theorems.specs.Calls.{attemptOf}
 
 -- ---- a move
 

@@ -11,7 +11,6 @@ use Rattle.base.proofs.Search.{le-greatest}
 use Rattle.problem.specs.Problem.{Problem, domain, inRange, largestDomain}
 use Rattle.problem.proofs.Range.{ranged}
 use Rattle.protocol.specs.Network.{Network, start}
-use Rattle.protocol.specs.Delivery.{isAccepted}
 use Rattle.protocol.specs.Run.{Line, oneIf}
 use Rattle.theorems.specs.Calls.{attemptOf, replay, acceptedNow, acceptedOn}
 use Rattle.theorems.specs.Claims.{mostRounds}

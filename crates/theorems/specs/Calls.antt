@@ -1,6 +1,6 @@
 -- Lists of calls, what they try, and the full rounds marked off in it. Document 01, 'Rounds and the run', second paragraph: "The list of
 -- demand 3 ..".
-use Prim.Native.Nat.{ℕ, zero, suc, _+_, _≤_}
+use Prim.Native.Nat.{ℕ, _+_, _≤_}
 use mathlib.Core.Path.{_≡_}
 use mathlib.Core.Bool.{Bool, true, false, _&&_}
 use mathlib.Core.List.{List, [], _∷_, _++_, map}
@@ -9,8 +9,8 @@ use lib.Dec.{eqb}
 use Rattle.problem.specs.Problem.{Problem}
 use Rattle.agent_rules.specs.Message.{Message, sentTo}
 use Rattle.protocol.specs.Network.{Network, start}
-use Rattle.protocol.specs.Delivery.{Answer, Accepted, Rejected, isAccepted, Delivery, deliver}
-use Rattle.protocol.specs.Run.{Line, isLine, Try, Round, Ran, counts, oneIf, run}
+use Rattle.protocol.specs.Delivery.{Answer, isAccepted, Delivery, deliver}
+use Rattle.protocol.specs.Run.{Line, isLine, Try, Round, oneIf, run}
 
 -- ---- calls
 

@@ -7,7 +7,7 @@ use Rattle.problem.specs.Problem.{Problem, largestDomain, inRange, Obeys}
 use Rattle.problem.specs.Sheet.{Valid, decode}
 use Rattle.protocol.specs.Network.{Network, start}
 use Rattle.protocol.specs.Shape.{inShape}
-use Rattle.protocol.specs.Run.{Line, Try, idle, run}
+use Rattle.protocol.specs.Run.{idle, run}
 use Rattle.theorems.specs.Calls.{
   Call,
   triesOf,
