@@ -40,20 +40,10 @@ Refuses v (Info w) = ⊥
 Refuses v (Back lhs w) = w ≡ v
 Refuses v AddLink = ⊥
 
-pub tells-info : (v : ℕ) (m : Message) → Tells v m → IsInfo m
-tells-info v (Info w) h = tt
-tells-info v (Back lhs w) h = absurd h
-tells-info v AddLink h = absurd h
-
 pub addlink-not-info : (m : Message) → IsAddLink m → IsInfo m → ⊥
 addlink-not-info (Info v) a b = a
 addlink-not-info (Back lhs v) a b = a
 addlink-not-info AddLink a b = b
-
-pub refuses-not-info : (v : ℕ) (m : Message) → Refuses v m → IsInfo m → ⊥
-refuses-not-info v (Info w) a b = a
-refuses-not-info v (Back lhs w) a b = b
-refuses-not-info v AddLink a b = a
 
 -- ---- what a list of posts puts on a channel
 

@@ -104,8 +104,3 @@ some-bit (suc m) x l h =
     let n = eqb-false (x % 2) 1 e in
     let r = some-bit m (x / 2) (omega (arith, n)) (omega arith) in
     (suc (r .0), omega arith, bit-suc x (r .0) ∙ r .2))
-
-pub no-bits : (m x : ℕ) → x < 2 ^ m → ((k : ℕ) → k < m → bit x k ≡ false) → x ≡ 0
-no-bits m zero l h = refl
-no-bits m (suc x) l h =
-    let r = some-bit m (suc x) (omega arith) l in absurd (false≢true (sym (h (r .0) (r .1)) ∙ r .2))
