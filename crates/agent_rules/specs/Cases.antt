@@ -1,13 +1,14 @@
 -- Single steps of one agent, worked by hand from document 01's 'What a scanner does': at least one for each branch of each rule and for each
 -- entry of 'Misreadings to catch' that one step can show.
 use Prim.Native.Nat.{ℕ}
-use mathlib.Core.Bool.{Bool, true, false, not, _&&_, _||_}
+use mathlib.Core.Bool.{Bool, true, false, _&&_, _||_}
 use mathlib.Core.Option.{Option, none, some}
 use mathlib.Core.List.{List, [], _∷_}
 use lib.ListN.{getD}
 use lib.Dec.{eqb}
 use Rattle.base.specs.Finite.{fromOne, allTo}
 use Rattle.problem.specs.Problem.{maxAgents, maxDomain}
+use Rattle.problem.specs.Cases.{sameBool}
 use Rattle.agent_rules.specs.Message.{Assignment, Message, Info, Back, AddLink, Post}
 use Rattle.agent_rules.specs.Agent.{Self, Bans, Nogoods, Agent, Step}
 use Rattle.agent_rules.specs.Receiving.{receive, begin}
@@ -47,10 +48,6 @@ abbrev pub post : ℕ → Message → Post
 post k m = record { to = k; message = m }
 
 -- ---- compared
-
-unfoldable pub sameBool : Bool → Bool → Bool
-sameBool true b = b
-sameBool false b = not b
 
 unfoldable pub sameSet : (ℕ → Bool) → (ℕ → Bool) → Bool
 sameSet f g = allTo maxAgents (λ k. sameBool (f k) (g k))

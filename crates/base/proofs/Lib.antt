@@ -2,4 +2,5 @@ pub mod Tests
 pub mod Search
 pub mod Lists
 pub mod Counting
+pub mod Loops
 pub mod Bits

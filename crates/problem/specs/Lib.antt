@@ -1,2 +1,3 @@
 pub mod Problem
 pub mod Sheet
+pub mod Cases

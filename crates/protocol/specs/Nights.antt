@@ -1,10 +1,11 @@
 -- The worked nights of document 01 that are marked P, and three more: scripts of calls and of what must be seen between them.
-use Prim.Native.Nat.{ℕ, zero, suc, _/_, _%_}
+use Prim.Native.Nat.{ℕ, zero, suc}
 use mathlib.Core.Path.{_≡_}
 use mathlib.Core.Bool.{Bool, true, false, _&&_}
 use mathlib.Core.List.{List, [], _∷_, _++_}
 use lib.ListN.{length}
 use lib.Dec.{eqb}
+use Rattle.problem.specs.Cases.{Ban, ban, header, row, sameNumbers}
 use Rattle.agent_rules.specs.Message.{Assignment, Message, Info, Back, AddLink}
 use Rattle.agent_rules.specs.Cases.{values, sameMessage}
 use Rattle.protocol.specs.Network.{Network, startSheet}
@@ -12,20 +13,6 @@ use Rattle.protocol.specs.Delivery.{answerNumber, deliver, askValue}
 use Rattle.protocol.specs.Run.{Ending, None, Plan, Open, endingWord, Ran, run}
 
 -- ---- sheets, as bytes
-
--- a ban: lower agent, higher agent, value of the lower, value of the higher
-pub record Ban : Type 0 where
-  pub lower : ℕ
-  pub higher : ℕ
-  pub lowerValue : ℕ
-  pub higherValue : ℕ
-
-abbrev pub ban : ℕ → ℕ → ℕ → ℕ → Ban
-ban i v j w = record { lower = i; higher = j; lowerValue = v; higherValue = w }
-
--- two bytes, low byte first
-unfoldable pub twoBytes : ℕ → List ℕ
-twoBytes k = k % 256 ∷ k / 256 ∷ []
 
 -- the index of the next record, zero behind the last
 unfoldable pub nextIndex : ℕ → List Ban → ℕ
@@ -36,7 +23,7 @@ nextIndex r (b ∷ bs) = suc r
 unfoldable pub records : ℕ → List Ban → List ℕ
 records r [] = []
 records r (b ∷ bs) =
-    (b .lower ∷ b .higher ∷ b .lowerValue ∷ b .higherValue ∷ []) ++ twoBytes (nextIndex r bs) ++ (0 ∷ 0 ∷ []) ++ records (suc r) bs
+    row (b .lower) (b .higher) (b .lowerValue) (b .higherValue) (nextIndex r bs) ++ records (suc r) bs
 
 unfoldable pub padded : ℕ → List ℕ → List ℕ
 padded zero l = []
@@ -45,9 +32,7 @@ padded (suc m) (x ∷ l) = x ∷ padded m l
 
 -- the sheet with these slot counts and bans
 unfoldable pub sheet : List ℕ → List Ban → List ℕ
-sheet domains bans =
-    (length domains ∷ 1 ∷ []) ++ twoBytes (nextIndex 0 bans) ++ twoBytes (length bans) ++ (0 ∷ 0 ∷ [])
-    ++ padded 12 domains ++ (0 ∷ 0 ∷ 0 ∷ 0 ∷ []) ++ records 1 bans
+sheet domains bans = header (length domains) (nextIndex 0 bans) (length bans) (padded 12 domains) ++ records 1 bans
 
 -- ---- messages, compared
 
@@ -56,12 +41,6 @@ sameMessages [] [] = true
 sameMessages [] (n ∷ ns) = false
 sameMessages (m ∷ ms) [] = false
 sameMessages (m ∷ ms) (n ∷ ns) = sameMessage m n && sameMessages ms ns
-
-unfoldable pub sameNumbers : List ℕ → List ℕ → Bool
-sameNumbers [] [] = true
-sameNumbers [] (y ∷ ys) = false
-sameNumbers (x ∷ xs) [] = false
-sameNumbers (x ∷ xs) (y ∷ ys) = eqb x y && sameNumbers xs ys
 
 -- ---- scripts
 

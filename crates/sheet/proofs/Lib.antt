@@ -1,0 +1,6 @@
+mod Header
+mod Table
+mod Records
+mod Chain
+mod Walking
+mod Checks
