@@ -1,2 +1,4 @@
 pub mod Packed
 pub mod Abstract
+pub mod Entries
+pub mod Parts

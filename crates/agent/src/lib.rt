@@ -1,4 +1,15 @@
 // An agent (scanner): its record by value, and the three messages.
+ghost use Rattle.agent_rules.specs.Receiving.{receive, begin};
+ghost use Rattle.agent_rules.specs.Shape.{RecordFits, MessageFits, anyValue};
+ghost use Rattle.agent.specs.Packed.{members};
+ghost use Rattle.agent.specs.Abstract.{messageOf, agentOf, selfOf, bansIn};
+ghost use Rattle.agent.specs.Entries.{Able, Answers};
+
+mod bans;
+mod choosing;
+pub mod packed;
+mod receiving;
+mod sending;
 
 // A packed partial assignment: digit k - 1 in base 16 is the value of agent k, 0 where it is unknown or not named. A view, or the left side of
 // a nogood.
@@ -51,4 +62,40 @@ pub struct Step {
     pub agent: Agent,
     pub outbox: Outbox,
     pub verdict: bool,
+}
+
+impl Agent {
+    // A message is handed over.
+    pub fn receive(self, own: Own, bans: &[u64], from: u8, m: Message) -> Step
+        requires { ⌜ Able own (now bans) ⌝ }
+        requires { ⌜ RecordFits anyValue (selfOf own) (agentOf self) ⌝ }
+        requires { ⌜ MessageFits anyValue (selfOf own) (agentOf self) from (messageOf m) ⌝ }
+        ensures { λ r. ⌜ Answers own r (receive (selfOf own) (bansIn (now (bans .entry))) (agentOf self) from (messageOf m)) ⌝ }
+    {
+        match m {
+            Message::Info(v) => self.on_info(own, bans, from, v),
+            Message::Back(lhs, v) => self.on_back(own, bans, from, lhs, v),
+            Message::AddLink => self.on_add_link(from),
+        }
+    }
+
+    // The start: "All views are unknown, each scanner chooses."
+    pub fn begin(own: Own, bans: &[u64], listens: u16, informs: u16) -> Step
+        requires { ⌜ Able own (now bans) ⌝ }
+        ensures { λ r. ⌜ Answers own r (begin (selfOf own) (bansIn (now (bans .entry))) (members listens) (members informs)) ⌝ }
+    {
+        let unknown = Lhs { digits: 0 };
+        let none = Nogood {
+            stored: false,
+            lhs: unknown,
+        };
+        let a = Agent {
+            value: 0,
+            listens: listens,
+            informs: informs,
+            view: unknown,
+            nogoods: [none; 8],
+        };
+        a.settle(own, bans)
+    }
 }

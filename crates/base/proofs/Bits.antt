@@ -2,14 +2,14 @@
 -- All by halving: bit k + 1 of x is bit k of x / 2.
 use mathlib.Core.Path.{_≡_, refl, sym, ap, ap₂, _∙_}
 use mathlib.Core.Logic.{_≢_, _⊎_, inl, inr}
-use mathlib.Core.Bool.{true, false, false≢true}
-use Prim.Native.Nat.{ℕ, zero, suc, _+_, _*_, _/_, _%_, _^_, _≤_, _<_}
-use native.Mathlib.Nat.{pow-succ', div-div-eq-div-mul, div-one, mod-lt}
+use mathlib.Core.Bool.{true, false, false≢true, _||_}
+use Prim.Native.Nat.{ℕ, zero, suc, _+_, _-_, _*_, _/_, _%_, _^_, _≤_, _<_}
+use native.Mathlib.Nat.{pow-suc, pow-succ', div-div-eq-div-mul, div-one, mod-lt, not-suc-le-zero, mul-div-cancel}
 use native.Mathlib.Omega.{arith}
-use lib.Bits.{bitOr, or-step, or-zero-r, or-block}
-use lib.Pow.{pow-pos, split}
-use lib.Dec.{eqb}
-use borrow.Author.Tests.{eqb-true, eqb-false, eq-eqb}
+use lib.Bits.{bitOr, or-step, or-zero-r, or-block, or-shr, or-mod}
+use lib.Pow.{pow-pos, split, field, mod-mod-pow, shr-shr}
+use lib.Dec.{eqb, eqb·zero-suc, eqb·suc-zero, eqb·suc-suc}
+use borrow.Author.Tests.{eqb-true, eqb-false, eq-eqb, ne-eqb}
 use Rattle.base.specs.Bits.{bit, withBit}
 use Rattle.base.proofs.Tests.{test}
 
@@ -133,3 +133,38 @@ or-power x k =
     test (eqb (q % 2) 1)
     (λ h. rw h (raised x k q (omega (arith, eqb-true (q % 2) 1 h)) ∙ split x k))
     (λ h. rw h (raised x k (q + 1) (omega (arith, eqb-false (q % 2) 1 h)) ∙ omega (arith, split x k)))
+
+-- ---- bits above a number, of a power of two, of or, and of a part
+
+pub bit-above : (n x k : ℕ) → x < 2 ^ n → n ≤ k → bit x k ≡ false
+bit-above zero x k h l = let e : x ≡ 0 = omega arith in rw e (bit-of-zero k)
+bit-above (suc n) x zero h l = absurd (not-suc-le-zero l)
+bit-above (suc n) x (suc k) h l =
+    rw bit-suc (let g : x < 2 ^ n * 2 = rw pow-suc at h in bit-above n (x / 2) k (omega arith) (omega arith))
+
+pub bit-pow : (k j : ℕ) → bit (2 ^ k) j ≡ eqb j k
+bit-pow zero zero = rw bit-zero
+bit-pow zero (suc j) = rw (bit-suc 1 j, eqb·suc-zero j) (bit-of-zero j)
+bit-pow (suc k) zero = rw (bit-zero, eqb·zero-suc k) (ne-eqb (2 ^ suc k % 2) 1 (λ e. omega (arith, pow-suc 2 k)))
+bit-pow (suc k) (suc j) = rw (bit-suc, pow-suc 2 k, mul-div-cancel (2 ^ k) {n = 2} (omega arith), eqb·suc-suc j k) (bit-pow k j)
+
+or-bits : (a b : ℕ) → a < 2 → b < 2 → eqb (bitOr a b) 1 ≡ eqb a 1 || eqb b 1
+or-bits zero b h k = refl
+or-bits (suc zero) zero h k = refl
+or-bits (suc zero) (suc zero) h k = refl
+or-bits (suc zero) (suc (suc b)) h k = absurd (omega arith)
+or-bits (suc (suc a)) b h k = absurd (omega arith)
+
+pub bit-or : (x y k : ℕ) → bit (bitOr x y) k ≡ bit x k || bit y k
+unfolding bit
+bit-or x y k = rw (or-shr x y k, or-mod (x / 2 ^ k) (y / 2 ^ k) 1) (or-bits (x / 2 ^ k % 2) (y / 2 ^ k % 2) (omega arith) (omega arith))
+
+-- bit j of the n bits of x from a on
+pub bit-field : (x a n j : ℕ) → j < n → bit (x / 2 ^ a % 2 ^ n) j ≡ bit x (a + j)
+unfolding bit
+bit-field x a n j h =
+    let e : n ≡ n - suc j + 1 + j = omega arith in
+    ap (λ (m : ℕ). eqb (x / 2 ^ a % 2 ^ m / 2 ^ j % 2) 1) e
+    ∙ ap (λ (y : ℕ). eqb (y % 2) 1) (field (x / 2 ^ a) (n - suc j + 1) j)
+    ∙ ap (λ (y : ℕ). eqb y 1) (mod-mod-pow (x / 2 ^ a / 2 ^ j) (n - suc j) 1)
+    ∙ ap (λ (y : ℕ). eqb (y % 2) 1) (shr-shr x a j)

@@ -1,10 +1,12 @@
 -- All and some of a list, and the test of each element.
-use mathlib.Core.Path.{_≡_, refl}
+use mathlib.Core.Path.{_≡_, refl, ap}
 use mathlib.Core.Bool.{Bool, true}
 use mathlib.Core.Logic.{_⊎_, inl, inr}
-use mathlib.Core.List.{List, [], _∷_, _++_}
+use mathlib.Core.List.{List, [], _∷_, _++_, append-nil, append-assoc}
 use Prim.Native.Nat.{ℕ, zero, suc, _+_, _≤_, _<_}
+use native.Mathlib.Nat.{add-zero, add-suc, suc-add}
 use native.Mathlib.Omega.{arith}
+use lib.ListN.{length, length-append}
 use Rattle.base.specs.Finite.{every, gather}
 use Rattle.base.proofs.Tests.{both, to-both}
 
@@ -71,3 +73,16 @@ gather-all P f zero k h = tt
 gather-all P f (suc m) k h =
     All-append P (f k) (gather m (suc k) f) (h k (omega arith) (omega arith))
     (gather-all P f m (suc k) (λ j l u. h j (omega arith) (omega arith)))
+
+-- one number further
+
+pub gather-last : {A : Type 0} (m k : ℕ) (f : ℕ → List A) → gather (suc m) k f ≡ gather m k f ++ f (k + m)
+unfolding gather
+gather-last zero k f = rw add-zero (append-nil (f k))
+gather-last (suc m) k f =
+    rw (add-suc k m, ← suc-add k m, append-assoc (f k) (gather m (suc k) f) (f (suc k + m))) (ap (λ (l : List _). f k ++ l) (gather-last m (suc k) f))
+
+pub gather-length : {A : Type 0} (m k : ℕ) (f : ℕ → List A) → ((j : ℕ) → length (f j) ≤ 1) → length (gather m k f) ≤ m
+unfolding gather
+gather-length zero k f h = omega arith
+gather-length (suc m) k f h = rw length-append (omega (arith, h k, gather-length m (suc k) f h))

@@ -1,14 +1,15 @@
 -- What a search finds, and what a map has where it was changed.
 use mathlib.Core.Path.{_≡_, refl, sym, _∙_}
 use mathlib.Core.Logic.{_≢_}
-use mathlib.Core.Bool.{Bool, true, false, and-eq-true-iff, false≢true}
+use mathlib.Core.Bool.{cond, _||_, Bool, true, false, and-eq-true-iff, false≢true}
 use mathlib.Core.Option.{none, some}
-use Prim.Native.Nat.{ℕ, zero, suc, _+_, _≤_, _<_}
+use Prim.Native.Nat.{ℕ, zero, suc, _+_, _-_, _≤_, _<_}
+use native.Mathlib.Nat.{add-zero, add-suc, suc-add, not-suc-le-zero, le-of-suc-le-suc}
 use native.Mathlib.Omega.{arith}
 use lib.Dec.{eqb, leb}
 use borrow.Author.Tests.{eqb-true, eqb-false, eq-eqb, ne-eqb, leb-true, leb-false}
-use Rattle.base.specs.Finite.{at, lowest, highest, allTo, greatest}
-use Rattle.base.proofs.Tests.{test, eq-test, no-some}
+use Rattle.base.specs.Finite.{at, lowest, highest, allTo, greatest, isSome}
+use Rattle.base.proofs.Tests.{test, eq-test, opt, no-some}
 
 -- ---- the lowest of the m numbers from k on
 
@@ -67,6 +68,54 @@ highest-max (suc m) p s e j h t =
     (λ u. test (eqb j (suc m))
     (λ w. absurd (false≢true (sym u ∙ rw (eqb-true j (suc m) w) at t)))
     (λ w. highest-max m p s (rw (u, highest) at e) j (omega (arith, eqb-false j (suc m) w)) t))
+
+-- one number further
+
+pub lowest-grows : (m n k : ℕ) (p : ℕ → Bool) (s : ℕ) → m ≤ n → lowest m k p ≡ some s → lowest n k p ≡ some s
+unfolding lowest
+lowest-grows zero n k p s h e = no-some e
+lowest-grows (suc m) zero k p s h e = absurd (not-suc-le-zero h)
+lowest-grows (suc m) (suc n) k p s h e =
+    test (p k)
+    (λ t. rw (t, lowest) (rw (t, lowest) at e))
+    (λ t. rw (t, lowest) (lowest-grows m n (suc k) p s (le-of-suc-le-suc h) (rw (t, lowest) at e)))
+
+pub lowest-last : (m k : ℕ) (p : ℕ → Bool) → lowest m k p ≡ none → lowest (suc m) k p ≡ cond (p (k + m)) (some (k + m)) none
+unfolding lowest
+lowest-last zero k p e = rw add-zero (test (p k) (λ t. rw (t, lowest)) (λ t. rw (t, lowest)))
+lowest-last (suc m) k p e =
+    test (p k)
+    (λ t. no-some (sym (rw (t, lowest) at e)))
+    (λ t. rw (t, lowest, add-suc k m, ← suc-add k m) (lowest-last m (suc k) p (rw (t, lowest) at e)))
+
+pub isSome-last : (m k : ℕ) (p : ℕ → Bool) → isSome (lowest (suc m) k p) ≡ isSome (lowest m k p) || p (k + m)
+unfolding isSome
+isSome-last m k p =
+    opt (lowest m k p)
+    (λ e. rw (e, lowest-last m k p e) (test (p (k + m)) (λ t. rw t) (λ t. rw t)))
+    (λ s e. rw (e, lowest-grows m (suc m) k p s (omega arith) e))
+
+pub lowest-before : (m k : ℕ) (p : ℕ → Bool) (s j : ℕ) → lowest m k p ≡ some s → k ≤ j → j < s → p j ≡ false
+unfolding lowest
+lowest-before zero k p s j e l h = no-some e
+lowest-before (suc m) k p s j e l h =
+    test (p k)
+    (λ t. let q : some k ≡ some s = rw (t, lowest) at e in let w : k ≡ s = cc in absurd (omega arith))
+    (λ t. test (eqb j k)
+    (λ u. rw (eqb-true j k u) t)
+    (λ u. lowest-before m (suc k) p s j (rw (t, lowest) at e) (omega (arith, eqb-false j k u)) h))
+
+-- from above, one number less
+
+pub highest-here : (k : ℕ) (p : ℕ → Bool) → 0 < k → p k ≡ true → highest k p ≡ some k
+unfolding highest
+highest-here zero p h e = absurd (not-suc-le-zero h)
+highest-here (suc k) p h e = rw (e, highest)
+
+pub highest-below : (k : ℕ) (p : ℕ → Bool) → 0 < k → p k ≡ false → highest k p ≡ highest (k - 1) p
+unfolding highest
+highest-below zero p h e = absurd (not-suc-le-zero h)
+highest-below (suc k) p h e = let d : suc k - 1 ≡ k = omega arith in rw (e, highest, d)
 
 -- ---- each of 1 to m
 

@@ -1,0 +1,71 @@
+-- Value by value, upward. The invariant: the join of the left sides of the first i values.
+use borrow.Author.Needs.{needs}
+use Prim.Native.Nat.{_-_, _≤_}
+use mathlib.Core.Path.{_≡_, ap, _∙_}
+use mathlib.Core.Logic.{⊎-elim}
+use native.Mathlib.Omega.{arith}
+use Rattle.agent_rules.specs.Choosing.{union}
+use Rattle.agent.specs.Abstract.{assigned, noNogood, agentOf}
+use Rattle.agent.proofs.Digits.{nobody-assigned}
+use Rattle.agent.proofs.Unions.{agree, joined, passed}
+use Rattle.agent.proofs.Agent.union.Statement.{statement}
+use Rattle.agent.proofs.Agent.union.Tie as tie
+
+abbrev Inv-loop : tie.InvT-loop
+Inv-loop own self whole₀ i₀ whole i = (i ≤ own .domain) × (assigned whole ≡ union i (agentOf self .nogoods))
+
+abbrev μ-loop : tie.MeasureT-loop
+μ-loop own self whole₀ i₀ whole i = own .domain - i
+
+loop-holds : tie.Need-loop-holds Inv-loop μ-loop
+unfolding union assigned
+loop-holds c = (omega arith, nobody-assigned)
+
+cast-if1 : tie.Need-cast-if1 Inv-loop μ-loop
+cast-if1 c = search needs
+
+mul-g : tie.Need-mul-g Inv-loop μ-loop
+mul-g c = search needs
+
+element-copy-out-g : tie.Need-element-copy-out-g Inv-loop μ-loop
+element-copy-out-g c = search needs
+
+join-requires : tie.Need-join-requires Inv-loop μ-loop
+unfolding noNogood
+join-requires c κs =
+    agree _ (c .before .before .before .before .before .args .t1) (c .before .before .before .before .before .pre .1) (c .before .before .before .before .loop .i) (omega arith) _ (c .before .before .before .before .loop .inv .1) (c .if2 .taken)
+
+add-i : tie.Need-add-i Inv-loop μ-loop
+add-i c = search needs
+
+loop-less : tie.Need-loop-less Inv-loop μ-loop
+loop-less c = search needs
+
+loop-again : tie.Need-loop-again Inv-loop μ-loop
+unfolding noNogood
+loop-again c = (
+  omega arith,
+  ⊎-elim
+      (λ u. ap assigned (u .2) ∙ u .1 .ensures ∙ joined _ (c .before .before .before .before .before .args .t1) (c .before .before .before .before .before .pre .1) (c .before .before .before .before .loop .i) (omega arith) _ (c .before .before .before .before .loop .inv .1) (u .0 .taken))
+      (λ u. ap assigned (u .1) ∙ passed _ (c .before .before .before .before .before .args .t1) (c .before .before .before .before .before .pre .1) (c .before .before .before .before .loop .i) (omega arith) _ (c .before .before .before .before .loop .inv .1) (u .0 .left))
+      (c .if2 .came),
+)
+
+returns : tie.Need-returns Inv-loop μ-loop
+returns c = let e : c .before .before .loop .i ≡ c .before .before .before .args .own .domain = omega arith in rw e at (c .before .before .loop .inv .1)
+
+pub union-spec : {M : Type 1} → statement M
+union-spec =
+    tie.close
+    (tie.spec
+    Inv-loop
+    μ-loop
+    loop-holds
+    cast-if1
+    mul-g
+    element-copy-out-g
+    join-requires
+    add-i
+    loop-less
+    loop-again
+    returns)

@@ -1,0 +1,91 @@
+-- A refusal that holds leaves a coherent record, and both ways make the step of the rule.
+use Prim.Native.Nat.{ℕ, pred, _<_, _≤_}
+use mathlib.Core.Path.{_≡_, sym, _∙_}
+use mathlib.Core.Bool.{true, false, and-eq-true-iff, and-false}
+use mathlib.Core.Option.{some}
+use mathlib.Core.List.{_++_}
+use native.Mathlib.Omega.{arith}
+use lib.Dec.{eqb}
+use borrow.Author.Tests.{eqb-true, eqb-false}
+use Rattle.base.specs.Finite.{at, allTo}
+use Rattle.base.proofs.Tests.{test, within-true}
+use Rattle.base.proofs.Search.{at-same, at-other, allTo-at}
+use Rattle.problem.specs.Problem.{maxDomain}
+use Rattle.agent_rules.specs.Message.{Assignment, known, Back as Back′}
+use Rattle.agent_rules.specs.Agent.{Self, Bans, Agent as Agent′, above}
+use Rattle.agent_rules.specs.Choosing.{checkView}
+use Rattle.agent_rules.specs.Receiving.{matches, holds, unheard, addLinks, accepting, outdated, onBack}
+use Rattle.agent_rules.specs.Shape.{maxNamed, EachNamed, RecordFits, MessageFits, anyValue}
+use Rattle.agent.specs.Abstract.{sentOf}
+use Rattle.agent.specs.Parts.{Holding, Makes, Coherent}
+use Rattle.agent.specs.declared.Outbox.{Outbox}
+use Rattle.agent.specs.declared.Step.{Step}
+use Rattle.agent.proofs.Steps.{makes-after}
+use Rattle.agent.proofs.Refusals.{addLinks-few}
+
+module _ (s : Self) (a : Agent′) (from : ℕ) (lhs : Assignment) (v : ℕ) (fits : RecordFits anyValue s a)
+    (message : MessageFits anyValue s a from (Back′ lhs v)) (held : holds s a lhs v ≡ true) where
+  -- a named agent that is listened to has its value in the view
+  matched : (k : ℕ) → 1 ≤ k → k ≤ maxNamed → known (lhs k) ≡ true → a .listens k ≡ true → lhs k ≡ a .view k
+  unfolding holds matches above
+  matched k lo hi e l =
+      let b = and-eq-true-iff (eqb v (a .value)) (allTo (above s) (matches a lhs)) .0 held in
+      let n = message .3 k lo hi e .0 in
+      let near : k ≤ pred (s .number) = omega arith in
+      eqb-true (lhs k) (a .view k) (rw (e, l) at (allTo-at (above s) (matches a lhs) (b .1) k lo near))
+
+  -- whom it listens to it sees as before
+  as-before : (k : ℕ) → a .listens k ≡ true → accepting a lhs v .view k ≡ a .view k
+  unfolding accepting unheard
+  as-before k l = rw (l, and-false)
+
+  viewed : EachNamed (accepting a lhs v .view) (λ k u. (k < s .number) × (u ≤ maxDomain))
+  unfolding accepting anyValue
+  viewed k lo hi e =
+      test (unheard a lhs k)
+      (λ t. let m = message .3 k lo hi (rw t at e) in rw t (m .0, within-true maxDomain (lhs k) (m .1) .1))
+      (λ t.
+      let f = fits .viewed k lo hi (rw t at e) in
+      rw t (fits .upward k lo hi (f .0), within-true maxDomain (a .view k) (f .1) .1))
+
+  -- the stored reason, and those that were there
+  new-agreed : EachNamed lhs (λ k u. u ≡ accepting a lhs v .view k)
+  unfolding accepting unheard
+  new-agreed k lo hi e =
+      test (a .listens k)
+      (λ t. matched k lo hi e t ∙ sym (as-before k t))
+      (λ t. rw (e, t))
+
+  old-agreed : (l : Assignment) → EachNamed l (λ k u. u ≡ a .view k) → EachNamed l (λ k u. u ≡ accepting a lhs v .view k)
+  old-agreed l g k lo hi e =
+      let q = g k lo hi e in
+      q ∙ sym (as-before k (fits .viewed k lo hi (rw q at e) .0))
+
+  agreed : (w : ℕ) (l : Assignment) → 1 ≤ w → w ≤ maxDomain → at (a .nogoods) v (some lhs) w ≡ some l
+      → EachNamed l (λ k u. u ≡ accepting a lhs v .view k)
+  agreed w l lo hi e =
+      test (eqb w v)
+      (λ t.
+      let z : some lhs ≡ some l = sym (at-same (a .nogoods) v (some lhs)) ∙ (rw (eqb-true w v t) at e) in
+      let d : lhs ≡ l = cc in
+      rw (← d) new-agreed)
+      (λ t. old-agreed l (fits .agreed w l lo hi (sym (at-other (a .nogoods) v (some lhs) w (eqb-false w v t)) ∙ e) .1))
+
+  pub coherent-accepting : Coherent s (accepting a lhs v)
+  unfolding accepting
+  coherent-accepting = record { viewed = viewed; agreed = agreed }
+
+-- ---- what the code does
+
+module _ (s : Self) (bans : Bans) (a : Agent′) (from : ℕ) (lhs : Assignment) (v : ℕ) where
+  pub back-holds : (r : Step) (links o : Outbox) → above s ≤ 11 → holds s a lhs v ≡ true → Makes r (checkView s bans (accepting a lhs v)) 11
+      → Holding links (addLinks s a lhs) → Holding o (sentOf links ++ sentOf (r .outbox))
+      → Makes record { agent = r .agent; outbox = o; verdict = r .verdict } (onBack s bans a from lhs v) 22
+  unfolding onBack
+  back-holds r links o few e m h g =
+      rw (e, onBack)
+      (makes-after r (checkView s bans (accepting a lhs v)) links o (addLinks s a lhs) 11 11 m h (omega (arith, addLinks-few s a lhs)) g)
+
+  pub back-outdated : (r : Step) → holds s a lhs v ≡ false → Makes r (outdated a from v) 1 → Makes r (onBack s bans a from lhs v) 22
+  unfolding onBack
+  back-outdated r e m = rw (e, onBack) (record { step = m .step; posts = m .posts; few = omega (arith, m .few) })

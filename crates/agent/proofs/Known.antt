@@ -1,0 +1,23 @@
+-- A value is known where it is not 0.
+use Prim.Native.Nat.{ℕ, suc, _≤_}
+use mathlib.Core.Path.{_≡_}
+use mathlib.Core.Bool.{true, false}
+use native.Mathlib.Omega.{arith}
+use borrow.Author.Tests.{lt-ltb, ltb-true, ltb-false}
+use Rattle.agent_rules.specs.Message.{known}
+
+pub known-suc : (v : ℕ) → known (suc v) ≡ true
+unfolding known
+known-suc v = lt-ltb 0 (suc v) (omega arith)
+
+pub known-from : (v : ℕ) → 1 ≤ v → known v ≡ true
+unfolding known
+known-from v h = lt-ltb 0 v h
+
+pub known-true : (v : ℕ) → known v ≡ true → 1 ≤ v
+unfolding known
+known-true v e = ltb-true 0 v e
+
+pub known-false : (v : ℕ) → known v ≡ false → v ≡ 0
+unfolding known
+known-false v e = omega (arith, ltb-false 0 v e)
