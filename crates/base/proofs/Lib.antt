@@ -4,3 +4,4 @@ pub mod Lists
 pub mod Counting
 pub mod Loops
 pub mod Bits
+pub mod Peeling

@@ -1,0 +1,134 @@
+-- The clauses of the shape, each for a network of which only what the clause reads is known, in the form in which the code goes through it.
+use Prim.Native.Nat.{ℕ, zero, suc, _-_, _^_, _≤_, _<_}
+use mathlib.Core.Path.{_≡_, _∙_}
+use mathlib.Core.Bool.{not, _&&_, _||_, or-and-distrib-left}
+use mathlib.Core.Option.{none}
+use mathlib.Core.List.{List, map}
+use native.Mathlib.Nat.{not-suc-le-zero}
+use native.Mathlib.Omega.{arith}
+use lib.Dec.{eqb, ltb, leb}
+use lib.ListN.{length, getD, length-map, List·getD-map}
+use Rattle.base.proofs.Peeling.{allTo-same, allTo-and, getD-below}
+use borrow.Author.Tests.{lt-ltb, le-leb, lt-leb, ltb-true, ltb-false}
+use Rattle.base.proofs.Tests.{test}
+use Rattle.base.specs.Finite.{fromOne, allTo, isSome}
+use Rattle.problem.specs.Problem.{Problem, maxAgents, maxDomain, domain, owns, wordAt, isPair, linked}
+use Rattle.agent_rules.specs.Agent.{noAgent}
+use Rattle.agent_rules.specs.Shape.{maxNamed}
+use Rattle.protocol.specs.Network.{Network as Network′}
+use Rattle.protocol.specs.Shape.{eachNamed, eachIn, holdsValue, listensUpward, informsDownward, linkedListen, informedListen, viewListened, nogoodFits, nogoodsFit, unused, agentInShape}
+use Rattle.agent.specs.Packed.{assignment, members}
+use Rattle.agent.specs.Abstract.{assigned, nogoodOf, noNogood, agentOf}
+use Rattle.agent.specs.declared.Nogood.{Nogood}
+use Rattle.agent.specs.declared.Agent.{Agent}
+use Rattle.shape.specs.Abstract.{agentsOf}
+use Rattle.shape.specs.Parts.{setOf}
+use Rattle.shape.proofs.Words.{in-same, none-in, none-named}
+use Rattle.shape.proofs.Ranges.{within-at}
+
+below-is : (k i : ℕ) → 1 ≤ i → ltb k i ≡ leb k (i - 1)
+below-is k i h =
+    test (ltb k i)
+    (λ t. rw (t, le-leb k (i - 1) (omega (arith, ltb-true k i t))))
+    (λ t. rw (t, lt-leb k (i - 1) (omega (arith, ltb-false k i t))))
+
+pub upward : (w : Network′) (i listens : ℕ) → 1 ≤ i → w .agents i .listens ≡ members listens
+    → listensUpward w i ≡ eachIn (members listens) (λ k. leb k (i - 1))
+unfolding listensUpward
+upward w i listens h e = rw e (in-same listens (λ k. ltb k i) (λ k. leb k (i - 1)) (λ k l u. below-is k i h))
+
+pub downward : (w : Network′) (i count informs : ℕ) → w .problem .count ≡ count → w .agents i .informs ≡ members informs
+    → informsDownward w i ≡ eachIn (members informs) (λ k. ltb i k) && eachIn (members informs) (λ k. leb k count)
+unfolding informsDownward eachIn
+downward w i count informs e f =
+    rw (e, f)
+    (allTo-same maxNamed _ _ (λ k l u. or-and-distrib-left (not (members informs k)) (ltb i k) (leb k count))
+    ∙ allTo-and maxNamed (λ k. not (members informs k) || ltb i k) (λ k. not (members informs k) || leb k count))
+
+pub view-is : (w : Network′) (i listens view : ℕ) → w .agents i .listens ≡ members listens → w .agents i .view ≡ assignment view
+    → viewListened w i ≡ eachNamed (assignment view) (λ k v. members listens k && owns (w .problem) k v)
+unfolding viewListened
+view-is w i listens view e f = rw (e, f)
+
+pub informed-is : (w : Network′) (i informs : ℕ) (listens : List ℕ) → ((k x : ℕ) → w .agents k .listens x ≡ setOf listens k x)
+    → w .agents i .informs ≡ members informs → informedListen w i ≡ eachIn (members informs) (λ k. setOf listens k i)
+unfolding informedListen
+informed-is w i informs listens e f = rw f (in-same informs _ _ (λ k l u. e k i))
+
+-- ---- nogoods
+
+from-at : {A : Type 0} (z : A) (f : ℕ → A) (v : ℕ) → 1 ≤ v → fromOne z f v ≡ f (v - 1)
+unfolding fromOne
+from-at z f zero h = absurd (not-suc-le-zero h)
+from-at z f (suc v) h = let e : suc v - 1 ≡ v = omega arith in rw e
+
+pub nogoods-is : (w : Network′) (i d : ℕ) (a : Agent) → domain (w .problem) i ≡ d → w .agents i ≡ agentOf a
+    → nogoodsFit w i ≡ allTo 8 (λ v. nogoodFits (leb v d) (assigned (a .view)) (nogoodOf (getD (a .nogoods) (v - 1) noNogood)))
+unfolding nogoodsFit maxDomain owns agentOf
+nogoods-is w i d a e f =
+    rw (e, f)
+    (allTo-same 8 _ _ (λ v l u. rw (within-at d v l, from-at none (λ k. nogoodOf (getD (a .nogoods) k noNogood)) v l)))
+
+stored-is : (g : Nogood) → isSome (nogoodOf g) ≡ g .stored
+unfolding nogoodOf isSome
+stored-is g = test (g .stored) (λ t. rw (t, nogoodOf)) (λ t. rw (t, nogoodOf))
+
+pub stored-at : (nogoods : List Nogood) (v : ℕ) → 1 ≤ v
+    → not (isSome (fromOne none (λ k. nogoodOf (getD nogoods k noNogood)) v)) ≡ not (getD nogoods (v - 1) noNogood .stored)
+stored-at nogoods v h = rw (from-at none (λ k. nogoodOf (getD nogoods k noNogood)) v h, stored-is)
+
+pub unused-is : (a : Agent) → a .listens < 2 ^ 16 → a .informs < 2 ^ 16 → a .view .digits < 2 ^ 64
+    → unused (agentOf a)
+    ≡ eqb (a .value) 0
+    && eqb (a .listens) 0
+    && eqb (a .informs) 0
+    && eqb (a .view .digits) 0
+    && allTo maxDomain (λ v. not (isSome (fromOne none (λ k. nogoodOf (getD (a .nogoods) k noNogood)) v)))
+unfolding unused agentOf assigned
+unused-is a l i v = rw (none-in (a .listens) l, none-in (a .informs) i, none-named (a .view .digits) v)
+
+-- ---- agents that a ban word links
+
+pub linked-at : (p : Problem) (bans : List ℕ) (i j : ℕ) → p .bans ≡ bans → 1 ≤ i → i < j → j ≤ 12
+    → linked p i j ≡ ltb 0 (getD bans (wordAt i j) 0)
+unfolding linked isPair maxAgents
+linked-at p bans i j e h l u = rw (lt-ltb 0 i h, lt-ltb i j l, le-leb j 12 u, e)
+
+pub record Heard (w : Network′) (bans informs : List ℕ) (j listens : ℕ) : Type 0 where
+  pub banned : w .problem .bans ≡ bans
+  pub informing : (k x : ℕ) → w .agents k .informs x ≡ setOf informs k x
+  pub listening : w .agents j .listens ≡ members listens
+
+pub heard-is : (w : Network′) (bans informs : List ℕ) (i j listens at : ℕ) → Heard w bans informs j listens
+    → 1 ≤ i → i < j → j ≤ 12 → at ≡ wordAt i j
+    → not (linked (w .problem) i j) || (w .agents j .listens i && w .agents i .informs j)
+    ≡ not (ltb 0 (getD bans at 0)) || (members listens i && setOf informs i j)
+heard-is w bans informs i j listens at h a b d e =
+    rw (linked-at (w .problem) bans i j (h .banned) a b d, h .listening, h .informing i j, e)
+
+-- ---- an agent, beyond n and within
+
+pub agent-beyond : (w : Network′) (i : ℕ) → w .problem .count < i → agentInShape w i ≡ unused (w .agents i)
+unfolding agentInShape
+agent-beyond w i h = rw (lt-leb i (w .problem .count) h, agentInShape)
+
+pub agent-within : (w : Network′) (i : ℕ) → i ≤ w .problem .count
+    → agentInShape w i
+    ≡ holdsValue w i
+    && listensUpward w i
+    && informsDownward w i
+    && linkedListen w i
+    && informedListen w i
+    && viewListened w i
+    && nogoodsFit w i
+unfolding agentInShape
+agent-within w i h = rw (le-leb i (w .problem .count) h, agentInShape)
+
+pub agent-at : (w : Network′) (agents : List Agent) (i : ℕ) (d : Agent) → length agents ≡ 12 → 1 ≤ i → i ≤ 12
+    → w .agents ≡ agentsOf (map agentOf agents) → w .agents i ≡ agentOf (getD agents (i - 1) d)
+unfolding agentsOf
+agent-at w agents i d l h u e =
+    rw e
+    (from-at noAgent (λ k. getD (map agentOf agents) k noAgent) i h
+    ∙ getD-below (map agentOf agents) (i - 1) noAgent (agentOf d) (rw length-map (omega arith))
+    ∙ List·getD-map agentOf agents (i - 1) d)

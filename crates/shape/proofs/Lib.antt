@@ -1,0 +1,7 @@
+mod Words
+mod Ranges
+mod Clauses
+mod Zeros
+mod Numbering
+mod Rings
+mod Whole

@@ -1,0 +1,26 @@
+-- No ban; a value that is not owned; more values than a byte has bits; else a shift.
+use borrow.Author.Needs.{needs}
+use mathlib.Core.Path.{sym, _∙_}
+use Rattle.shape.proofs.Ranges.{row-none, row-out, row-in, row-wide}
+use Rattle.shape.proofs.range.row_owned.Statement.{statement}
+use Rattle.shape.proofs.range.row_owned.Tie as tie
+
+returns : tie.Need-returns
+returns c = sym (row-none (c .before .args .d) (c .before .args .e) (c .before .args .v) (c .before .args .row) (c .if1 .taken))
+
+returns-2 : tie.Need-returns-2
+returns-2 c = sym (row-out (c .before .before .args .d) (c .before .before .args .e) (c .before .before .args .v) (c .before .before .args .row) (c .before .before .pre .1) (c .before .if1 .left) (c .if2 .taken))
+
+returns-3 : tie.Need-returns-3
+returns-3 c =
+    sym (row-in (c .before .before .before .args .d) (c .before .before .before .args .e) (c .before .before .before .args .v) (c .before .before .before .args .row) (c .before .before .before .pre .1) (c .before .before .before .pre .0) (c .before .if2 .left)
+    ∙ row-wide (c .before .before .before .args .e) (c .before .before .before .args .row) (c .before .before .before .pre .1) (c .if3 .taken))
+
+shr-result : tie.Need-shr-result
+shr-result c = search needs
+
+returns-4 : tie.Need-returns-4
+returns-4 c = sym (row-in (c .before .before .before .args .d) (c .before .before .before .args .e) (c .before .before .before .args .v) (c .before .before .before .args .row) (c .before .before .before .pre .1) (c .before .before .before .pre .0) (c .before .if2 .left))
+
+pub row-owned-spec : {M : Type 1} → statement M
+row-owned-spec = tie.close (tie.spec returns returns-2 returns-3 shr-result returns-4)

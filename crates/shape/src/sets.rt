@@ -1,0 +1,48 @@
+// Sets of agents, as masks: bit k - 1 is agent k, and there is room for 16.
+ghost use mathlib.Core.Path.{_≡_};
+ghost use Prim.Native.Nat.{ℕ, _+_, _*_, _-_, _≤_, _<_, _^_};
+ghost use lib.Dec.{ltb, leb};
+ghost use Rattle.protocol.specs.Network.{Network as Network′};
+ghost use Rattle.protocol.specs.Shape.{eachIn, informedListen};
+ghost use Rattle.agent.specs.Packed.{members};
+ghost use Rattle.shape.specs.Parts.{setOf};
+
+// Agent k is in the set.
+pub fn has(set: u16, k: u8) -> bool
+    requires { ⌜ (1 ≤ k) × (k ≤ 16) ⌝ }
+    ensures { λ b. ⌜ b ≡ members set k ⌝ }
+{
+    (set >> (k - 1)) % 2 == 1
+}
+
+// Agent j is in the set of agent k, where the masks of agents 1 to 12 stand in a row; there is no other agent.
+pub fn has_at(masks: [u16; 12], k: u8, j: u8) -> bool
+    requires { ⌜ (1 ≤ j) × (j ≤ 16) ⌝ }
+    ensures { λ b. ⌜ b ≡ setOf masks k j ⌝ }
+{
+    if k == 0 {
+        return false;
+    }
+    if 12 < k {
+        return false;
+    }
+    has(masks[k as usize - 1], j)
+}
+
+// All of the set are at most m.
+pub fn all_to(set: u16, m: u8) -> bool
+    ensures { λ b. ⌜ b ≡ eachIn (members set) (λ k. leb k m) ⌝ }
+{
+    if 16 <= m {
+        return true;
+    }
+    set >> m == 0
+}
+
+// All of the set are above i.
+pub fn all_above(set: u16, i: u8) -> bool
+    requires { ⌜ i < 16 ⌝ }
+    ensures { λ b. ⌜ b ≡ eachIn (members set) (λ k. ltb i k) ⌝ }
+{
+    set % (1u16 << i) == 0
+}
