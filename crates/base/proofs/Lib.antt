@@ -5,3 +5,4 @@ pub mod Counting
 pub mod Loops
 pub mod Bits
 pub mod Peeling
+pub mod Arrays

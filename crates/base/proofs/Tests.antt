@@ -74,3 +74,6 @@ within-true m k e = let h = and-eq-true-iff (ltb 0 k) (leb k m) .0 e in (ltb-tru
 pub to-within : (m k : ℕ) → 1 ≤ k → k ≤ m → within m k ≡ true
 unfolding within
 to-within m k l h = rw (lt-ltb 0 k l, le-leb k m h)
+
+pub not-within : (m k : ℕ) → (1 ≤ k → k ≤ m → ⊥) → within m k ≡ false
+not-within m k h = test (within m k) (λ e. let b = within-true m k e in absurd (h (b .0) (b .1))) (λ e. e)

@@ -8,7 +8,8 @@ use native.Mathlib.Nat.{not-suc-le-zero}
 use native.Mathlib.Omega.{arith}
 use lib.Dec.{eqb, ltb, leb}
 use lib.ListN.{length, getD, length-map, List·getD-map}
-use Rattle.base.proofs.Peeling.{allTo-same, allTo-and, getD-below}
+use Rattle.base.proofs.Peeling.{allTo-same, allTo-and}
+use Rattle.base.proofs.Arrays.{getD-below}
 use borrow.Author.Tests.{lt-ltb, le-leb, lt-leb, ltb-true, ltb-false}
 use Rattle.base.proofs.Tests.{test}
 use Rattle.base.specs.Finite.{fromOne, allTo, isSome}

@@ -5,7 +5,7 @@ use mathlib.Core.Bool.{false}
 use mathlib.Core.Option.{none}
 use mathlib.Core.List.{List, [], map}
 use lib.ListN.{getD, replicate}
-use Rattle.base.proofs.Peeling.{getD-same, map-replicate}
+use Rattle.base.proofs.Arrays.{getD-same, map-replicate}
 use Rattle.base.specs.Finite.{fromOne}
 use Rattle.base.proofs.Tests.{test}
 use Rattle.problem.specs.Problem.{maxAgents, maxPairs, noBans, emptyProblem}

@@ -1,5 +1,5 @@
 -- The problem, the agents, then the channels from the last down. The invariant: what is asked of all channels is asked of what is left of them.
-use Rattle.base.proofs.Peeling.{getD-below}
+use Rattle.base.proofs.Arrays.{getD-below}
 use borrow.Author.Needs.{needs}
 use Prim.Native.Nat.{ℕ, _+_, _*_, _-_, _≤_}
 use mathlib.Core.Path.{_≡_, refl, sym, ap, _∙_}

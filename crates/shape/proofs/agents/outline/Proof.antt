@@ -1,5 +1,5 @@
 -- Agent by agent. The invariant: the masks of those passed are copied.
-use Rattle.base.proofs.Peeling.{copied}
+use Rattle.base.proofs.Arrays.{copied}
 use borrow.Author.Needs.{needs}
 use Prim.Native.Nat.{ℕ, _-_, _≤_, _<_}
 use mathlib.Core.Path.{_≡_, refl, sym, _∙_}

@@ -1,0 +1,10 @@
+mod Channels
+mod Words
+mod Masks
+mod Rings
+mod Posting
+mod Storing
+mod Beginning
+mod Opened
+mod Sheets
+mod Asking
