@@ -1,4 +1,5 @@
--- The record that takes a refusal: agent by agent it listens to those that the left side names, and the reason is stored.
+-- The record that takes a Back: it listens to those that the left side names, sees them, and stores the reason.
+-- Agent by agent, upward; the agents beyond are not named.
 use Prim.Native.Nat.{ℕ, zero, suc, _+_, _-_, _^_, _<_, _≤_}
 use mathlib.Core.Path.{_≡_, refl, sym, ap, ap₂, _∙_, fun-ext}
 use mathlib.Core.Logic.{_≢_}
@@ -25,7 +26,7 @@ use Rattle.agent.specs.declared.Own.{Own}
 use Rattle.agent.proofs.Digits.{assignment-above}
 use Rattle.agent.proofs.Records.{nogoodsOf, nogoods-set, nogood-stored}
 
-abbrev pub listening : Agent → ℕ → Lhs → Agent
+abbrev listening : Agent → ℕ → Lhs → Agent
 listening a listens view = record { value = a .value; listens = listens; informs = a .informs; view = view; nogoods = a .nogoods }
 
 -- agent j is as it was, or as the left side has it
@@ -126,7 +127,8 @@ module _ (own : Own) (self a : Agent) (lhs : Lhs) (k v : ℕ) (n : Nogood) (smal
       (λ t. h .done (suc j) (omega arith) (leb-true (suc j) k t))
       (λ t.
       let g = leb-false (suc j) k t in
-      let q : unheard (agentOf self) (assigned lhs) (suc j) ≡ false = ap (λ (b : Bool). b && not (agentOf self .listens (suc j))) (not-named (suc j) (omega arith) g) in
+      let q : unheard (agentOf self) (assigned lhs) (suc j) ≡ false =
+      ap (λ (b : Bool). b && not (agentOf self .listens (suc j))) (not-named (suc j) (omega arith) g) in
       same-heard (assigned lhs) self a (suc j) q (h .rest (suc j) g))
 
   stored : 1 ≤ v → v - 1 < length (a .nogoods) → n .stored ≡ true → n .lhs ≡ lhs
@@ -143,5 +145,6 @@ module _ (own : Own) (self a : Agent) (lhs : Lhs) (k v : ℕ) (n : Nogood) (smal
   accepted l w st e =
       ap₂ (λ (f : ℕ → Bool) (g : Assignment). made f (members (a .informs)) g (nogoodsOf (set (a .nogoods) (v - 1) n)))
       (fun-ext λ j. heard-all j .listens) (fun-ext λ j. heard-all j .view)
-      ∙ ap₂ (λ (f : ℕ → Bool) (g : Nogoods). made (accepting (agentOf self) (assigned lhs) v .listens) f (accepting (agentOf self) (assigned lhs) v .view) g)
+      ∙ ap₂ (λ (f : ℕ → Bool) (g : Nogoods). made (accepting (agentOf self) (assigned lhs) v .listens) f
+      (accepting (agentOf self) (assigned lhs) v .view) g)
       (ap (λ (x : Agent). members (x .informs)) (h .kept)) (stored l w st e)

@@ -1,4 +1,5 @@
--- A refusal that holds leaves a coherent record, and both ways make the step of the rule.
+-- A Back that holds leaves a coherent record, and both ways make the step of the rule.
+-- A named agent that is listened to has its value in the view by the test; another gets it now.
 use Prim.Native.Nat.{ℕ, pred, _<_, _≤_}
 use mathlib.Core.Path.{_≡_, sym, _∙_}
 use mathlib.Core.Bool.{true, false, and-eq-true-iff, and-false}
@@ -17,11 +18,11 @@ use Rattle.agent_rules.specs.Choosing.{checkView}
 use Rattle.agent_rules.specs.Receiving.{matches, holds, unheard, addLinks, accepting, outdated, onBack}
 use Rattle.agent_rules.specs.Shape.{maxNamed, EachNamed, RecordFits, MessageFits, anyValue}
 use Rattle.agent.specs.Abstract.{sentOf}
-use Rattle.agent.specs.Parts.{Holding, Makes, Coherent}
+use Rattle.agent.specs.Parts.{Holding, Makes, Agreed, Coherent}
 use Rattle.agent.specs.declared.Outbox.{Outbox}
 use Rattle.agent.specs.declared.Step.{Step}
 use Rattle.agent.proofs.Steps.{makes-after}
-use Rattle.agent.proofs.Refusals.{addLinks-few}
+use Rattle.agent.proofs.LeftSides.{addLinks-few}
 
 module _ (s : Self) (a : Agent′) (from : ℕ) (lhs : Assignment) (v : ℕ) (fits : RecordFits anyValue s a)
     (message : MessageFits anyValue s a from (Back′ lhs v)) (held : holds s a lhs v ≡ true) where
@@ -49,20 +50,20 @@ module _ (s : Self) (a : Agent′) (from : ℕ) (lhs : Assignment) (v : ℕ) (fi
       rw t (fits .upward k lo hi (f .0), within-true maxDomain (a .view k) (f .1) .1))
 
   -- the stored reason, and those that were there
-  new-agreed : EachNamed lhs (λ k u. u ≡ accepting a lhs v .view k)
+  new-agreed : Agreed (accepting a lhs v .view) lhs
   unfolding accepting unheard
   new-agreed k lo hi e =
       test (a .listens k)
       (λ t. matched k lo hi e t ∙ sym (as-before k t))
       (λ t. rw (e, t))
 
-  old-agreed : (l : Assignment) → EachNamed l (λ k u. u ≡ a .view k) → EachNamed l (λ k u. u ≡ accepting a lhs v .view k)
+  old-agreed : (l : Assignment) → Agreed (a .view) l → Agreed (accepting a lhs v .view) l
   old-agreed l g k lo hi e =
       let q = g k lo hi e in
       q ∙ sym (as-before k (fits .viewed k lo hi (rw q at e) .0))
 
   agreed : (w : ℕ) (l : Assignment) → 1 ≤ w → w ≤ maxDomain → at (a .nogoods) v (some lhs) w ≡ some l
-      → EachNamed l (λ k u. u ≡ accepting a lhs v .view k)
+      → Agreed (accepting a lhs v .view) l
   agreed w l lo hi e =
       test (eqb w v)
       (λ t.

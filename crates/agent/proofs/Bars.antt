@@ -1,4 +1,5 @@
--- The byte of a word of bans at a value has the own values that its agent bars at that value.
+-- What the bans and a view bar: one byte of a word for one agent, and the lowest-numbered agent that bars a value.
+-- The loops go agent by agent; each law takes a search one agent further.
 use Prim.Native.Nat.{ℕ, zero, suc, pred, _+_, _*_, _-_, _/_, _%_, _^_, _<_, _≤_}
 use mathlib.Core.Path.{_≡_, refl, sym, _∙_}
 use mathlib.Core.Bool.{Bool, true, false, _&&_, cond, and-true}
@@ -22,11 +23,6 @@ use Rattle.agent.specs.Abstract.{bansIn}
 use Rattle.agent.specs.Parts.{numberOf, barredAt}
 use Rattle.agent.proofs.Known.{known-suc}
 
-pub barred-lt : (word v : ℕ) → barredAt word v < 256
-unfolding barredAt known
-barred-lt word zero = omega arith
-barred-lt word (suc v) = rw (known-suc v) (omega arith)
-
 byte-bit : (words : List ℕ) (i v w : ℕ) → i < length words → v ≤ 8 → 1 ≤ w → w ≤ 8
     → bit (barredAt (getD words i 0) v) (pred w) ≡ known v && bansIn words (suc i) v w
 unfolding barredAt bansIn maxDomain bitAt known
@@ -37,7 +33,7 @@ byte-bit words i (suc v) w h l p q =
     (bit-field (getD words i 0) (8 * v) 8 (pred w) (omega arith))
 
 -- agent i + 1 bars own value w
-pub bars-bit : (words : List ℕ) (view : Assignment) (i w : ℕ) → i < length words → view (suc i) ≤ 8 → 1 ≤ w → w ≤ 8
+bars-bit : (words : List ℕ) (view : Assignment) (i w : ℕ) → i < length words → view (suc i) ≤ 8 → 1 ≤ w → w ≤ 8
     → bit (barredAt (getD words i 0) (view (suc i))) (pred w) ≡ bars (bansIn words) view w (suc i)
 unfolding bars
 bars-bit words view i w h l p q = byte-bit words i (view (suc i)) w h l p q

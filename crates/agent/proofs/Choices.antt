@@ -1,4 +1,5 @@
 -- Choosing takes the lowest free value, with the reasons of those below it given.
+-- Where the reasons are given, the definition stops at the next value, or has none left.
 use Prim.Native.Nat.{ℕ, suc, _+_, _-_, _<_}
 use mathlib.Core.Path.{_≡_, refl, sym, ap, _∙_}
 use mathlib.Core.Option.{Option, none, some}

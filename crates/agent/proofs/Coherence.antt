@@ -1,4 +1,5 @@
--- What a coherent record tells, and that the steps keep it coherent.
+-- Choosing and a changed view keep a record coherent.
+-- Every reason that choosing gives names one agent at its value in the view; a changed view drops what would disagree.
 use Prim.Native.Nat.{ℕ, zero, suc, _<_, _≤_}
 use mathlib.Core.Path.{_≡_, sym, _∙_}
 use mathlib.Core.Bool.{true, not, _||_, false≢true}
@@ -14,8 +15,8 @@ use Rattle.agent_rules.specs.Message.{Assignment, known, nobody}
 use Rattle.agent_rules.specs.Agent.{Self, Bans, Nogoods, Agent as Agent′}
 use Rattle.agent_rules.specs.Choosing.{blame, only, blaming, reasonOf, reason, choose, choice, chosen}
 use Rattle.agent_rules.specs.Receiving.{keepIf}
-use Rattle.agent_rules.specs.Shape.{maxNamed, EachNamed}
-use Rattle.agent.specs.Parts.{Ranged, Coherent, keeping, seeing}
+use Rattle.agent_rules.specs.Shape.{maxNamed}
+use Rattle.agent.specs.Parts.{Ranged, Agreed, Coherent, keeping, seeing}
 use Rattle.agent.proofs.Known.{known-false}
 
 -- the values of the view are those that a word of bans has room for
@@ -27,9 +28,6 @@ ranged s a m h c k l u =
     (λ e. omega (arith, known-false (a .view k) e))
 
 -- ---- nogoods that agree with the view
-
-abbrev Agreed : Assignment → Assignment → Type 0
-Agreed view lhs = EachNamed lhs (λ k u. u ≡ view k)
 
 abbrev AllAgreed : Assignment → Nogoods → Type 0
 AllAgreed view nogoods = (v : ℕ) (lhs : Assignment) → 1 ≤ v → v ≤ maxDomain → nogoods v ≡ some lhs → Agreed view lhs
@@ -47,7 +45,8 @@ blaming-agreed view none lhs e = no-some e
 blaming-agreed view (some k) lhs e = let q : only k (view k) ≡ lhs = cc in rw (← q) (only-agreed view k)
 
 reason-agreed : (view : Assignment) (o b : Option Assignment) (lhs : Assignment)
-    → ((l : Assignment) → o ≡ some l → Agreed view l) → ((l : Assignment) → b ≡ some l → Agreed view l) → reasonOf o b ≡ some lhs → Agreed view lhs
+    → ((l : Assignment) → o ≡ some l → Agreed view l) → ((l : Assignment) → b ≡ some l → Agreed view l) → reasonOf o b ≡ some lhs
+    → Agreed view lhs
 unfolding reasonOf
 reason-agreed view none b lhs f g e = g lhs e
 reason-agreed view (some l) b lhs f g e = f lhs e
@@ -71,7 +70,8 @@ choose-agreed (suc m) v s bans view nogoods h =
         let z : some lhs ≡ some l = sym (at-same nogoods v (some lhs)) ∙ (rw p at q) in
         let d : lhs ≡ l = cc in
         rw (← d)
-        (reason-agreed view (nogoods v) (blaming view (blame s bans view v)) lhs (λ x y. h v x (rw p at lo) (rw p at hi) y) (λ x y. blaming-agreed view _ x y) e))
+        (reason-agreed view (nogoods v) (blaming view (blame s bans view v)) lhs (λ x y. h v x (rw p at lo) (rw p at hi) y)
+        (λ x y. blaming-agreed view _ x y) e))
         (λ t. h w l lo hi (sym (at-other nogoods v (some lhs) w (eqb-false w v t)) ∙ q))
 
 pub coherent-choice : (s : Self) (bans : Bans) (a : Agent′) → Coherent s a → Coherent s (chosen a (a .value) (choice s bans a .nogoods))
@@ -93,7 +93,8 @@ keeping-some k v (some l) lhs e =
     (q, λ n. eqb-true (lhs k) v (rw (d, n) at t)))
     (λ t. no-some (rw (t, keepIf) at e))
 
-pub coherent-seeing : (s : Self) (a : Agent′) (k v : ℕ) → (known v ≡ true → (k < s .number) × (v ≤ maxDomain)) → Coherent s a → Coherent s (seeing k v a)
+pub coherent-seeing : (s : Self) (a : Agent′) (k v : ℕ) → (known v ≡ true → (k < s .number) × (v ≤ maxDomain)) → Coherent s a
+    → Coherent s (seeing k v a)
 unfolding seeing
 coherent-seeing s a k v h c = record { viewed = λ j lo hi e. viewed j lo hi e; agreed = λ w lhs lo hi e. agreed w lhs lo hi e }
   where

@@ -17,7 +17,7 @@ use Rattle.agent_rules.specs.Message.{known, nobody}
 use Rattle.agent_rules.specs.Choosing.{join}
 use Rattle.agent_rules.specs.Shape.{maxNamed}
 use Rattle.agent.specs.Packed.{digit, assignment}
-use Rattle.agent.specs.Parts.{Agree}
+use Rattle.agent.specs.Parts.{Compatible}
 use Rattle.agent.proofs.Known.{known-suc}
 
 -- ---- digits, lowest first
@@ -30,7 +30,7 @@ pub digit-suc : (x k : ℕ) → digit x (suc k) ≡ digit (x / 16) k
 unfolding digit
 digit-suc x k = rw (pow-succ' 16 k, ← div-div-eq-div-mul x 16 (16 ^ k))
 
-pub digit-lt : (x k : ℕ) → digit x k < 16
+digit-lt : (x k : ℕ) → digit x k < 16
 unfolding digit
 digit-lt x k = omega arith
 
@@ -75,7 +75,9 @@ put-same x (suc k) {v} h = rw (digit-suc, put-div x k v) (put-same (x / 16) k h)
 put-other : (x k j : ℕ) {v : ℕ} → v < 16 → j ≢ k → digit (put x k v) j ≡ digit x j
 unfolding put
 put-other x zero zero h n = absurd (n refl)
-put-other x zero (suc j) {v} h n = let q : (x / 16 * 16 + v) / 16 ≡ x / 16 = omega arith in rw (digit-suc (x / 16 * 16 + v) j, digit-suc x j, q)
+put-other x zero (suc j) {v} h n =
+    let q : (x / 16 * 16 + v) / 16 ≡ x / 16 = omega arith in
+    rw (digit-suc (x / 16 * 16 + v) j, digit-suc x j, q)
 put-other x (suc k) zero h n = rw (digit-zero (put (x / 16) k _ * 16 + x % 16), digit-zero x) (omega arith)
 put-other x (suc k) (suc j) {v} h n =
     rw (digit-suc (put (x / 16) k v * 16 + x % 16) j, digit-suc x j, put-div x k v) (put-other (x / 16) k j h (λ e. n (ap suc e)))
@@ -123,7 +125,7 @@ put-code x (suc k) v hx l h hv =
     let p : (digit x k * 2 ^ (4 * k) ≤ x) × (put x k v ≡ x - digit x k * 2 ^ (4 * k) + v * 2 ^ (4 * k)) = rw (pow16 k) at (put-pow x k v) in
     let old : digit x k * 2 ^ (4 * k) % 2 ^ 64 ≡ digit x k * 2 ^ (4 * k) = shl-exact 4 (4 * k) 64 (digit-lt x k) (omega arith) in
     let new : v * 2 ^ (4 * k) % 2 ^ 64 ≡ v * 2 ^ (4 * k) = shl-exact 4 (4 * k) 64 hv (omega arith) in
-    rw (e)
+    rw e
     (record {
       out = rw (← digit-shr x k, old) (p .0);
       fits = rw (← digit-shr x k, old, new, ← p .1) (put-lt 16 x k hx h hv);
@@ -152,7 +154,7 @@ or-agree zero b h = refl
 or-agree (suc a) zero h = rw (known-suc a) (or-zero-r (suc a))
 or-agree (suc a) (suc b) h = rw (known-suc a, ← h (known-suc a) (known-suc b)) (or-self (suc a))
 
-pub or-assigned : (x y : ℕ) → x < 2 ^ 64 → y < 2 ^ 64 → Agree (assignment x) (assignment y)
+pub or-assigned : (x y : ℕ) → x < 2 ^ 64 → y < 2 ^ 64 → Compatible (assignment x) (assignment y)
     → assignment (bitOr x y) ≡ join (assignment x) (assignment y)
 unfolding assignment fromOne join known maxNamed
 or-assigned x y hx hy h = fun-ext λ k. go k
@@ -165,4 +167,7 @@ or-assigned x y hx hy h = fun-ext λ k. go k
         (λ a b.
         test (leb (suc k) 16)
         (λ l. h (suc k) (omega arith) (leb-true (suc k) 16 l) a b)
-        (λ l. rw (digit-above 16 x k hx (omega (arith, leb-false (suc k) 16 l)), digit-above 16 y k hy (omega (arith, leb-false (suc k) 16 l))))))
+        (λ l. rw (
+          digit-above 16 x k hx (omega (arith, leb-false (suc k) 16 l)),
+          digit-above 16 y k hy (omega (arith, leb-false (suc k) 16 l)),
+        ))))

@@ -1,4 +1,5 @@
--- A value is known where it is not 0.
+-- A value is known exactly where it is not 0.
+-- Tests turned into bounds and back.
 use Prim.Native.Nat.{ℕ, suc, _≤_}
 use mathlib.Core.Path.{_≡_}
 use mathlib.Core.Bool.{true, false}

@@ -15,7 +15,7 @@ pub mod Turns
 pub mod Posts
 pub mod Start
 pub mod Steps
-pub mod News
-pub mod Refusals
+pub mod Infos
+pub mod LeftSides
 pub mod Accepting
 pub mod Backs

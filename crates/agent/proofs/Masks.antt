@@ -1,7 +1,8 @@
--- The mask of the values left free: how it is built from above, and that its trailing zeros give the lowest.
+-- The mask of the values left free: its trailing zeros give the lowest of them.
+-- The loop builds it from the highest value down, a doubling each, as the definition recurses.
 use Prim.Native.Nat.{ℕ, zero, suc, pred, _+_, _-_, _*_, _/_, _%_, _^_, _<_, _≤_}
 use mathlib.Core.Path.{_≡_, refl, ap, _∙_}
-use mathlib.Core.Bool.{Bool, true, false, not, _||_}
+use mathlib.Core.Bool.{Bool, true, false, not, _||_, cond}
 use mathlib.Core.Option.{Option, none, some}
 use mathlib.Core.List.{List}
 use native.Mathlib.Nat.{pow-suc, not-suc-le-zero, le-of-suc-le-suc, lt-of-lt-of-le}
@@ -19,29 +20,27 @@ use Rattle.agent_rules.specs.Message.{Assignment}
 use Rattle.agent_rules.specs.Choosing.{reason, reasonOf, blaming}
 use Rattle.agent_rules.specs.Receiving.{conflicts}
 use Rattle.agent.specs.Abstract.{assigned, nogoodOf, noNogood, agentOf, selfOf, bansIn}
-use Rattle.agent.specs.Parts.{MasksBarred, number, maskFrom, freeOf}
+use Rattle.agent.specs.Parts.{MasksBarred, maskFrom, freeOf}
 use Rattle.agent.specs.declared.Nogood.{Nogood}
 use Rattle.agent.specs.declared.Own.{Own}
 use Rattle.agent.specs.declared.Agent.{Agent}
 
 -- ---- the mask
 
-number-lt : (b : Bool) → number b < 2
-unfolding number
-number-lt true = omega arith
-number-lt false = omega arith
+one-lt : (b : Bool) → cond b 1 0 < 2
+one-lt true = omega arith
+one-lt false = omega arith
 
-byte : (b : Bool) → boolByte b ≡ number b
-unfolding number
+byte : (b : Bool) → boolByte b ≡ cond b 1 0
 byte true = refl
 byte false = refl
 
 mask-lt : (p : ℕ → Bool) (v n : ℕ) → maskFrom p v n < 2 ^ n
 unfolding maskFrom
 mask-lt p v zero = omega arith
-mask-lt p v (suc n) = rw pow-suc (omega (arith, mask-lt p (suc v) n, number-lt (p v)))
+mask-lt p v (suc n) = rw pow-suc (omega (arith, mask-lt p (suc v) n, one-lt (p v)))
 
-pub mask-fits : (p : ℕ → Bool) (v n : ℕ) → n ≤ 8 → maskFrom p v n < 256
+mask-fits : (p : ℕ → Bool) (v n : ℕ) → n ≤ 8 → maskFrom p v n < 256
 mask-fits p v n h = lt-of-lt-of-le (mask-lt p v n) (pow-mono h)
 
 pub mask-same : (p q : ℕ → Bool) (v n : ℕ) → ((w : ℕ) → v ≤ w → w < v + n → p w ≡ q w) → maskFrom p v n ≡ maskFrom q v n
@@ -51,8 +50,8 @@ mask-same p q v (suc n) h =
     rw (mask-same p q (suc v) n (λ w l u. h w (omega arith) (omega arith)), h v (omega arith) (omega arith))
 
 -- one turn of the loop that builds it from above
-pub mask-down : (p : ℕ → Bool) (d i : ℕ) → 0 < i → i ≤ d
-    → maskFrom p (suc (i - 1)) (d - (i - 1)) ≡ maskFrom p (suc i) (d - i) * 2 + number (p (suc (i - 1)))
+mask-down : (p : ℕ → Bool) (d i : ℕ) → 0 < i → i ≤ d
+    → maskFrom p (suc (i - 1)) (d - (i - 1)) ≡ maskFrom p (suc i) (d - i) * 2 + cond (p (suc (i - 1))) 1 0
 unfolding maskFrom
 mask-down p d (suc i) l h =
     let e : suc i - 1 ≡ i = omega arith in
@@ -62,9 +61,9 @@ mask-down p d zero l h = absurd (not-suc-le-zero l)
 
 -- ---- the lowest value that passes
 
-first : (b : Bool) (w v m : ℕ) (o : Option ℕ) → (0 < m → o ≡ some (suc v + trailingZeros w m)) → 0 < m * 2 + number b
-    → elim b as (λ _. Option ℕ) [ true ↦ some v | false ↦ o ] ≡ some (v + trailingZeros (suc w) (m * 2 + number b))
-unfolding trailingZeros number
+first : (b : Bool) (w v m : ℕ) (o : Option ℕ) → (0 < m → o ≡ some (suc v + trailingZeros w m)) → 0 < m * 2 + cond b 1 0
+    → elim b as (λ _. Option ℕ) [ true ↦ some v | false ↦ o ] ≡ some (v + trailingZeros (suc w) (m * 2 + cond b 1 0))
+unfolding trailingZeros
 first true w v m o h l =
     let q : (m * 2 + 1) % 2 ≡ 1 = omega arith in ap some (let e : v ≡ v + 0 = omega arith in rw q e)
 first false w v m o h l =
@@ -81,7 +80,7 @@ mask-lowest p v (suc n) (suc w) h l =
     first (p v) w v (maskFrom p (suc v) n) (lowest n (suc v) p) (λ q. mask-lowest p (suc v) n w (le-of-suc-le-suc h) q) l
 
 pub mask-none : (p : ℕ → Bool) (v n : ℕ) → maskFrom p v n ≡ 0 → lowest n v p ≡ none
-unfolding maskFrom lowest number
+unfolding maskFrom lowest
 mask-none p v zero e = refl
 mask-none p v (suc n) e =
     test (p v)
@@ -124,7 +123,8 @@ pub next-mask : (nogoods : List Nogood) (barred mask d i : ℕ) → 0 < i → i 
 unfolding leftFree bit
 next-mask nogoods barred mask d i l h e =
     rw (mask-down (leftFree nogoods barred) d i l h, e)
-    (ap (λ (n : ℕ). maskFrom (leftFree nogoods barred) (suc i) (d - i) * 2 + n) (byte (not (getD nogoods (i - 1) noNogood .stored || eqb (barred / 2 ^ (i - 1) % 2) 1))))
+    (ap (λ (n : ℕ). maskFrom (leftFree nogoods barred) (suc i) (d - i) * 2 + n)
+    (byte (not (getD nogoods (i - 1) noNogood .stored || eqb (barred / 2 ^ (i - 1) % 2) 1))))
 
 pub next-fits : (nogoods : List Nogood) (barred mask d i : ℕ) → 0 < i → i ≤ d → d ≤ 8
     → mask ≡ maskFrom (leftFree nogoods barred) (suc i) (d - i)

@@ -1,4 +1,5 @@
--- An outbox with one post more holds one post more.
+-- An outbox with one place more written holds one post more.
+-- The posts are the first places of the array, so a store at the count adds one at the end.
 use Prim.Native.Nat.{ℕ, _+_, _<_, _≤_}
 use mathlib.Core.Path.{_≡_, refl, sym, ap, _∙_}
 use mathlib.Core.Bool.{true, false}
@@ -33,7 +34,12 @@ holds-more o ps p h g =
     let l = g .places in
     record {
       sent =
-          rw (add-one, take-suc-set (o .posts) (o .count) p (omega arith), map-append postOf (take (o .count) (o .posts)) (p ∷ []), g .sent);
+          rw (
+            add-one,
+            take-suc-set (o .posts) (o .count) p (omega arith),
+            map-append postOf (take (o .count) (o .posts)) (p ∷ []),
+            g .sent,
+          );
       count = rw (length-append ps (postOf p ∷ [])) (ap (λ (n : ℕ). n + 1) (g .count));
       places = rw length-set l;
     }
@@ -43,7 +49,12 @@ pub holds-next : (o : Outbox) (ps : List Post′) (more : List Post) (i : ℕ) (
     → Holding o (ps ++ map postOf (take i more))
     → Holding record { count = o .count + 1; posts = set (o .posts) (o .count) (getD more i d) } (ps ++ map postOf (take (i + 1) more))
 holds-next o ps more i d h l g =
-    rw (add-one i, take-suc more i d l, map-append postOf (take i more) (getD more i d ∷ []), ← append-assoc ps (map postOf (take i more)) (postOf (getD more i d) ∷ []))
+    rw (
+      add-one i,
+      take-suc more i d l,
+      map-append postOf (take i more) (getD more i d ∷ []),
+      ← append-assoc ps (map postOf (take i more)) (postOf (getD more i d) ∷ []),
+    )
     (holds-more o (ps ++ map postOf (take i more)) (getD more i d) h g)
 
 -- ---- posts gathered number by number
@@ -57,7 +68,7 @@ module _ (f : ℕ → List Post′) (o : Outbox) (ps : List Post′) (m k : ℕ)
   pub gathers-none : f (k + m) ≡ [] → Holding o (ps ++ gather (m + 1) k f)
   gathers-none e = rw (add-one m, gather-last m k f, e, append-nil (gather m k f)) g
 
--- ---- news
+-- ---- Infos
 
 pub told : (a : Agent′) (v k : ℕ) → a .informs k ≡ true → infoTo a v k ≡ record { to = k; message = Info′ v } ∷ []
 unfolding infoTo

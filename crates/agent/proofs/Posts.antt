@@ -1,4 +1,5 @@
 -- Whatever a step sends goes to another agent of 1 to 12.
+-- Rule by rule: Infos go down, AddLinks and Backs up, an answer to the sender.
 use Prim.Native.Nat.{ℕ, zero, suc, pred, _+_, _-_, _<_, _≤_}
 use mathlib.Core.Path.{sym}
 use mathlib.Core.Logic.{_≢_}
@@ -29,7 +30,8 @@ gather-all : {A : Type 0} (P : A → Type 0) (m k : ℕ) (f : ℕ → List A) �
 unfolding gather
 gather-all P zero k f h = tt
 gather-all P (suc m) k f h =
-    All-append P (f k) (gather m (suc k) f) (h k (omega arith) (omega arith)) (gather-all P m (suc k) f (λ j l u. h j (omega arith) (omega arith)))
+    All-append P (f k) (gather m (suc k) f) (h k (omega arith) (omega arith))
+    (gather-all P m (suc k) f (λ j l u. h j (omega arith) (omega arith)))
 
 -- ---- each rule
 
@@ -74,7 +76,8 @@ module _ (s : Self) (first : 1 ≤ s .number) (last : s .number ≤ 12) where
   unfolding outdated quiet
   outdated-to a from v l h = test (eqb v (a .value)) (λ e. rw e (answer-to a from l h)) (λ e. rw e tt)
 
-  pub receive-to : (bans : Bans) (a : Agent′) (from : ℕ) (m : Message′) → MessageFits anyValue s a from m → All (To s) (receive s bans a from m .sent)
+  receive-to : (bans : Bans) (a : Agent′) (from : ℕ) (m : Message′) → MessageFits anyValue s a from m
+      → All (To s) (receive s bans a from m .sent)
   unfolding receive onInfo onBack onAddLink quiet checkView after maxAgents
   receive-to bans a from (Info′ v) h =
       test (conflicts s bans (at (a .view) from v) (a .value))
@@ -92,7 +95,8 @@ module _ (s : Self) (first : 1 ≤ s .number) (last : s .number ≤ 12) where
 
 -- ---- place by place
 
-pub posts-to : (own : Own) (n : ℕ) (l : List Post) → All (To (selfOf own)) (map postOf (take n l)) → (i : ℕ) (d : Post) → i < n → i < length l
+posts-to : (own : Own) (n : ℕ) (l : List Post) → All (To (selfOf own)) (map postOf (take n l)) → (i : ℕ) (d : Post) → i < n
+    → i < length l
     → Addressed own (getD l i d .to)
 unfolding selfOf postOf
 posts-to own zero l h i d u w = absurd (not-suc-le-zero u)

@@ -1,4 +1,5 @@
--- Giving the reasons upward: after each value that is not free, choosing goes on with the next.
+-- Giving the reasons upward, choosing goes on with the values above those tried.
+-- A value that is not free has a stored nogood or is barred; either way one step of the definition is made.
 use Prim.Native.Nat.{ℕ, suc, pred, _+_, _-_, _<_, _≤_}
 use mathlib.Core.Path.{_≡_, refl, sym, ap, _∙_}
 use mathlib.Core.Bool.{true, false, false≢true}
@@ -8,7 +9,7 @@ use native.Mathlib.Omega.{arith}
 use lib.ListN.{length, getD, set}
 use Rattle.base.specs.Finite.{at, lowest, isSome, fromOne}
 use Rattle.base.proofs.Tests.{opt}
-use Rattle.base.proofs.Search.{lowest-range, at-other}
+use Rattle.base.proofs.Search.{lowest-range, at-other, at-itself}
 use Rattle.agent_rules.specs.Message.{Assignment}
 use Rattle.agent_rules.specs.Agent.{Self, Bans, Nogoods, Agent as Agent′, above}
 use Rattle.agent_rules.specs.Choosing.{bars, blame, only, blaming, reason, reasonOf, choose, choice, chosen}
@@ -17,7 +18,7 @@ use Rattle.agent.specs.Parts.{numberOf, freeOf, Reasoned}
 use Rattle.agent.specs.declared.Nogood.{Nogood}
 use Rattle.agent.specs.declared.Agent.{Agent}
 use Rattle.agent.specs.declared.Own.{Own}
-use Rattle.agent.proofs.Records.{withNogoods, nogoodsOf, nogoods-set, nogood-stored, nogood-none, at-itself}
+use Rattle.agent.proofs.Records.{withNogoods, nogoodsOf, nogoods-set, nogood-stored, nogood-none}
 
 -- one value more is tried
 choose-more : (m v : ℕ) (s : Self) (bans : Bans) (view : Assignment) (nogoods : Nogoods) (lhs : Assignment)
@@ -31,7 +32,7 @@ unfolding chosen choice
 reasoned-none s bans a =
     record { rest = refl; later = λ v h. refl; goes-on = let e : s .domain - 0 ≡ s .domain = omega arith in rw e }
 
-pub reasoned-more : (s : Self) (bans : Bans) (m : ℕ) (a r t : Agent′) (lhs : Assignment) → m < s .domain → Reasoned s bans m a r
+reasoned-more : (s : Self) (bans : Bans) (m : ℕ) (a r t : Agent′) (lhs : Assignment) → m < s .domain → Reasoned s bans m a r
     → reason s bans (a .view) (r .nogoods) (suc m) ≡ some lhs → t ≡ chosen r (r .value) (at (r .nogoods) (suc m) (some lhs))
     → Reasoned s bans (suc m) a t
 unfolding chosen
@@ -46,7 +47,7 @@ reasoned-more s bans m a r t lhs h g e q =
     })
 
 -- a value that is neither free nor has a nogood is barred by an agent above
-pub blamed : (s : Self) (bans : Bans) (a : Agent′) (v : ℕ) → freeOf s bans a v ≡ false → a .nogoods v ≡ none
+blamed : (s : Self) (bans : Bans) (a : Agent′) (v : ℕ) → freeOf s bans a v ≡ false → a .nogoods v ≡ none
     → (k : ℕ) × (blame s bans (a .view) v ≡ some k) × (1 ≤ k) × (k < 1 + above s)
 unfolding freeOf reason blame isSome reasonOf blaming
 blamed s bans a v e z =
@@ -89,5 +90,6 @@ module _ (own : Own) (bans : Bans) (a₀ a : Agent) (i : ℕ) (h : i < own .doma
       let j : k ≡ b .0 = rw (b .1) at q in
       let m : nogoodOf n ≡ some (only k (assigned (a₀ .view) k)) = nogood-stored n st ∙ ap some l in
       rw (add-one i)
-      (reasoned-more (selfOf own) bans i (agentOf a₀) (agentOf a) (agentOf (withNogoods a (set (a .nogoods) i n))) (only k (assigned (a₀ .view) k)) h g
+      (reasoned-more (selfOf own) bans i (agentOf a₀) (agentOf a) (agentOf (withNogoods a (set (a .nogoods) i n)))
+      (only k (assigned (a₀ .view) k)) h g
       (rw (z, f, j)) (rw (← m, ← nogoods-set (a .nogoods) i n (omega arith))))

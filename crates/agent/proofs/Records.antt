@@ -1,4 +1,5 @@
--- An agent's record with one nogood changed means the record with that nogood changed.
+-- A record with one nogood written means the agent with that nogood.
+-- Place v - 1 of the array is value v; the other places are untouched.
 use Prim.Native.Nat.{ℕ, zero, suc, _<_}
 use mathlib.Core.Path.{_≡_, sym, ap, fun-ext}
 use mathlib.Core.Option.{none, some}
@@ -20,6 +21,12 @@ use Rattle.agent.specs.declared.Agent.{Agent}
 
 abbrev pub withNogoods : Agent → List Nogood → Agent
 withNogoods a l = record { value = a .value; listens = a .listens; informs = a .informs; view = a .view; nogoods = l }
+
+abbrev pub withValue : Agent → ℕ → Agent
+withValue a v = record { value = v; listens = a .listens; informs = a .informs; view = a .view; nogoods = a .nogoods }
+
+abbrev pub withInforms : Agent → ℕ → Agent
+withInforms a m = record { value = a .value; listens = a .listens; informs = m; view = a .view; nogoods = a .nogoods }
 
 abbrev pub withView : Agent → Lhs → Agent
 withView a l = record { value = a .value; listens = a .listens; informs = a .informs; view = l; nogoods = a .nogoods }
@@ -43,7 +50,10 @@ nogoods-set l i g h = fun-ext λ v. go v
         test (eqb j i)
         (λ e. rw (eqb-true j i e, at-same (nogoodsOf l) (suc i) (nogoodOf g), getD-set-same l i g noNogood h))
         (λ e.
-        rw (at-other (nogoodsOf l) (suc i) (nogoodOf g) (suc j) (λ u. eqb-false j i e (omega arith)), getD-set-other l i j g noNogood (eqb-false j i e)))
+        rw (
+          at-other (nogoodsOf l) (suc i) (nogoodOf g) (suc j) (λ u. eqb-false j i e (omega arith)),
+          getD-set-other l i j g noNogood (eqb-false j i e),
+        ))
 
 pub nogood-stored : (g : Nogood) → g .stored ≡ true → nogoodOf g ≡ some (assigned (g .lhs))
 unfolding nogoodOf
@@ -52,8 +62,3 @@ nogood-stored g e = rw (e, nogoodOf)
 pub nogood-none : (g : Nogood) → g .stored ≡ false → nogoodOf g ≡ none
 unfolding nogoodOf
 nogood-none g e = rw (e, nogoodOf)
-
--- a map changed to what it has already
-pub at-itself {ℓ} : {A : Type ℓ} (f : ℕ → A) (i : ℕ) (a : A) → f i ≡ a → at f i a ≡ f
-at-itself f i a e =
-    fun-ext λ j. test (eqb j i) (λ t. rw (eqb-true j i t, at-same f i a) (sym e)) (λ t. at-other f i a j (eqb-false j i t))

@@ -1,4 +1,5 @@
 -- A mask with one bit more is the set with one agent more.
+-- Bit by bit: the bit that is set, and the others.
 use Prim.Native.Nat.{ℕ, zero, suc, _*_, _-_, _/_, _%_, _^_, _≤_}
 use mathlib.Core.Path.{_≡_, sym, fun-ext}
 use mathlib.Core.Bool.{true, or-true, or-false}

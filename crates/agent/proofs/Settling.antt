@@ -1,4 +1,5 @@
--- Backing up, one turn at a time, and why it ends: each turn one agent more of the view is unknown.
+-- Backing up, one turn at a time: what the definition does where a value, nobody or an agent to refuse is found.
+-- Whoever is refused was known in the view, so each turn one agent more is unknown.
 use Prim.Native.Nat.{ℕ, zero, suc, _≤_}
 use mathlib.Core.Path.{_≡_, refl, sym, ap, _∙_, fun-ext}
 use mathlib.Core.Logic.{_≢_}
@@ -23,24 +24,24 @@ use Rattle.agent.proofs.Unions.{union-agreed}
 -- ---- one turn
 
 module _ (times : ℕ) (s : Self) (bans : Bans) (a : Agent) where
-  pub settle-took : (v : ℕ) → choice s bans a .value ≡ some v → settle (suc times) s bans a ≡ took s a v (choice s bans a .nogoods)
+  settle-took : (v : ℕ) → choice s bans a .value ≡ some v → settle (suc times) s bans a ≡ took s a v (choice s bans a .nogoods)
   unfolding settle
   settle-took v e = rw (e, settle)
 
-  pub settle-failed : choice s bans a .value ≡ none
+  settle-failed : choice s bans a .value ≡ none
       → highest (above s) (λ k. known (union (s .domain) (choice s bans a .nogoods) k)) ≡ none
       → settle (suc times) s bans a ≡ failed a (choice s bans a .nogoods)
   unfolding settle
   settle-failed e f = rw (e, f, settle)
 
-  pub settle-back : (k : ℕ) → choice s bans a .value ≡ none
+  settle-back : (k : ℕ) → choice s bans a .value ≡ none
       → highest (above s) (λ k. known (union (s .domain) (choice s bans a .nogoods) k)) ≡ some k
       → settle (suc times) s bans a
       ≡ after (refusing k (union (s .domain) (choice s bans a .nogoods)) ∷ []) (settle times s bans (forget k a (choice s bans a .nogoods)))
   unfolding settle
   settle-back k e f = rw (e, f, settle)
 
-pub after-after : (ps qs : List Post) (t : Step) → after ps (after qs t) ≡ after (ps ++ qs) t
+after-after : (ps qs : List Post) (t : Step) → after ps (after qs t) ≡ after (ps ++ qs) t
 unfolding after
 after-after ps qs t = rw (append-assoc ps qs (t .sent))
 
@@ -54,7 +55,7 @@ keeping-none k (some lhs) =
     (λ e. rw (e, ne-eqb (lhs k) 0 (λ z. omega (arith, known-true (lhs k) e))))
     (λ e. rw e)
 
-pub forget-seeing : (k : ℕ) (a : Agent) (nogoods : Nogoods) → forget k a nogoods ≡ seeing k 0 (chosen a (a .value) nogoods)
+forget-seeing : (k : ℕ) (a : Agent) (nogoods : Nogoods) → forget k a nogoods ≡ seeing k 0 (chosen a (a .value) nogoods)
 unfolding forget seeing chosen
 forget-seeing k a nogoods =
     ap (λ (n : Nogoods). record { value = a .value; listens = a .listens; informs = a .informs; view = at (a .view) k 0; nogoods = n })
@@ -79,7 +80,8 @@ unfolding namedTo
 named-same zero f g h = refl
 named-same (suc m) f g h = rw (h (suc m) (omega arith) (omega arith), named-same m f g (λ k l u. h k l (omega arith)))
 
-pub named-forget : (m : ℕ) (view : Assignment) (k : ℕ) → 1 ≤ k → k ≤ m → known (view k) ≡ true → suc (namedTo m (at view k 0)) ≡ namedTo m view
+pub named-forget : (m : ℕ) (view : Assignment) (k : ℕ) → 1 ≤ k → k ≤ m → known (view k) ≡ true
+    → suc (namedTo m (at view k 0)) ≡ namedTo m view
 unfolding namedTo known
 named-forget zero view k l h e = absurd (omega arith)
 named-forget (suc m) view k l h e =

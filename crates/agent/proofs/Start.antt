@@ -1,4 +1,5 @@
--- The record that an agent starts with.
+-- The record that an agent starts with means the fresh agent, and is coherent.
+-- It names nobody and stores nothing.
 use Prim.Native.Nat.{ℕ, zero, suc}
 use mathlib.Core.Path.{_≡_, refl, ap₂, fun-ext}
 use mathlib.Core.Bool.{Bool, false≢true}
@@ -33,7 +34,8 @@ pub fresh-agent : (listens informs : ℕ)
     ≡ fresh (members listens) (members informs)
 unfolding agentOf fresh assigned nogoodsOf
 fresh-agent listens informs =
-    ap₂ (λ (f : Assignment) (n : Nogoods). record { value = 0; listens = members listens; informs = members informs; view = f; nogoods = n })
+    ap₂
+    (λ (f : Assignment) (n : Nogoods). record { value = 0; listens = members listens; informs = members informs; view = f; nogoods = n })
     nobody-assigned none-stored
 
 pub coherent-fresh : (s : Self) (listens informs : ℕ → Bool) → Coherent s (fresh listens informs)

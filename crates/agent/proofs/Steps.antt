@@ -1,4 +1,5 @@
 -- Steps that send what they are given to send, and steps with something sent before.
+-- The posts of the one outbox follow those of the other.
 use Prim.Native.Nat.{ℕ, _+_, _≤_}
 use mathlib.Core.Path.{_≡_, ap, _∙_}
 use mathlib.Core.Bool.{true, false}
@@ -18,6 +19,7 @@ use Rattle.agent.specs.declared.Message.the-variants.{Info}
 use Rattle.agent.specs.declared.Agent.{Agent}
 use Rattle.agent.specs.declared.Outbox.{Outbox}
 use Rattle.agent.specs.declared.Step.{Step}
+use Rattle.agent.proofs.Records.{withInforms}
 
 pub makes-quiet : (a : Agent) (o : Outbox) (ps : List Post′) (m : ℕ) → Holding o ps → length ps ≤ m
     → Makes record { agent = a; outbox = o; verdict = false } (quiet (agentOf a) ps) m
@@ -30,7 +32,8 @@ makes-quiet a o ps m h l =
     }
 
 -- the own value, told to one agent
-pub holds-answer : (a : Agent) (o r : Outbox) (to : ℕ) → Holding o [] → Holding r (sentOf o ++ (postTo to (Info (a .value)) ∷ [])) → Holding r (answer (agentOf a) to)
+pub holds-answer : (a : Agent) (o r : Outbox) (to : ℕ) → Holding o [] → Holding r (sentOf o ++ (postTo to (Info (a .value)) ∷ []))
+    → Holding r (answer (agentOf a) to)
 unfolding answer agentOf postTo messageOf
 holds-answer a o r to h g = rw (h .sent) at g
 
@@ -46,7 +49,8 @@ outdated-other a o from v e h = rw e (makes-quiet a o [] 1 h (omega arith))
 
 -- what is sent before the rest
 pub makes-after : (r : Step) (t : Step′) (before o : Outbox) (ps : List Post′) (m n : ℕ) → Makes r t m → Holding before ps → length ps ≤ n
-    → Holding o (sentOf before ++ sentOf (r .outbox)) → Makes record { agent = r .agent; outbox = o; verdict = r .verdict } (after ps t) (n + m)
+    → Holding o (sentOf before ++ sentOf (r .outbox))
+    → Makes record { agent = r .agent; outbox = o; verdict = r .verdict } (after ps t) (n + m)
 unfolding after stepOf
 makes-after r t before o ps m n g h l f =
     let k : Holding o (ps ++ t .sent) = rw (h .sent, g .posts .sent) at f in
@@ -60,8 +64,9 @@ makes-after r t before o ps m n g h l f =
 
 -- one agent more is informed
 pub linked : (a : Agent) (m from : ℕ) (o : Outbox) → members m ≡ at (members (a .informs)) from true → Holding o (answer (agentOf a) from)
-    → Makes record { agent = record { value = a .value; listens = a .listens; informs = m; view = a .view; nogoods = a .nogoods }; outbox = o; verdict = false }
+    → Makes record { agent = withInforms a m; outbox = o; verdict = false }
     (onAddLink (agentOf a) from) 1
 unfolding onAddLink informing agentOf answer
 linked a m from o e h =
-    rw (← e) (makes-quiet record { value = a .value; listens = a .listens; informs = m; view = a .view; nogoods = a .nogoods } o (answer (agentOf a) from) 1 h (omega arith))
+    rw (← e) (makes-quiet (withInforms a m) o
+    (answer (agentOf a) from) 1 h (omega arith))

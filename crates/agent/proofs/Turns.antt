@@ -1,4 +1,5 @@
--- The loop of backing up: its invariant at the start, kept by a turn that refuses, and what the turns that end it give.
+-- The invariant of the loop of backing up: it holds at the start, a turn that refuses keeps it, and the turns that end give the step.
+-- What was sent, and then settling from here, is settling from the start; Backs and known agents are few enough that turns are left.
 use Prim.Native.Nat.{ℕ, suc, pred, _+_, _-_, _≤_}
 use mathlib.Core.Path.{_≡_, refl, sym, ap, _∙_}
 use mathlib.Core.Logic.{_≢_}
@@ -22,10 +23,11 @@ use Rattle.agent.specs.declared.Message.the-variants.{Back}
 use Rattle.agent.specs.declared.Agent.{Agent}
 use Rattle.agent.specs.declared.Own.{Own}
 use Rattle.agent.specs.declared.Outbox.{Outbox}
+use Rattle.agent.proofs.Records.{withValue}
 use Rattle.agent.proofs.Coherence.{coherent-choice, coherent-seeing}
 use Rattle.agent.proofs.Settling.{namedTo, named-le, named-forget, whom, refused-known, turn-took, turn-failed, turn-back}
 
--- what was sent, and then settling from here, is settling from the start; the agents that are known and the refusals sent are together no
+-- what was sent, and then settling from here, is settling from the start; the agents that are known and the Backs sent are together no
 -- more than the agents above, so there are turns left
 pub record Turning (own : Own) (words : List ℕ) (a₀ a : Agent) (out : Outbox) : Type 0 where
   pub coherent : Coherent (selfOf own) (agentOf a)
@@ -37,7 +39,8 @@ pub record Turning (own : Own) (words : List ℕ) (a₀ a : Agent) (out : Outbox
 holds-sent : (o : Outbox) (ps : List Post′) → Holding o ps → Holding o (sentOf o)
 holds-sent o ps h = rw (h .sent) h
 
-pub turn-begin : (own : Own) (words : List ℕ) (a : Agent) (out : Outbox) → Coherent (selfOf own) (agentOf a) → Holding out [] → Turning own words a a out
+pub turn-begin : (own : Own) (words : List ℕ) (a : Agent) (out : Outbox) → Coherent (selfOf own) (agentOf a) → Holding out []
+    → Turning own words a a out
 unfolding checkView selfOf after
 turn-begin own words a out c h =
     let z : out .count ≡ 0 = h .count in
@@ -66,7 +69,7 @@ module _ (own : Own) (words : List ℕ) (able : Able own words) (a₀ a b : Agen
 
   pub took-step : (v : ℕ) → v ≢ 0 → Chose (selfOf own) (bansIn words) (agentOf a) v (agentOf b)
       → (told : Outbox) → Holding told (sentOf out ++ infos (selfOf own) (agentOf b) v)
-      → Makes record { agent = record { value = v; listens = b .listens; informs = b .informs; view = b .view; nogoods = b .nogoods }; outbox = told; verdict = false }
+      → Makes record { agent = withValue b v; outbox = told; verdict = false }
       (checkView (selfOf own) (bansIn words) (agentOf a₀)) 11
   unfolding stepOf agentOf chosen selfOf
   took-step v h c told g =
@@ -75,7 +78,16 @@ module _ (own : Own) (words : List ℕ) (able : Able own words) (a₀ a b : Agen
         step = ap (λ (l : List Post′). record { agent = chosen (agentOf b) v (agentOf b .nogoods); sent = l; verdict = false }) (g .sent);
         posts = g;
         few =
-            omega (arith, g .count, length-append (sentOf out) (infos (selfOf own) (agentOf b) v), infos-few (selfOf own) (agentOf b) v, t .holds .count, t .left, able .first, able .last);
+            omega (
+              arith,
+              g .count,
+              length-append (sentOf out) (infos (selfOf own) (agentOf b) v),
+              infos-few (selfOf own) (agentOf b) v,
+              t .holds .count,
+              t .left,
+              able .first,
+              able .last,
+            );
       })
 
   -- what the code chose is coherent too
@@ -90,11 +102,12 @@ module _ (own : Own) (words : List ℕ) (able : Able own words) (a₀ a b : Agen
     refused = rw (joined, sub-one) at top
 
     pub failed-step : k ≡ 0
-        → Makes record { agent = record { value = 0; listens = b .listens; informs = b .informs; view = b .view; nogoods = b .nogoods }; outbox = out; verdict = true }
+        → Makes record { agent = withValue b 0; outbox = out; verdict = true }
         (checkView (selfOf own) (bansIn words) (agentOf a₀)) 11
     unfolding stepOf agentOf chosen selfOf
     failed-step z =
-        rw (goes ∙ turn-failed (own .number - out .count - 1) (selfOf own) (bansIn words) (agentOf a) (agentOf b) (sentOf out) c (sym refused ∙ z))
+        rw (goes ∙ turn-failed (own .number - out .count - 1) (selfOf own) (bansIn words) (agentOf a) (agentOf b) (sentOf out) c
+        (sym refused ∙ z))
         (record { step = refl; posts = t .holds; few = omega (arith, t .left, able .last) })
 
     module _ (some : k ≢ 0) where
@@ -119,7 +132,8 @@ module _ (own : Own) (words : List ℕ) (able : Able own words) (a₀ a b : Agen
       the-post rest u f q = rw (← joined, f, q)
 
       goes-on : (a′ : Agent) (out′ : Outbox) (rest : Lhs) (u : ℕ) → agentOf a′ ≡ seeing k 0 (agentOf b)
-          → postTo k (Back rest u) ≡ refusing k (union (own .domain) (agentOf b .nogoods)) → Holding out′ (sentOf out ++ (postTo k (Back rest u) ∷ []))
+          → postTo k (Back rest u) ≡ refusing k (union (own .domain) (agentOf b .nogoods))
+          → Holding out′ (sentOf out ++ (postTo k (Back rest u) ∷ []))
           → out′ .count ≡ out .count + 1
           → checkView (selfOf own) (bansIn words) (agentOf a₀)
           ≡ after (sentOf out′) (settle (own .number - out′ .count) (selfOf own) (bansIn words) (agentOf a′))
@@ -127,7 +141,8 @@ module _ (own : Own) (words : List ℕ) (able : Able own words) (a₀ a b : Agen
       goes-on a′ out′ rest u e p g m =
           let n : own .number - out′ .count ≡ own .number - out .count - 1 = omega arith in
           rw (g .sent, p, n, e)
-          (goes ∙ turn-back (own .number - out .count - 1) (selfOf own) (bansIn words) (agentOf a) (agentOf b) (sentOf out) c k some refused)
+          (goes ∙ turn-back (own .number - out .count - 1) (selfOf own) (bansIn words) (agentOf a) (agentOf b)
+          (sentOf out) c k some refused)
 
       pub next-turn : (a′ : Agent) (out′ : Outbox) (rest : Lhs) (u : ℕ) → agentOf a′ ≡ seeing k 0 (agentOf b)
           → assigned rest ≡ at (assigned whole) k 0 → u ≡ assigned whole k → Holding out′ (sentOf out ++ (postTo k (Back rest u) ∷ []))

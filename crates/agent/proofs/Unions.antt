@@ -1,4 +1,5 @@
--- The join of the left sides that agree with the view agrees with it too; and whoever is in it is in one of them.
+-- The join of left sides that agree with the view agrees with it too, value by value as the loop joins them.
+-- Two left sides that agree with one view are compatible, so `|` joins them.
 use Prim.Native.Nat.{ℕ, zero, suc, _+_, _<_, _≤_}
 use mathlib.Core.Path.{_≡_, refl, sym, _∙_, fun-ext}
 use mathlib.Core.Bool.{true, false, false≢true}
@@ -12,17 +13,13 @@ use Rattle.problem.specs.Problem.{maxDomain}
 use Rattle.agent_rules.specs.Message.{Assignment, known, nobody}
 use Rattle.agent_rules.specs.Agent.{Self, Agent as Agent′}
 use Rattle.agent_rules.specs.Choosing.{join, lhsOf, union}
-use Rattle.agent_rules.specs.Shape.{EachNamed}
 use Rattle.agent.specs.Abstract.{assigned, noNogood, agentOf}
-use Rattle.agent.specs.Parts.{Agree, Coherent}
+use Rattle.agent.specs.Parts.{Compatible, Agreed, Coherent}
 use Rattle.agent.specs.declared.Agent.{Agent}
 use Rattle.agent.proofs.Known.{known-false}
 use Rattle.agent.proofs.Records.{nogood-stored, nogood-none}
 
 -- ---- a join that agrees
-
-abbrev Agreed : Assignment → Assignment → Type 0
-Agreed view lhs = EachNamed lhs (λ k u. u ≡ view k)
 
 join-agreed : (view l r : Assignment) → Agreed view l → Agreed view r → Agreed view (join l r)
 unfolding join
@@ -36,7 +33,7 @@ unfolding lhsOf nobody known
 lhs-agreed view none f k lo hi e = absurd (false≢true e)
 lhs-agreed view (some lhs) f k lo hi e = f lhs refl k lo hi e
 
-pub union-agreed : (s : Self) (a : Agent′) → Coherent s a → (m : ℕ) → m ≤ 8 → EachNamed (union m (a .nogoods)) (λ k u. u ≡ a .view k)
+pub union-agreed : (s : Self) (a : Agent′) → Coherent s a → (m : ℕ) → m ≤ 8 → Agreed (a .view) (union m (a .nogoods))
 unfolding union nobody known maxDomain
 union-agreed s a c zero h = λ k lo hi e. absurd (false≢true e)
 union-agreed s a c (suc m) h =
@@ -51,9 +48,9 @@ join-nobody l = fun-ext λ k. test (known (l k)) (λ t. rw t) (λ t. rw t (sym (
 
 module _ (s : Self) (a : Agent) (c : Coherent s (agentOf a)) (i : ℕ) (h : i < 8) (whole : Assignment)
     (e : whole ≡ union i (agentOf a .nogoods)) where
-  pub agree : getD (a .nogoods) i noNogood .stored ≡ true → Agree whole (assigned (getD (a .nogoods) i noNogood .lhs))
+  pub compatible : getD (a .nogoods) i noNogood .stored ≡ true → Compatible whole (assigned (getD (a .nogoods) i noNogood .lhs))
   unfolding agentOf fromOne maxDomain
-  agree t k lo hi p q =
+  compatible t k lo hi p q =
       let one : whole k ≡ assigned (a .view) k = rw e (union-agreed s (agentOf a) c i (omega arith) k lo hi (rw e at p)) in
       one ∙ sym (c .agreed (suc i) (assigned (getD (a .nogoods) i noNogood .lhs)) (omega arith) h (nogood-stored _ t) k lo hi q)
 

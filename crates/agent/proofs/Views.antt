@@ -1,4 +1,5 @@
--- A changed view: nogood by nogood, those that name the agent at another value go.
+-- The code drops the nogoods that name an agent at another value, and no others.
+-- Nogood by nogood: the first i are what is kept, the others are as they were.
 use Prim.Native.Nat.{ℕ, zero, suc, _+_, _<_, _≤_}
 use mathlib.Core.Path.{_≡_, refl, sym, ap, ap₂, _∙_, fun-ext}
 use mathlib.Core.Logic.{_≢_}
@@ -38,7 +39,8 @@ dropped g k u v e t =
     (λ s. rw (nogood-stored g s, ← e, tested u v, t))
     (λ s. rw (nogood-none g s))
 
-pub kept : (g : Nogood) (k u v : ℕ) → u ≡ assigned (g .lhs) k → not (eqb u 0) && not (eqb u v) ≡ false → keeping k v (nogoodOf g) ≡ nogoodOf g
+pub kept : (g : Nogood) (k u v : ℕ) → u ≡ assigned (g .lhs) k → not (eqb u 0) && not (eqb u v) ≡ false
+    → keeping k v (nogoodOf g) ≡ nogoodOf g
 unfolding keeping keepIf
 kept g k u v e t =
     test (g .stored)
@@ -81,7 +83,7 @@ module _ (k v i : ℕ) (l₀ l : List Nogood) (h : i < 8) (c : Kept k v i l₀ l
       }
 
 -- all eight
-pub kept-all : (k v : ℕ) (l₀ l : List Nogood) → length l₀ ≡ 8 → Kept k v 8 l₀ l → nogoodsOf l ≡ (λ w. keeping k v (nogoodsOf l₀ w))
+kept-all : (k v : ℕ) (l₀ l : List Nogood) → length l₀ ≡ 8 → Kept k v 8 l₀ l → nogoodsOf l ≡ (λ w. keeping k v (nogoodsOf l₀ w))
 unfolding nogoodsOf fromOne keeping noNogood
 kept-all k v l₀ l h c = fun-ext λ w. go w
   where
@@ -92,7 +94,11 @@ kept-all k v l₀ l h c = fun-ext λ w. go w
         (λ t.
         let q = leb-true 8 j t in
         let m = c .long in
-        rw (List·getD-eq-default l noNogood {n = j} (omega arith), List·getD-eq-default l₀ noNogood {n = j} (omega arith), nogood-none noNogood refl))
+        rw (
+          List·getD-eq-default l noNogood {n = j} (omega arith),
+          List·getD-eq-default l₀ noNogood {n = j} (omega arith),
+          nogood-none noNogood refl,
+        ))
         (λ t. c .done j (leb-false 8 j t))
 
 -- the agent as it is then
@@ -101,5 +107,13 @@ pub seen : (self a : Agent) (view : Lhs) (k v : ℕ) → length (self .nogoods) 
 unfolding agentOf seeing nogoodsOf
 seen self a view k v h e f c =
     ap agentOf e
-    ∙ ap₂ (λ (w : Assignment) (n : Nogoods). record { value = self .value; listens = members (self .listens); informs = members (self .informs); view = w; nogoods = n }) f
+    ∙ ap₂
+    (λ (w : Assignment) (n : Nogoods). record {
+      value = self .value;
+      listens = members (self .listens);
+      informs = members (self .informs);
+      view = w;
+      nogoods = n;
+    })
+    f
     (kept-all k v (self .nogoods) (a .nogoods) h c)

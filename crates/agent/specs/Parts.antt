@@ -27,8 +27,8 @@ numberOf none = 0
 numberOf (some k) = k
 
 -- two partial assignments have no agent at two values
-abbrev pub Agree : Assignment → Assignment → Type 0
-Agree l r = (k : ℕ) → 1 ≤ k → k ≤ maxNamed → known (l k) ≡ true → known (r k) ≡ true → l k ≡ r k
+abbrev pub Compatible : Assignment → Assignment → Type 0
+Compatible l r = (k : ℕ) → 1 ≤ k → k ≤ maxNamed → known (l k) ≡ true → known (r k) ≡ true → l k ≡ r k
 
 -- the agents 1 to m have values that a word of bans has room for
 abbrev pub Ranged : ℕ → Assignment → Type 0
@@ -64,21 +64,21 @@ pub record Makes (r : Step) (t : Step′) (m : ℕ) : Type 0 where
 
 -- ---- what a step may count on
 
--- the view names agents above, at values that there are; a nogood names agents at their values in the view
+-- a left side names agents at their values in the view
+abbrev pub Agreed : Assignment → Assignment → Type 0
+Agreed view lhs = EachNamed lhs (λ k u. u ≡ view k)
+
+-- the view names agents above, at values that there are, and the nogoods agree with it
 pub record Coherent (s : Self) (a : Agent′) : Type 0 where
   pub viewed : EachNamed (a .view) (λ k v. (k < s .number) × (v ≤ maxDomain))
-  pub agreed : (v : ℕ) (lhs : Assignment) → 1 ≤ v → v ≤ maxDomain → a .nogoods v ≡ some lhs → EachNamed lhs (λ k u. u ≡ a .view k)
+  pub agreed : (v : ℕ) (lhs : Assignment) → 1 ≤ v → v ≤ maxDomain → a .nogoods v ≡ some lhs → Agreed (a .view) lhs
 
 -- ---- choosing
-
-unfoldable pub number : Bool → ℕ
-number true = 1
-number false = 0
 
 -- the mask of those of the n numbers from v on that pass: bit 0 for v
 unfoldable pub maskFrom : (ℕ → Bool) → ℕ → ℕ → ℕ
 maskFrom p v zero = 0
-maskFrom p v (suc n) = maskFrom p (suc v) n * 2 + number (p v)
+maskFrom p v (suc n) = maskFrom p (suc v) n * 2 + cond (p v) 1 0
 
 -- own value v is left free by bans and nogoods
 unfoldable pub freeOf : Self → Bans → Agent′ → ℕ → Bool
@@ -121,7 +121,7 @@ seeing k v a =
       nogoods = λ w. keeping k v (a .nogoods w);
     }
 
--- ---- refusals
+-- ---- Backs
 
 -- as `matches`, for the set of agents listened to and the view
 unfoldable pub matching : Assignment → ℕ → Assignment → ℕ → Bool

@@ -1,4 +1,4 @@
-// The rules 'Choosing' and 'Backing up'.
+// Document 01's rules 'Choosing' and 'Backing up'.
 ghost use mathlib.Core.Path.{_≡_};
 ghost use mathlib.Core.Bool.{true};
 ghost use mathlib.Core.List.{[], _∷_, _++_};
@@ -143,7 +143,7 @@ impl Agent {
         a
     }
 
-    // News of value v to all it informs, upward.
+    // An Info of value v to each agent that it informs, upward.
     fn inform(self, own: Own, v: u8, out: Outbox) -> Outbox
         requires { ⌜ (own .number ≤ 12) × (out .count + (12 - own .number) ≤ outboxSize) ⌝ }
         ensures { λ r. ⌜ Holding r (sentOf out ++ infos (selfOf own) (agentOf self) v) ⌝ }

@@ -7,7 +7,7 @@ ghost use Rattle.agent_rules.specs.Message.{known};
 ghost use Rattle.agent_rules.specs.Choosing.{only, join};
 ghost use Rattle.agent.specs.Packed.{members};
 ghost use Rattle.agent.specs.Abstract.{assigned};
-ghost use Rattle.agent.specs.Parts.{numberOf, Agree};
+ghost use Rattle.agent.specs.Parts.{numberOf, Compatible};
 use crate::Lhs;
 
 // Agent k is in the set.
@@ -58,7 +58,7 @@ impl Lhs {
 
     // Both sides' agents.
     pub(crate) fn join(self, other: Lhs) -> Lhs
-        requires { ⌜ Agree (assigned self) (assigned other) ⌝ }
+        requires { ⌜ Compatible (assigned self) (assigned other) ⌝ }
         ensures { λ r. ⌜ assigned r ≡ join (assigned self) (assigned other) ⌝ }
     {
         Lhs {

@@ -1,4 +1,4 @@
-// The rules 'News', 'Refusal' and 'Link request'.
+// Document 01's rules 'News' (Info), 'Refusal' (Back) and 'Link request' (AddLink).
 ghost use mathlib.Core.Path.{_≡_};
 ghost use Prim.Native.Nat.{_+_, _-_, _≤_, _<_};
 ghost use Rattle.base.specs.Finite.{allTo};
@@ -132,7 +132,7 @@ impl Agent {
         }
     }
 
-    // A refusal: taken where it holds, and then the agent chooses; answered where it does not.
+    // A Back: stored where it holds, and then the agent chooses; answered where it does not.
     pub(crate) fn on_back(self, own: Own, bans: &[u64], from: u8, lhs: Lhs, v: u8) -> Step
         requires { ⌜ Able own (now bans) ⌝ }
         requires { ⌜ RecordFits anyValue (selfOf own) (agentOf self) ⌝ }

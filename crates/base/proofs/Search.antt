@@ -1,5 +1,5 @@
 -- What a search finds, and what a map has where it was changed.
-use mathlib.Core.Path.{_≡_, refl, sym, _∙_}
+use mathlib.Core.Path.{_≡_, refl, sym, fun-ext, _∙_}
 use mathlib.Core.Logic.{_≢_}
 use mathlib.Core.Bool.{cond, _||_, Bool, true, false, and-eq-true-iff, false≢true}
 use mathlib.Core.Option.{none, some}
@@ -165,3 +165,7 @@ at-other f i a j h = rw (ne-eqb j i h, at)
 -- what holds of the new entry, and of the old ones elsewhere, holds of the changed map
 pub at-cases {ℓ} : {A : Type ℓ} (P : A → Type 0) (f : ℕ → A) (i : ℕ) (a : A) (j : ℕ) → (j ≡ i → P a) → (j ≢ i → P (f j)) → P (at f i a j)
 at-cases P f i a j h g = eq-test j i (λ e. rw (e, at-same f i a) (h e)) (λ n. rw (at-other f i a j n) (g n))
+
+-- a map changed to what it has already
+pub at-itself {ℓ} : {A : Type ℓ} (f : ℕ → A) (i : ℕ) (a : A) → f i ≡ a → at f i a ≡ f
+at-itself f i a e = fun-ext λ j. eq-test j i (λ q. rw (q, at-same f i a) (sym e)) (λ n. at-other f i a j n)

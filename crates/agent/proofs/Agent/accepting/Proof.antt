@@ -1,3 +1,4 @@
+-- `accepting` is the rule's.
 -- Agent by agent above, upward. The invariant: the agents passed are heard.
 use borrow.Author.Needs.{needs}
 use Prim.Native.Nat.{_+_, _-_, _≤_}
@@ -5,7 +6,7 @@ use mathlib.Core.Path.{_≡_, _∙_}
 use native.Mathlib.Omega.{arith}
 use lib.ListN.{length, length-map}
 use Rattle.agent.specs.Abstract.{assigned}
-use Rattle.agent.proofs.Refusals.{unheard-tested}
+use Rattle.agent.proofs.LeftSides.{unheard-tested}
 use Rattle.agent.proofs.Accepting.{Heard, heard-none, heard-already, heard-new, accepted}
 use Rattle.agent.proofs.Agent.accepting.Statement.{statement}
 use Rattle.agent.proofs.Agent.accepting.Tie as tie
@@ -41,23 +42,29 @@ loop-less : tie.Need-loop-less Inv-loop μ-loop
 loop-less c = search needs
 
 loop-again : tie.Need-loop-again Inv-loop μ-loop
-loop-again c = (
-  omega arith,
-  c .before .before .before .before .before .before .before .before .loop .inv .1,
-  heard-new (assigned (c .before .before .before .before .before .before .before .before .before .args .lhs)) (c .before .before .before .before .before .before .before .before .before .args .self) (c .before .before .before .before .before .before .before .before .loop .a) (c .before .before .before .before .before .before .before .before .loop .k) (c .before .before .before .before .before .before .before .before .loop .inv .2) _ _ _
-      (unheard-tested (c .before .before .before .before .before .before .before .before .before .args .self) _ _ _ _ (c .before .before .before .before .before .value-of .ensures .0) (c .before .before .before .before .has .ensures) ∙ c .before .before .before .if2 .taken) (c .before .before .before .before .before .value-of .ensures .0) (c .before .before .add .ensures) (c .with .ensures),
-)
+loop-again c =
+    let start = c .before .before .before .before .before .before .before .before .before in
+    let loop = c .before .before .before .before .before .before .before .before .loop in (
+      omega arith,
+      loop .inv .1,
+      heard-new (assigned (start .args .lhs)) (start .args .self) (loop .a) (loop .k) (loop .inv .2) _ _ _
+          (unheard-tested (start .args .self) _ _ _ _ (c .before .before .before .before .before .value-of .ensures .0)
+          (c .before .before .before .before .has .ensures) ∙ c .before .before .before .if2 .taken)
+          (c .before .before .before .before .before .value-of .ensures .0) (c .before .before .add .ensures) (c .with .ensures),
+    )
 
 loop-less-2 : tie.Need-loop-less-2 Inv-loop μ-loop
 loop-less-2 c = search needs
 
 loop-again-2 : tie.Need-loop-again-2 Inv-loop μ-loop
-loop-again-2 c = (
-  omega arith,
-  c .before .before .before .before .before .loop .inv .1,
-  heard-already (assigned (c .before .before .before .before .before .before .args .lhs)) (c .before .before .before .before .before .before .args .self) (c .before .before .before .before .before .loop .a) (c .before .before .before .before .before .loop .k) (c .before .before .before .before .before .loop .inv .2)
-      (unheard-tested (c .before .before .before .before .before .before .args .self) _ _ _ _ (c .before .before .value-of .ensures .0) (c .before .has .ensures) ∙ c .if2 .left),
-)
+loop-again-2 c =
+    let start = c .before .before .before .before .before .before in
+    let loop = c .before .before .before .before .before .loop in (
+      omega arith,
+      loop .inv .1,
+      heard-already (assigned (start .args .lhs)) (start .args .self) (loop .a) (loop .k) (loop .inv .2)
+          (unheard-tested (start .args .self) _ _ _ _ (c .before .before .value-of .ensures .0) (c .before .has .ensures) ∙ c .if2 .left),
+    )
 
 sub-i : tie.Need-sub-i Inv-loop μ-loop
 sub-i c = search needs
@@ -73,8 +80,11 @@ element-set-from-a c = search needs
 
 returns : tie.Need-returns Inv-loop μ-loop
 returns c =
-    accepted (c .before .before .before .before .args .own) (c .before .before .before .before .args .self) (c .before .before .before .loop .a) (c .before .before .before .before .args .lhs) (c .before .before .before .loop .k) (c .before .before .before .before .args .v) (c .new .result) (omega arith) (c .before .before .before .before .pre .4) (c .before .before .before .loop .inv .2)
-    (omega arith) (c .before .before .before .before .pre .2) (omega arith) (c .new .ensures .0) (c .new .ensures .1)
+    let start = c .before .before .before .before in
+    let loop = c .before .before .before .loop in
+    accepted (start .args .own) (start .args .self) (loop .a) (start .args .lhs) (loop .k) (start .args .v) (c .new .result) (omega arith)
+    (start .pre .4) (loop .inv .2)
+    (omega arith) (start .pre .2) (omega arith) (c .new .ensures .0) (c .new .ensures .1)
 
 pub accepting-spec : {M : Type 1} → statement M
 accepting-spec =

@@ -1,4 +1,5 @@
--- Agent by agent above, upward. The invariant: the link requests to the agents passed are sent.
+-- `add_links` sends the AddLinks of the rule.
+-- Agent by agent above, upward. The invariant: the AddLinks to the agents passed are sent.
 use borrow.Author.Needs.{needs}
 use Prim.Native.Nat.{_+_, _-_, _≤_}
 use mathlib.Core.Path.{_≡_, _∙_}
@@ -11,7 +12,7 @@ use Rattle.agent_rules.specs.Receiving.{addLinkTo, addLinks}
 use Rattle.agent.specs.Abstract.{assigned, messageOf, postOf, agentOf, selfOf}
 use Rattle.agent.specs.Parts.{Holding}
 use Rattle.agent.proofs.Outboxes.{gathers-one, gathers-none}
-use Rattle.agent.proofs.Refusals.{unheard-tested, asked, not-asked}
+use Rattle.agent.proofs.LeftSides.{unheard-tested, asked, not-asked}
 use Rattle.agent.proofs.Agent.add_links.Statement.{statement}
 use Rattle.agent.proofs.Agent.add_links.Tie as tie
 
@@ -56,13 +57,16 @@ loop-less c = search needs
 loop-again : tie.Need-loop-again Inv-loop μ-loop
 unfolding postOf messageOf
 loop-again c =
-    let a = agentOf (c .before .before .before .before .before .before .before .args .self) in
-    let lhs = assigned (c .before .before .before .before .before .before .before .args .lhs) in
-    let e : 1 + c .before .before .before .before .before .loop .k ≡ c .before .before .before .before .before .loop .k + 1 = omega arith in (
+    let start = c .before .before .before .before .before .before .before in
+    let loop = c .before .before .before .before .before .loop in
+    let a = agentOf (start .args .self) in
+    let lhs = assigned (start .args .lhs) in
+    let e : 1 + loop .k ≡ loop .k + 1 = omega arith in (
       omega arith,
       omega arith,
-      gathers-one (addLinkTo a lhs) (c .before .before .before .before .before .loop .o) [] (c .before .before .before .before .before .loop .k) 1 (c .before .before .before .before .before .loop .inv .2) _ (omega arith)
-          (rw e (asked a lhs _ (unheard-tested (c .before .before .before .before .before .before .before .args .self) lhs _ _ _ (c .before .before .value-of .ensures .0) (c .before .has .ensures) ∙ c .if2 .taken))),
+      gathers-one (addLinkTo a lhs) (loop .o) [] (loop .k) 1 (loop .inv .2) _ (omega arith)
+          (rw e (asked a lhs _ (unheard-tested (start .args .self) lhs _ _ _ (c .before .before .value-of .ensures .0)
+          (c .before .has .ensures) ∙ c .if2 .taken))),
     )
 
 loop-less-2 : tie.Need-loop-less-2 Inv-loop μ-loop
@@ -70,18 +74,23 @@ loop-less-2 c = search needs
 
 loop-again-2 : tie.Need-loop-again-2 Inv-loop μ-loop
 loop-again-2 c =
-    let a = agentOf (c .before .before .before .before .before .before .before .args .self) in
-    let lhs = assigned (c .before .before .before .before .before .before .before .args .lhs) in
-    let e : 1 + c .before .before .before .before .before .loop .k ≡ c .before .before .before .before .before .loop .k + 1 = omega arith in (
+    let start = c .before .before .before .before .before .before .before in
+    let loop = c .before .before .before .before .before .loop in
+    let a = agentOf (start .args .self) in
+    let lhs = assigned (start .args .lhs) in
+    let e : 1 + loop .k ≡ loop .k + 1 = omega arith in (
       omega arith,
       omega arith,
-      gathers-none (addLinkTo a lhs) (c .before .before .before .before .before .loop .o) [] (c .before .before .before .before .before .loop .k) 1 (c .before .before .before .before .before .loop .inv .2)
-          (rw e (not-asked a lhs _ (unheard-tested (c .before .before .before .before .before .before .before .args .self) lhs _ _ _ (c .before .before .value-of .ensures .0) (c .before .has .ensures) ∙ c .if2 .left))),
+      gathers-none (addLinkTo a lhs) (loop .o) [] (loop .k) 1 (loop .inv .2)
+          (rw e (not-asked a lhs _ (unheard-tested (start .args .self) lhs _ _ _ (c .before .before .value-of .ensures .0)
+          (c .before .has .ensures) ∙ c .if2 .left))),
     )
 
 returns : tie.Need-returns Inv-loop μ-loop
 unfolding addLinks selfOf above
-returns c = let e : c .before .before .loop .k ≡ c .before .before .before .before .args .own .number - 1 = omega arith in rw (e, sub-one) at (c .before .before .loop .inv .2)
+returns c =
+    let loop = c .before .before .loop in
+    let e : loop .k ≡ c .before .before .before .before .args .own .number - 1 = omega arith in rw (e, sub-one) at (loop .inv .2)
 
 pub add-links-spec : {M : Type 1} → statement M
 add-links-spec =

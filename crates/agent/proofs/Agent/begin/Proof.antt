@@ -1,3 +1,4 @@
+-- `begin` is the rule of the start.
 -- An agent that knows nothing settles.
 use native.Mathlib.Omega.{arith}
 use Rattle.agent_rules.specs.Receiving.{begin}
@@ -14,8 +15,9 @@ settle-requires c κs = (c .before .pre, rw (fresh-agent (c .before .args .liste
 returns : tie.Need-returns
 unfolding noNogood begin selfOf
 returns c =
-    answers _ _ _ 11 (omega arith) (rw (fresh-agent (c .before .before .args .listens) (c .before .before .args .informs)) at (c .settle .ensures))
-    (begin-to (selfOf (c .before .before .args .own)) (c .before .before .pre .first) (c .before .before .pre .last) _ _ _)
+    let start = c .before .before in
+    answers _ _ _ 11 (omega arith) (rw (fresh-agent (start .args .listens) (start .args .informs)) at (c .settle .ensures))
+    (begin-to (selfOf (start .args .own)) (start .pre .first) (start .pre .last) _ _ _)
 
 pub begin-spec : {M : Type 1} → statement M
 begin-spec = tie.close (tie.spec settle-requires returns)

@@ -1,3 +1,4 @@
+-- `free` is the mask of the values that the rule finds free.
 -- From the highest own value down. The invariant: the mask of the values above i.
 use borrow.Author.Needs.{needs}
 use Prim.Native.Nat.{suc, _-_, _≤_}
@@ -20,7 +21,9 @@ abbrev μ-loop : tie.MeasureT-loop
 
 barred-requires : tie.Need-barred-requires Inv-loop μ-loop
 unfolding agentOf
-barred-requires c κs = (c .before .before .pre .0, ranged (selfOf (c .before .before .args .own)) (agentOf (c .before .before .args .t1)) _ (omega arith) (c .before .before .pre .1))
+barred-requires c κs =
+    let start = c .before .before in
+    (start .pre .0, ranged (selfOf (start .args .own)) (agentOf (start .args .t1)) _ (omega arith) (start .pre .1))
 
 cast-i : tie.Need-cast-i Inv-loop μ-loop
 cast-i c = search needs
@@ -45,26 +48,42 @@ shr-taken : tie.Need-shr-taken Inv-loop μ-loop
 shr-taken c = search needs
 
 mul-mask : tie.Need-mul-mask Inv-loop μ-loop
-mul-mask c = omega (arith, next-fits _ _ _ _ (c .before .before .before .loop .i) (c .before .before .loop-test .taken) (c .before .before .before .loop .inv .0) (c .before .before .before .before .before .before .before .before .pre .0 .few) (c .before .before .before .loop .inv .1))
+mul-mask c =
+    let loop = c .before .before .before .loop in
+    omega (
+      arith,
+      next-fits _ _ _ _ (loop .i) (c .before .before .loop-test .taken) (loop .inv .0)
+          (c .before .before .before .before .before .before .before .before .pre .0 .few) (loop .inv .1),
+    )
 
 cast-mask : tie.Need-cast-mask Inv-loop μ-loop
 cast-mask c = search needs
 
 add-mask : tie.Need-add-mask Inv-loop μ-loop
 unfolding noNogood
-add-mask c = record { fits = next-fits _ _ _ _ (c .before .before .before .loop .i) (c .before .before .loop-test .taken) (c .before .before .before .loop .inv .0) (c .before .before .before .before .before .before .before .before .pre .0 .few) (c .before .before .before .loop .inv .1) }
+add-mask c =
+    let loop = c .before .before .before .loop in
+    record {
+      fits = next-fits _ _ _ _ (loop .i) (c .before .before .loop-test .taken) (loop .inv .0)
+          (c .before .before .before .before .before .before .before .before .pre .0 .few) (loop .inv .1);
+    }
 
 loop-less : tie.Need-loop-less Inv-loop μ-loop
 loop-less c = search needs
 
 loop-again : tie.Need-loop-again Inv-loop μ-loop
 unfolding noNogood
-loop-again c = (omega arith, next-mask _ _ _ _ (c .before .before .before .loop .i) (c .before .before .loop-test .taken) (c .before .before .before .loop .inv .0) (c .before .before .before .loop .inv .1))
+loop-again c =
+    let loop = c .before .before .before .loop in
+    (omega arith, next-mask _ _ _ _ (loop .i) (c .before .before .loop-test .taken) (loop .inv .0) (loop .inv .1))
 
 returns : tie.Need-returns Inv-loop μ-loop
 returns c =
-    let e : c .before .loop .i ≡ 0 = omega arith in
-    simp (e, sub-zero) at (c .before .loop .inv .1) ∙ mask-same _ _ 1 _ (λ w l h. left-free (c .before .before .before .before .before .before .args .own) _ (c .before .before .before .before .before .before .args .t1) _ w l (omega arith) (c .before .before .before .barred .ensures))
+    let start = c .before .before .before .before .before .before in
+    let loop = c .before .loop in
+    let e : loop .i ≡ 0 = omega arith in
+    simp (e, sub-zero) at (loop .inv .1) ∙ mask-same _ _ 1 _
+    (λ w l h. left-free (start .args .own) _ (start .args .t1) _ w l (omega arith) (c .before .before .before .barred .ensures))
 
 pub free-spec : {M : Type 1} → statement M
 free-spec =

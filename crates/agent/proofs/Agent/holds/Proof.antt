@@ -1,3 +1,4 @@
+-- `holds` is the test of a Back.
 -- The own value, and then each agent above.
 use borrow.Author.Needs.{needs}
 use native.Mathlib.Numerals.{sub-one}

@@ -1,4 +1,5 @@
--- Agent by agent below, upward. The invariant: the news to the agents passed is sent.
+-- `inform` sends the Infos of the rule.
+-- Agent by agent below, upward. The invariant: the Infos to the agents passed are sent.
 use borrow.Author.Needs.{needs}
 use Prim.Native.Nat.{suc, _+_, _-_, _≤_}
 use mathlib.Core.Path.{_≡_, sym, _∙_}
@@ -50,16 +51,19 @@ loop-less c = search needs
 loop-again : tie.Need-loop-again Inv-loop μ-loop
 unfolding agentOf postOf messageOf
 loop-again c =
-    let n = c .before .before .before .before .args .own .number in
-    let a = agentOf (c .before .before .before .before .args .self) in
-    let e : c .before .before .before .loop .k + 1 - n ≡ c .before .before .before .loop .k - n + 1 = omega arith in
-    let f : suc n + (c .before .before .before .loop .k - n) ≡ c .before .before .before .loop .k + 1 = omega arith in (
+    let start = c .before .before .before .before in
+    let loop = c .before .before .before .loop in
+    let n = start .args .own .number in
+    let a = agentOf (start .args .self) in
+    let e : loop .k + 1 - n ≡ loop .k - n + 1 = omega arith in
+    let f : suc n + (loop .k - n) ≡ loop .k + 1 = omega arith in (
       omega arith,
       omega arith,
       omega arith,
       rw e
-          (gathers-one (infoTo a (c .before .before .before .before .args .v)) (c .before .before .before .loop .o) (sentOf (c .before .before .before .before .args .out)) (c .before .before .before .loop .k - n) (suc n) (c .before .before .before .loop .inv .3) _ (omega arith)
-          (rw f (told a (c .before .before .before .before .args .v) (c .before .before .before .loop .k + 1) (sym (c .before .tells .ensures) ∙ c .if1 .taken)))),
+          (gathers-one (infoTo a (start .args .v)) (loop .o) (sentOf (start .args .out)) (loop .k - n) (suc n) (loop .inv .3) _
+          (omega arith)
+          (rw f (told a (start .args .v) (loop .k + 1) (sym (c .before .tells .ensures) ∙ c .if1 .taken)))),
     )
 
 loop-less-2 : tie.Need-loop-less-2 Inv-loop μ-loop
@@ -68,16 +72,18 @@ loop-less-2 c = search needs
 loop-again-2 : tie.Need-loop-again-2 Inv-loop μ-loop
 unfolding agentOf
 loop-again-2 c =
-    let n = c .before .before .before .before .args .own .number in
-    let a = agentOf (c .before .before .before .before .args .self) in
-    let e : c .before .before .before .loop .k + 1 - n ≡ c .before .before .before .loop .k - n + 1 = omega arith in
-    let f : suc n + (c .before .before .before .loop .k - n) ≡ c .before .before .before .loop .k + 1 = omega arith in (
+    let start = c .before .before .before .before in
+    let loop = c .before .before .before .loop in
+    let n = start .args .own .number in
+    let a = agentOf (start .args .self) in
+    let e : loop .k + 1 - n ≡ loop .k - n + 1 = omega arith in
+    let f : suc n + (loop .k - n) ≡ loop .k + 1 = omega arith in (
       omega arith,
       omega arith,
       omega arith,
       rw e
-          (gathers-none (infoTo a (c .before .before .before .before .args .v)) (c .before .before .before .loop .o) (sentOf (c .before .before .before .before .args .out)) (c .before .before .before .loop .k - n) (suc n) (c .before .before .before .loop .inv .3)
-          (rw f (not-told a (c .before .before .before .before .args .v) (c .before .before .before .loop .k + 1) (sym (c .before .tells .ensures) ∙ c .if1 .left)))),
+          (gathers-none (infoTo a (start .args .v)) (loop .o) (sentOf (start .args .out)) (loop .k - n) (suc n) (loop .inv .3)
+          (rw f (not-told a (start .args .v) (loop .k + 1) (sym (c .before .tells .ensures) ∙ c .if1 .left)))),
     )
 
 returns : tie.Need-returns Inv-loop μ-loop

@@ -1,3 +1,4 @@
+-- `on_add_link` is the rule of an AddLink.
 -- One agent more is informed, and told.
 use borrow.Author.Needs.{needs}
 use Rattle.agent.proofs.Steps.{holds-answer, linked}
@@ -15,7 +16,9 @@ with-requires c κs = search needs
 
 returns : tie.Need-returns
 returns c =
-    linked (c .before .before .before .args .self) _ _ _ (c .before .before .add .ensures) (holds-answer (c .before .before .before .args .self) _ _ _ (c .before .new .ensures) (c .with .ensures))
+    let start = c .before .before .before in
+    linked (start .args .self) _ _ _ (c .before .before .add .ensures)
+    (holds-answer (start .args .self) _ _ _ (c .before .new .ensures) (c .with .ensures))
 
 pub on-add-link-spec : {M : Type 1} → statement M
 on-add-link-spec = tie.close (tie.spec add-requires new-requires with-requires returns)

@@ -1,4 +1,5 @@
--- News where the refused value is the own one.
+-- `outdated` is the answer to a Back that does not hold.
+-- An Info where the refused value is the own one.
 use borrow.Author.Needs.{needs}
 use borrow.Author.Tests.{eq-eqb, ne-eqb}
 use Rattle.agent.proofs.Steps.{holds-answer, outdated-own, outdated-other}
@@ -13,7 +14,9 @@ with-requires c κs = search needs
 
 returns : tie.Need-returns
 returns c =
-    outdated-own (c .before .before .before .before .args .self) _ _ _ (eq-eqb _ _ (c .before .if1 .taken)) (holds-answer (c .before .before .before .before .args .self) _ _ _ (c .before .before .before .new .ensures) (c .with .ensures))
+    let start = c .before .before .before .before in
+    outdated-own (start .args .self) _ _ _ (eq-eqb _ _ (c .before .if1 .taken))
+    (holds-answer (start .args .self) _ _ _ (c .before .before .before .new .ensures) (c .with .ensures))
 
 returns-2 : tie.Need-returns-2
 returns-2 c = outdated-other (c .before .before .before .args .self) _ _ _ (ne-eqb _ _ (c .if1 .left)) (c .before .before .new .ensures)

@@ -1,4 +1,5 @@
--- Value by value, upward. The invariant: the reasons of the first i values are given, and choosing goes on above them.
+-- `reasoned` gives the reasons of the values tried.
+-- Value by value, upward. The invariant: the first i are given, and choosing goes on above them.
 use borrow.Author.Needs.{needs}
 use Prim.Native.Nat.{_+_, _-_, _≤_, _<_}
 use mathlib.Core.Path.{_≡_, ap, _∙_}
@@ -27,16 +28,21 @@ owned c = c .pre .1 .1 .0
 
 -- the value that is tried is not free
 not-free : (c : tie.In-loop Inv-loop μ-loop)
-    → freeOf (selfOf (c .before .before .before .args .own)) (bansIn (c .before .before .before .args .bans .now)) (agentOf (c .before .before .before .args .self)) (c .before .loop .i + 1) ≡ false
+    → freeOf (selfOf (c .before .before .before .args .own)) (bansIn (c .before .before .before .args .bans .now))
+    (agentOf (c .before .before .before .args .self)) (c .before .loop .i + 1) ≡ false
 not-free c = c .before .before .before .pre .1 .1 .1 (c .before .loop .i + 1) (omega arith) (omega arith)
 
 -- the agent that bars it
-barring : (c : tie.After-blame Inv-loop μ-loop) → (1 ≤ c .blame .result) × (c .blame .result < c .before .before .before .before .before .before .before .args .own .number)
+barring : (c : tie.After-blame Inv-loop μ-loop)
+    → (1 ≤ c .blame .result) × (c .blame .result < c .before .before .before .before .before .before .before .args .own .number)
 unfolding numberOf noNogood
 barring c =
+    let start = c .before .before .before .before .before .before .before in
+    let loop = c .before .before .before .before .before .loop in
     let b =
-    barred-agent (c .before .before .before .before .before .before .before .args .own) (bansIn (c .before .before .before .before .before .before .before .args .bans .now)) (c .before .before .before .before .before .before .before .args .self) (c .before .before .before .before .before .loop .a) (c .before .before .before .before .before .loop .i)
-    (omega (arith, owned (c .before .before .before .before .before .before .before))) (c .before .before .before .before .before .before .before .pre .0 .few) (c .before .before .before .before .before .loop .inv .2) (not-true _ (c .before .if1 .taken)) (not-free (c .before .before .before .before)) in
+    barred-agent (start .args .own) (bansIn (start .args .bans .now)) (start .args .self) (loop .a) (loop .i)
+    (omega (arith, owned (c .before .before .before .before .before .before .before))) (start .pre .0 .few) (loop .inv .2)
+    (not-true _ (c .before .if1 .taken)) (not-free (c .before .before .before .before)) in
     let e : c .blame .result ≡ b .0 = rw (b .1) at (c .blame .ensures) in
     (omega (arith, b .2), omega (arith, b .3))
 
@@ -58,7 +64,14 @@ add-blame c = search needs
 blame-requires : tie.Need-blame-requires Inv-loop μ-loop
 unfolding agentOf
 blame-requires c κs =
-    (c .before .before .before .before .before .before .pre .0, (ranged (selfOf (c .before .before .before .before .before .before .args .own)) (agentOf (c .before .before .before .before .before .before .args .self)) _ (omega arith) (c .before .before .before .before .before .before .pre .1 .0), omega arith, omega (arith, owned (c .before .before .before .before .before .before))))
+    let start = c .before .before .before .before .before .before in (
+      start .pre .0,
+      (
+        ranged (selfOf (start .args .own)) (agentOf (start .args .self)) _ (omega arith) (start .pre .1 .0),
+        omega arith,
+        omega (arith, owned (c .before .before .before .before .before .before)),
+      ),
+    )
 
 only-requires : tie.Need-only-requires Inv-loop μ-loop
 only-requires c κs = (barring c .0, omega (arith, barring c .1))
@@ -81,17 +94,22 @@ loop-less c = search needs
 loop-again : tie.Need-loop-again Inv-loop μ-loop
 unfolding noNogood
 loop-again c =
-    let own = c .before .before .before .before .before .before .args .own in
-    let words = bansIn (c .before .before .before .before .before .before .args .bans .now) in
-    let h : c .before .before .before .before .loop .i < own .domain = omega (arith, owned (c .before .before .before .before .before .before)) in (
+    let start = c .before .before .before .before .before .before in
+    let loop = c .before .before .before .before .loop in
+    let own = start .args .own in
+    let words = bansIn (start .args .bans .now) in
+    let h : loop .i < own .domain = omega (arith, owned (c .before .before .before .before .before .before)) in (
       omega arith,
-      ⊎-elim (λ u. rw (u .4) (rw length-set (c .before .before .before .before .loop .inv .1))) (λ u. rw (u .1) (c .before .before .before .before .loop .inv .1)) (c .if1 .came),
+      ⊎-elim (λ u. rw (u .4) (rw length-set (loop .inv .1))) (λ u. rw (u .1) (loop .inv .1)) (c .if1 .came),
       ⊎-elim
           (λ u.
           rw (u .4)
-          (given own words (c .before .before .before .before .before .before .args .self) (c .before .before .before .before .loop .a) (c .before .before .before .before .loop .i) h (c .before .before .before .before .before .before .pre .0 .few) (c .before .before .before .before .loop .inv .2) (c .before .before .before .before .loop .inv .1) (u .1 .result) (u .3 .result)
-          (not-true _ (u .0 .taken)) (not-free (c .before .before .before)) (u .1 .ensures) (u .3 .ensures .0) (ap assigned (u .3 .ensures .1) ∙ u .2 .ensures)))
-          (λ u. rw (u .1) (kept own words (c .before .before .before .before .before .before .args .self) (c .before .before .before .before .loop .a) (c .before .before .before .before .loop .i) h (c .before .before .before .before .before .before .pre .0 .few) (c .before .before .before .before .loop .inv .2) (not-false _ (u .0 .left))))
+          (given own words (start .args .self) (loop .a) (loop .i) h (start .pre .0 .few) (loop .inv .2) (loop .inv .1) (u .1 .result)
+          (u .3 .result)
+          (not-true _ (u .0 .taken)) (not-free (c .before .before .before)) (u .1 .ensures) (u .3 .ensures .0)
+          (ap assigned (u .3 .ensures .1) ∙ u .2 .ensures)))
+          (λ u. rw (u .1) (kept own words (start .args .self) (loop .a) (loop .i) h (start .pre .0 .few) (loop .inv .2)
+          (not-false _ (u .0 .left))))
           (c .if1 .came),
     )
 

@@ -1,4 +1,5 @@
--- One rule for each kind of message.
+-- `receive` is the rule of the message's kind.
+-- One rule for each case of the enum.
 use borrow.Author.Needs.{needs}
 use Prim.Native.Nat.{_≤_, _<_}
 use mathlib.Core.Path.{_≡_}
@@ -16,7 +17,8 @@ use Rattle.agent.proofs.Agent.receive.Tie as tie
 link : (c : tie.At-match-keys3) → c .before .before .args .m ≡ AddLink
 link c = lives-at M.enum _ 2 (c .match .keys3) .1
 
-from-below : (c : tie.At-match-keys3) → (c .before .before .args .own .number < c .before .before .args .from) × (c .before .before .args .from ≤ 12)
+from-below : (c : tie.At-match-keys3) → (c .before .before .args .own .number < c .before .before .args .from)
+    × (c .before .before .args .from ≤ 12)
 unfolding messageOf selfOf maxAgents
 from-below c = rw (link c) at (c .before .before .pre .1 .1)
 
@@ -25,14 +27,18 @@ enum-known-m c = search needs
 
 on-info-requires : tie.Need-on-info-requires
 unfolding messageOf
-on-info-requires c κs = (c .before .before .before .before .pre .0, (c .before .before .before .before .pre .1 .0, rw (c .before .m .given .1) at (c .before .before .before .before .pre .1 .1)))
+on-info-requires c κs =
+    let start = c .before .before .before .before in
+    (start .pre .0, (start .pre .1 .0, rw (c .before .m .given .1) at (start .pre .1 .1)))
 
 enum-known-m-2 : tie.Need-enum-known-m-2
 enum-known-m-2 c = search needs
 
 on-back-requires : tie.Need-on-back-requires
 unfolding messageOf
-on-back-requires c κs = (c .before .before .before .before .pre .0, (c .before .before .before .before .pre .1 .0, rw (c .before .m2 .given .1) at (c .before .before .before .before .pre .1 .1)))
+on-back-requires c κs =
+    let start = c .before .before .before .before in
+    (start .pre .0, (start .pre .1 .0, rw (c .before .m2 .given .1) at (start .pre .1 .1)))
 
 enum-told : tie.Need-enum-told
 enum-told c = search needs
@@ -45,17 +51,23 @@ on-add-link-requires c κs =
 returns : tie.Need-returns
 unfolding messageOf receive
 returns c =
-    received _ _ _ _ _ (messageOf (c .before .before .before .before .before .args .m)) _ 11 (c .before .before .before .before .before .pre .0) (c .before .before .before .before .before .pre .1 .1) (omega arith) (rw (c .before .before .m .given .1) (c .on-info .ensures))
+    let start = c .before .before .before .before .before in
+    received _ _ _ _ _ (messageOf (start .args .m)) _ 11 (start .pre .0) (start .pre .1 .1) (omega arith)
+    (rw (c .before .before .m .given .1) (c .on-info .ensures))
 
 returns-2 : tie.Need-returns-2
 unfolding messageOf receive
 returns-2 c =
-    received _ _ _ _ _ (messageOf (c .before .before .before .before .before .args .m)) _ 22 (c .before .before .before .before .before .pre .0) (c .before .before .before .before .before .pre .1 .1) (omega arith) (rw (c .before .before .m2 .given .1) (c .on-back .ensures))
+    let start = c .before .before .before .before .before in
+    received _ _ _ _ _ (messageOf (start .args .m)) _ 22 (start .pre .0) (start .pre .1 .1) (omega arith)
+    (rw (c .before .before .m2 .given .1) (c .on-back .ensures))
 
 returns-3 : tie.Need-returns-3
 unfolding messageOf receive
 returns-3 c =
-    received _ _ _ _ _ (messageOf (c .before .before .before .before .args .m)) _ 1 (c .before .before .before .before .pre .0) (c .before .before .before .before .pre .1 .1) (omega arith) (rw (link (c .before .before)) (c .on-add-link .ensures))
+    let start = c .before .before .before .before in
+    received _ _ _ _ _ (messageOf (start .args .m)) _ 1 (start .pre .0) (start .pre .1 .1) (omega arith)
+    (rw (link (c .before .before)) (c .on-add-link .ensures))
 
 pub receive-spec : {M : Type 1} → statement M
 receive-spec =

@@ -1,3 +1,4 @@
+-- `seeing` changes the view at one agent.
 -- Nogood by nogood. The invariant: the first i are what is kept, the others are as they were.
 use borrow.Author.Needs.{needs}
 use Prim.Native.Nat.{_-_, _≤_}
@@ -47,20 +48,28 @@ loop-less c = search needs
 
 loop-again : tie.Need-loop-again Inv-loop μ-loop
 unfolding noNogood
-loop-again c = (
-  omega arith,
-  ⊎-elim (λ u. rw (u .1) (rest-kept (withView (c .before .before .before .before .before .before .args .self) (c .before .before .before .before .before .with .result)) (c .before .before .before .before .loop .a) _ (c .before .before .before .before .loop .inv .1))) (λ u. rw (u .1) (c .before .before .before .before .loop .inv .1)) (c .if1 .came),
-  ⊎-elim
-      (λ u. rw (u .1) (dropped-more _ _ (c .before .before .before .before .loop .i) _ _ (c .before .before .before .loop-test .taken) (c .before .before .before .before .loop .inv .2) _ refl (dropped _ _ _ _ (c .before .value-of .ensures .0) (u .0 .taken))))
-      (λ u. rw (u .1) (kept-more _ _ (c .before .before .before .before .loop .i) _ _ (c .before .before .before .loop-test .taken) (c .before .before .before .before .loop .inv .2) (kept _ _ _ _ (c .before .value-of .ensures .0) (u .0 .left))))
-      (c .if1 .came),
-)
+loop-again c =
+    let loop = c .before .before .before .before .loop in (
+      omega arith,
+      ⊎-elim (λ u. rw (u .1) (rest-kept (withView (c .before .before .before .before .before .before .args .self)
+          (c .before .before .before .before .before .with .result)) (loop .a) _ (loop .inv .1))) (λ u. rw (u .1) (loop .inv .1))
+          (c .if1 .came),
+      ⊎-elim
+          (λ u. rw (u .1) (dropped-more _ _ (loop .i) _ _ (c .before .before .before .loop-test .taken) (loop .inv .2) _ refl
+          (dropped _ _ _ _ (c .before .value-of .ensures .0) (u .0 .taken))))
+          (λ u. rw (u .1) (kept-more _ _ (loop .i) _ _ (c .before .before .before .loop-test .taken) (loop .inv .2)
+          (kept _ _ _ _ (c .before .value-of .ensures .0) (u .0 .left))))
+          (c .if1 .came),
+    )
 
 returns : tie.Need-returns Inv-loop μ-loop
 returns c =
-    let e : c .before .loop .i ≡ 8 = omega arith in
-    seen (c .before .before .before .args .self) (c .before .loop .a) (c .before .before .with .result) _ _ (simp length-map at (c .before .before .before .good .0 .1 .1 .1 .1 .1 .1 .0 .1 .0 .1)) (c .before .loop .inv .1) (c .before .before .with .ensures)
-    (rw e at (c .before .loop .inv .2))
+    let start = c .before .before .before in
+    let loop = c .before .loop in
+    let e : loop .i ≡ 8 = omega arith in
+    seen (start .args .self) (loop .a) (c .before .before .with .result) _ _
+    (simp length-map at (start .good .0 .1 .1 .1 .1 .1 .1 .0 .1 .0 .1)) (loop .inv .1) (c .before .before .with .ensures)
+    (rw e at (loop .inv .2))
 
 pub seeing-spec : {M : Type 1} → statement M
 seeing-spec =

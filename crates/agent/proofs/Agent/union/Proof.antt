@@ -1,4 +1,5 @@
--- Value by value, upward. The invariant: the join of the left sides of the first i values.
+-- `union` joins the left sides of all own values.
+-- Value by value, upward. The invariant: the join of the first i.
 use borrow.Author.Needs.{needs}
 use Prim.Native.Nat.{_-_, _≤_}
 use mathlib.Core.Path.{_≡_, ap, _∙_}
@@ -7,7 +8,7 @@ use native.Mathlib.Omega.{arith}
 use Rattle.agent_rules.specs.Choosing.{union}
 use Rattle.agent.specs.Abstract.{assigned, noNogood, agentOf}
 use Rattle.agent.proofs.Digits.{nobody-assigned}
-use Rattle.agent.proofs.Unions.{agree, joined, passed}
+use Rattle.agent.proofs.Unions.{compatible, joined, passed}
 use Rattle.agent.proofs.Agent.union.Statement.{statement}
 use Rattle.agent.proofs.Agent.union.Tie as tie
 
@@ -33,7 +34,9 @@ element-copy-out-g c = search needs
 join-requires : tie.Need-join-requires Inv-loop μ-loop
 unfolding noNogood
 join-requires c κs =
-    agree _ (c .before .before .before .before .before .args .t1) (c .before .before .before .before .before .pre .1) (c .before .before .before .before .loop .i) (omega arith) _ (c .before .before .before .before .loop .inv .1) (c .if2 .taken)
+    let start = c .before .before .before .before .before in
+    let loop = c .before .before .before .before .loop in
+    compatible _ (start .args .t1) (start .pre .1) (loop .i) (omega arith) _ (loop .inv .1) (c .if2 .taken)
 
 add-i : tie.Need-add-i Inv-loop μ-loop
 add-i c = search needs
@@ -43,16 +46,21 @@ loop-less c = search needs
 
 loop-again : tie.Need-loop-again Inv-loop μ-loop
 unfolding noNogood
-loop-again c = (
-  omega arith,
-  ⊎-elim
-      (λ u. ap assigned (u .2) ∙ u .1 .ensures ∙ joined _ (c .before .before .before .before .before .args .t1) (c .before .before .before .before .before .pre .1) (c .before .before .before .before .loop .i) (omega arith) _ (c .before .before .before .before .loop .inv .1) (u .0 .taken))
-      (λ u. ap assigned (u .1) ∙ passed _ (c .before .before .before .before .before .args .t1) (c .before .before .before .before .before .pre .1) (c .before .before .before .before .loop .i) (omega arith) _ (c .before .before .before .before .loop .inv .1) (u .0 .left))
-      (c .if2 .came),
-)
+loop-again c =
+    let start = c .before .before .before .before .before in
+    let loop = c .before .before .before .before .loop in (
+      omega arith,
+      ⊎-elim
+          (λ u. ap assigned (u .2) ∙ u .1 .ensures ∙ joined _ (start .args .t1) (start .pre .1) (loop .i) (omega arith) _ (loop .inv .1)
+          (u .0 .taken))
+          (λ u. ap assigned (u .1) ∙ passed _ (start .args .t1) (start .pre .1) (loop .i) (omega arith) _ (loop .inv .1) (u .0 .left))
+          (c .if2 .came),
+    )
 
 returns : tie.Need-returns Inv-loop μ-loop
-returns c = let e : c .before .before .loop .i ≡ c .before .before .before .args .own .domain = omega arith in rw e at (c .before .before .loop .inv .1)
+returns c =
+    let loop = c .before .before .loop in
+    let e : loop .i ≡ c .before .before .before .args .own .domain = omega arith in rw e at (loop .inv .1)
 
 pub union-spec : {M : Type 1} → statement M
 union-spec =

@@ -1,4 +1,5 @@
--- Agent by agent, upward. The invariant: the mask has the own values that the agents passed bar.
+-- `barred` is the mask of the own values that the view bars.
+-- Agent by agent, upward. The invariant: what the agents passed bar.
 use Rattle.base.proofs.Bits.{bit-of-zero}
 use borrow.Author.Needs.{needs}
 use Prim.Native.Nat.{ℕ, pred, _+_, _-_, _≤_}
@@ -48,7 +49,8 @@ value-of-requires c κs = search needs
 
 barred-at-requires : tie.Need-barred-at-requires Inv-loop μ-loop
 unfolding maxDomain
-barred-at-requires c κs = rw (c .value-of .ensures .0) (c .before .before .before .before .before .before .pre .1 (c .before .before .before .loop .i + 1) (omega arith) (omega arith))
+barred-at-requires c κs = rw (c .value-of .ensures .0)
+    (c .before .before .before .before .before .before .pre .1 (c .before .before .before .loop .i + 1) (omega arith) (omega arith))
 
 add-i : tie.Need-add-i Inv-loop μ-loop
 add-i c = search needs
@@ -58,13 +60,15 @@ loop-less c = search needs
 
 loop-again : tie.Need-loop-again Inv-loop μ-loop
 unfolding maxDomain
-loop-again c = (
-  omega arith,
-  λ w l h.
-      rw (c .barred-at .ensures, c .before .value-of .ensures .0)
-      (barred-more (c .before .before .before .before .before .before .before .args .bans .now) (assigned (c .before .before .before .before .before .before .before .args .self)) (c .before .before .before .before .loop .mask) (c .before .before .before .before .loop .i) w (omega arith)
-      (c .before .before .before .before .before .before .before .pre .1 (c .before .before .before .before .loop .i + 1) (omega arith) (omega arith)) l h (c .before .before .before .before .loop .inv .1 w l h)),
-)
+loop-again c =
+    let start = c .before .before .before .before .before .before .before in
+    let loop = c .before .before .before .before .loop in (
+      omega arith,
+      λ w l h.
+          rw (c .barred-at .ensures, c .before .value-of .ensures .0)
+          (barred-more (start .args .bans .now) (assigned (start .args .self)) (loop .mask) (loop .i) w (omega arith)
+          (start .pre .1 (loop .i + 1) (omega arith) (omega arith)) l h (loop .inv .1 w l h)),
+    )
 
 returns : tie.Need-returns Inv-loop μ-loop
 unfolding maxDomain conflicts blame above selfOf

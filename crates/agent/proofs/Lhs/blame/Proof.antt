@@ -1,4 +1,5 @@
--- Agent by agent, upward, to the first that bars w. The invariant: `found` is the lowest of the agents passed that does.
+-- `blame` is the lowest-numbered agent that bars a value.
+-- Agent by agent, upward, to the first that does. The invariant: `found` is the lowest of the agents passed.
 use borrow.Author.Needs.{needs}
 use Prim.Native.Nat.{_+_, _-_, _≤_, _<_}
 use mathlib.Core.Path.{_≡_, refl, sym, _∙_}
@@ -24,7 +25,8 @@ Inv-loop self bans w above found₀ i₀ found i =
 abbrev μ-loop : tie.MeasureT-loop
 μ-loop self bans w above found₀ i₀ found i = above - i
 
-going : (c : tie.In-loop Inv-loop μ-loop) → (c .before .loop .i < c .before .before .before .before .args .own .number - 1) × (c .before .loop .found ≡ 0)
+going : (c : tie.In-loop Inv-loop μ-loop) → (c .before .loop .i < c .before .before .before .before .args .own .number - 1)
+    × (c .before .loop .found ≡ 0)
 going c =
     let t = and-eq-true-iff _ _ .0 (c .loop-test .taken) in
     (ltb-true _ _ (t .0), eqb-true _ _ (t .1))
@@ -53,7 +55,9 @@ value-of-requires c κs = omega (arith, going (c .before) .0)
 
 barred-at-requires : tie.Need-barred-at-requires Inv-loop μ-loop
 unfolding maxDomain
-barred-at-requires c κs = rw (c .value-of .ensures .0) (c .before .before .before .before .before .before .pre .1 .0 (c .before .before .before .loop .i + 1) (omega arith) (omega (arith, going (c .before .before) .0)))
+barred-at-requires c κs = rw (c .value-of .ensures .0)
+    (c .before .before .before .before .before .before .pre .1 .0 (c .before .before .before .loop .i + 1) (omega arith)
+    (omega (arith, going (c .before .before) .0)))
 
 sub-if1 : tie.Need-sub-if1 Inv-loop μ-loop
 sub-if1 c = omega (arith, going (c .before .before .before) .0)
@@ -73,19 +77,28 @@ loop-less c = omega (arith, going (c .before .before .before .before) .0)
 loop-again : tie.Need-loop-again Inv-loop μ-loop
 unfolding maxDomain
 loop-again c =
+    let start = c .before .before .before .before .before .before .before .before in
+    let loop = c .before .before .before .before .before .loop in
     let g = going (c .before .before .before .before) in
-    let fits = c .before .before .before .before .before .before .before .before .pre .1 .0 (c .before .before .before .before .before .loop .i + 1) (omega arith) (omega arith) in
-    let none-yet = sym (c .before .before .before .before .before .loop .inv .1) ∙ g .1 in (
+    let fits = start .pre .1 .0 (loop .i + 1) (omega arith) (omega arith) in
+    let none-yet = sym (loop .inv .1) ∙ g .1 in (
       omega arith,
       ⊎-elim
-          (λ u. u .1 ∙ found-here (c .before .before .before .before .before .before .before .before .args .bans .now) (assigned (c .before .before .before .before .before .before .before .before .args .self)) (c .before .before .before .before .before .loop .i) (c .before .before .before .before .before .before .before .before .args .w) (omega arith) fits (c .before .before .before .before .before .before .before .before .pre .1 .1) (c .before .before .before .before .before .before .before .before .pre .1 .2) none-yet (rw (c .before .barred-at .ensures, c .before .before .value-of .ensures .0) at (u .0 .taken)))
-          (λ u. u .1 ∙ g .1 ∙ not-here (c .before .before .before .before .before .before .before .before .args .bans .now) (assigned (c .before .before .before .before .before .before .before .before .args .self)) (c .before .before .before .before .before .loop .i) (c .before .before .before .before .before .before .before .before .args .w) (omega arith) fits (c .before .before .before .before .before .before .before .before .pre .1 .1) (c .before .before .before .before .before .before .before .before .pre .1 .2) none-yet (rw (c .before .barred-at .ensures, c .before .before .value-of .ensures .0) at (u .0 .left)))
+          (λ u. u .1 ∙ found-here (start .args .bans .now) (assigned (start .args .self)) (loop .i) (start .args .w) (omega arith) fits
+          (start .pre .1 .1) (start .pre .1 .2) none-yet
+          (rw (c .before .barred-at .ensures, c .before .before .value-of .ensures .0) at (u .0 .taken)))
+          (λ u. u .1 ∙ g .1 ∙ not-here (start .args .bans .now) (assigned (start .args .self)) (loop .i) (start .args .w)
+          (omega arith) fits (start .pre .1 .1) (start .pre .1 .2) none-yet
+          (rw (c .before .barred-at .ensures, c .before .before .value-of .ensures .0) at (u .0 .left)))
           (c .if1 .came),
     )
 
 returns : tie.Need-returns Inv-loop μ-loop
 unfolding blame above selfOf
-returns c = rw (← sub-one (c .before .before .before .before .args .own .number)) (blame-end _ _ _ _ (c .before .loop .inv .0) (c .loop-test .left) (c .before .loop .inv .1))
+returns c =
+    let loop = c .before .loop in
+    rw (← sub-one (c .before .before .before .before .args .own .number))
+    (blame-end _ _ _ _ (loop .inv .0) (c .loop-test .left) (loop .inv .1))
 
 pub blame-spec : {M : Type 1} → statement M
 blame-spec =

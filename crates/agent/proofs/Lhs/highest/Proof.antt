@@ -1,4 +1,5 @@
--- From m down, the first that is named. The invariant: the search to m is the search to k.
+-- `highest` is the highest-numbered agent that is named.
+-- From m down. The invariant: the search to m is the search to k.
 use Rattle.base.proofs.Search.{highest-here, highest-below}
 use borrow.Author.Needs.{needs}
 use Prim.Native.Nat.{_≤_}
@@ -28,9 +29,11 @@ value-of-requires c κs = search needs
 returns : tie.Need-returns Inv-loop μ-loop
 unfolding numberOf
 returns c =
-    let named : known (assigned (c .before .before .before .before .args .self) (c .before .before .before .loop .k)) ≡ true =
+    let start = c .before .before .before .before in
+    let loop = c .before .before .before .loop in
+    let named : known (assigned (start .args .self) (loop .k)) ≡ true =
     rw (← c .before .value-of .ensures .0) (known-from (c .before .value-of .result) (omega arith)) in
-    rw (c .before .before .before .loop .inv .1, highest-here (c .before .before .before .loop .k) (λ j. known (assigned (c .before .before .before .before .args .self) j)) (c .before .before .loop-test .taken) named)
+    rw (loop .inv .1, highest-here (loop .k) (λ j. known (assigned (start .args .self) j)) (c .before .before .loop-test .taken) named)
 
 sub-k : tie.Need-sub-k Inv-loop μ-loop
 sub-k c = search needs
@@ -41,7 +44,11 @@ loop-less c = search needs
 loop-again : tie.Need-loop-again Inv-loop μ-loop
 unfolding known
 loop-again c =
-    (omega arith, c .before .before .before .loop .inv .1 ∙ highest-below (c .before .before .before .loop .k) (λ j. known (assigned (c .before .before .before .before .args .self) j)) (c .before .before .loop-test .taken) (rw (← c .before .value-of .ensures .0, c .if1 .left)))
+    let loop = c .before .before .before .loop in (
+      omega arith,
+      loop .inv .1 ∙ highest-below (loop .k) (λ j. known (assigned (c .before .before .before .before .args .self) j))
+          (c .before .before .loop-test .taken) (rw (← c .before .value-of .ensures .0, c .if1 .left)),
+    )
 
 returns-2 : tie.Need-returns-2 Inv-loop μ-loop
 unfolding highest numberOf

@@ -1,4 +1,5 @@
--- The `|` of two words that agree.
+-- `join` joins two left sides that are compatible.
+-- The `|` of their words.
 use native.Mathlib.Omega.{arith}
 use Rattle.agent.specs.Abstract.{assigned}
 use Rattle.agent.proofs.Digits.{or-assigned}

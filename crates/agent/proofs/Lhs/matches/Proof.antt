@@ -1,3 +1,4 @@
+-- `matches` is the test of all agents above.
 -- From the last agent above down. The invariant: all match if those up to k do.
 use Rattle.base.proofs.Loops.{allTo-fails, allTo-goes}
 use borrow.Author.Needs.{needs}
@@ -10,7 +11,7 @@ use borrow.Author.Tests.{not-true, not-false}
 use Rattle.base.specs.Finite.{allTo}
 use Rattle.agent.specs.Abstract.{assigned}
 use Rattle.agent.specs.Parts.{matching}
-use Rattle.agent.proofs.Refusals.{tested}
+use Rattle.agent.proofs.LeftSides.{tested}
 use Rattle.agent.proofs.Lhs.matches.Statement.{statement}
 use Rattle.agent.proofs.Lhs.matches.Tie as tie
 
@@ -23,8 +24,11 @@ abbrev μ-loop : tie.MeasureT-loop
 μ-loop self listens view k₀ k = k
 
 same : (c : tie.After-has Inv-loop μ-loop)
-    → matching (assigned (c .before .before .before .before .before .before .args .self)) (c .before .before .before .before .before .before .args .listens) (assigned (c .before .before .before .before .before .before .args .view)) (c .before .before .before .before .loop .k)
-    ≡ eqb (c .before .before .value-of .result) 0 || not (c .has .result) || eqb (c .before .before .value-of .result) (c .before .value-of2 .result)
+    → matching (assigned (c .before .before .before .before .before .before .args .self))
+    (c .before .before .before .before .before .before .args .listens)
+    (assigned (c .before .before .before .before .before .before .args .view)) (c .before .before .before .before .loop .k)
+    ≡ eqb (c .before .before .value-of .result) 0 || not (c .has .result) || eqb (c .before .before .value-of .result)
+    (c .before .value-of2 .result)
 same c = tested _ _ _ _ _ _ _ (c .before .before .value-of .ensures .0) (c .before .value-of2 .ensures .0) (c .has .ensures)
 
 sub-k : tie.Need-sub-k Inv-loop μ-loop
@@ -43,7 +47,10 @@ has-requires : tie.Need-has-requires Inv-loop μ-loop
 has-requires c κs = search needs
 
 returns : tie.Need-returns Inv-loop μ-loop
-returns c = sym (c .before .before .before .before .before .loop .inv .1 ∙ allTo-fails (c .before .before .before .before .before .loop .k) _ (c .before .before .before .before .loop-test .taken) (same (c .before) ∙ not-true _ (c .if1 .taken)))
+returns c =
+    let loop = c .before .before .before .before .before .loop in
+    sym (loop .inv .1 ∙ allTo-fails (loop .k) _ (c .before .before .before .before .loop-test .taken)
+    (same (c .before) ∙ not-true _ (c .if1 .taken)))
 
 sub-k-2 : tie.Need-sub-k-2 Inv-loop μ-loop
 sub-k-2 c = search needs
@@ -52,7 +59,12 @@ loop-less : tie.Need-loop-less Inv-loop μ-loop
 loop-less c = search needs
 
 loop-again : tie.Need-loop-again Inv-loop μ-loop
-loop-again c = (omega arith, c .before .before .before .before .before .loop .inv .1 ∙ allTo-goes (c .before .before .before .before .before .loop .k) _ (c .before .before .before .before .loop-test .taken) (same (c .before) ∙ not-false _ (c .if1 .left)))
+loop-again c =
+    let loop = c .before .before .before .before .before .loop in (
+      omega arith,
+      loop .inv .1 ∙ allTo-goes (loop .k) _ (c .before .before .before .before .loop-test .taken)
+          (same (c .before) ∙ not-false _ (c .if1 .left)),
+    )
 
 returns-2 : tie.Need-returns-2 Inv-loop μ-loop
 unfolding allTo

@@ -1,4 +1,5 @@
--- Nobody, with one agent added.
+-- `only` names one agent.
+-- Nobody, with one digit put in.
 use borrow.Author.Needs.{needs}
 use mathlib.Core.Path.{_∙_, ap₂}
 use Prim.Native.Nat.{ℕ}
@@ -19,7 +20,8 @@ with-requires c κs = search needs
 returns : tie.Need-returns
 unfolding only assigned
 returns c =
-    c .with .ensures ∙ ap₂ (λ (f : Assignment) (v : ℕ). at f (c .before .before .args .k) v) nobody-assigned (c .before .value-of .ensures .0)
+    c .with .ensures ∙ ap₂ (λ (f : Assignment) (v : ℕ). at f (c .before .before .args .k) v) nobody-assigned
+    (c .before .value-of .ensures .0)
 
 pub only-spec : {M : Type 1} → statement M
 only-spec = tie.close (tie.spec value-of-requires with-requires returns)

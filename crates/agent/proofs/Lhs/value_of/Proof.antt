@@ -1,4 +1,5 @@
--- The value of one agent: its digit.
+-- `value_of` is the value of one agent.
+-- Its digit.
 use Rattle.agent.specs.Abstract.{assigned}
 use Rattle.agent.proofs.Digits.{value-at}
 use borrow.Author.Needs.{needs}

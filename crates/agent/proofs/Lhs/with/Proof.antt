@@ -1,3 +1,4 @@
+-- `with` changes the value of one agent.
 -- One digit taken out and another put in.
 use Prim.Native.Nat.{_*_, _-_}
 use native.Mathlib.Omega.{arith}
@@ -7,7 +8,8 @@ use borrow.Author.Needs.{needs}
 use Rattle.agent.proofs.Lhs.with.Statement.{statement}
 use Rattle.agent.proofs.Lhs.with.Tie as tie
 
-changed : (c : tie.After-struct-known2) → Put (c .before .before .args .self .digits) (c .before .before .args .k) (c .before .before .args .v) (4 * (c .before .before .args .k - 1))
+changed : (c : tie.After-struct-known2) → Put (c .before .before .args .self .digits) (c .before .before .args .k)
+    (c .before .before .args .v) (4 * (c .before .before .args .k - 1))
 changed c = put-code _ _ _ (omega arith) (c .before .before .pre .0) (c .before .before .pre .1) (c .before .before .pre .2)
 
 sub-place : tie.Need-sub-place

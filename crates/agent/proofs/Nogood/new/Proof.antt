@@ -1,4 +1,5 @@
--- The record as it is made. It has a file of its own so that a refusal stands there.
+-- `new` stores a reason, whatever its left side.
+-- The record as it is made.
 use mathlib.Core.Path.{refl}
 use Rattle.agent.proofs.Nogood.new.Statement.{statement}
 use Rattle.agent.proofs.Nogood.new.Tie as tie

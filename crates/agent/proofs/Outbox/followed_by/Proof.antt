@@ -1,4 +1,5 @@
--- Post by post. The invariant: the outbox holds what it held and the first i of the others.
+-- `followed_by` puts one outbox behind another.
+-- Post by post. The invariant: what it held, and the first i of the others.
 use borrow.Author.Needs.{needs}
 use Prim.Native.Nat.{_+_, _-_, _≤_}
 use mathlib.Core.Path.{_≡_}
@@ -46,8 +47,14 @@ loop-less c = search needs
 
 loop-again : tie.Need-loop-again Inv-loop μ-loop
 loop-again c =
-    let l : length (c .before .before .before .args .t2 .posts) ≡ 22 = simp length-map at (c .before .before .before .good .1 .0 .1 .1 .1 .0 .1 .0 .1) in
-    (omega arith, omega arith, holds-next (c .before .before .loop .o) (sentOf (c .before .before .before .args .self)) (c .before .before .before .args .t2 .posts) (c .before .before .loop .i) _ (omega arith) (omega arith) (c .before .before .loop .inv .2))
+    let start = c .before .before .before in
+    let loop = c .before .before .loop in
+    let l : length (start .args .t2 .posts) ≡ 22 = simp length-map at (start .good .1 .0 .1 .1 .1 .0 .1 .0 .1) in (
+      omega arith,
+      omega arith,
+      holds-next (loop .o) (sentOf (start .args .self)) (start .args .t2 .posts) (loop .i) _ (omega arith)
+          (omega arith) (loop .inv .2),
+    )
 
 returns : tie.Need-returns Inv-loop μ-loop
 unfolding sentOf

@@ -1,3 +1,4 @@
+-- `new` holds nothing.
 -- No place counts.
 use mathlib.Core.Path.{refl}
 use Rattle.agent.specs.Abstract.{sentOf}

@@ -1,3 +1,4 @@
+-- `with` holds one post more.
 -- The next place is written, and counts.
 use borrow.Author.Needs.{needs}
 use mathlib.Core.Path.{_≡_}

@@ -1,4 +1,5 @@
--- One byte of the word, and none for 0.
+-- `barred_at` is what one agent bars.
+-- One byte of its word, and none for an unknown value.
 use borrow.Author.Needs.{needs}
 use native.Mathlib.Omega.{arith}
 use Rattle.agent.specs.Parts.{barredAt}

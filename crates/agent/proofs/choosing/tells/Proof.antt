@@ -1,4 +1,5 @@
--- Whoever is in the set.
+-- `tells` is whether an agent is informed.
+-- Whatever the value was.
 use borrow.Author.Needs.{needs}
 use Rattle.agent.proofs.choosing.tells.Statement.{statement}
 use Rattle.agent.proofs.choosing.tells.Tie as tie

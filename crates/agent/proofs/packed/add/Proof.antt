@@ -1,4 +1,5 @@
--- A bit more.
+-- `add` puts one agent into a set.
+-- One bit more.
 use borrow.Author.Needs.{needs}
 use Rattle.agent.proofs.Sets.{member-add}
 use Rattle.agent.proofs.packed.add.Statement.{statement}

@@ -1,4 +1,5 @@
--- A bit of the mask.
+-- `has` is whether an agent is in a set.
+-- Its bit.
 use borrow.Author.Needs.{needs}
 use Rattle.agent.proofs.Sets.{member-at}
 use Rattle.agent.proofs.packed.has.Statement.{statement}

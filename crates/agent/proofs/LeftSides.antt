@@ -1,4 +1,5 @@
--- A refusal: the test of a left side, and the record that takes it.
+-- The code's tests of a left side are the rule's, and its AddLinks too.
+-- Agent by agent, upward or downward.
 use Prim.Native.Nat.{ℕ, zero, suc, _≤_}
 use mathlib.Core.Path.{_≡_, refl, sym, ap, _∙_}
 use mathlib.Core.Bool.{Bool, true, false, not, _&&_, _||_, Bool·not-not}
@@ -28,7 +29,7 @@ pub tested : (lhs view : Assignment) (listens k u seen : ℕ) (heard : Bool) →
 unfolding matching
 tested lhs view listens k u seen heard e f g = rw (← e, ← f, ← g, unknown u)
 
--- ---- link requests
+-- ---- AddLinks
 
 pub unheard-tested : (a : Agent) (lhs : Assignment) (k u : ℕ) (heard : Bool) → u ≡ lhs k → heard ≡ members (a .listens) k
     → unheard (agentOf a) lhs k ≡ not (eqb u 0) && not heard
@@ -36,7 +37,8 @@ unfolding unheard agentOf
 unheard-tested a lhs k u heard e f =
     rw (← e, ← f) (ap (λ (b : Bool). b && not heard) (sym (Bool·not-not (known u)) ∙ ap not (unknown u)))
 
-pub asked : (a : Agent′) (lhs : Assignment) (k : ℕ) → unheard a lhs k ≡ true → addLinkTo a lhs k ≡ record { to = k; message = AddLink′ } ∷ []
+pub asked : (a : Agent′) (lhs : Assignment) (k : ℕ) → unheard a lhs k ≡ true
+    → addLinkTo a lhs k ≡ record { to = k; message = AddLink′ } ∷ []
 unfolding addLinkTo
 asked a lhs k e = rw (e, addLinkTo)
 

@@ -1,4 +1,5 @@
--- News: since the nogoods agree with the view, those that disagree with the changed view are those that name the sender at another value.
+-- On an Info the code drops exactly the nogoods that disagree with the changed view, and chooses where the rule does.
+-- The nogoods agreed with the view before, so they can disagree only at the sender.
 use Prim.Native.Nat.{ℕ, zero, suc, pred, _^_, _<_, _≤_}
 use mathlib.Core.Path.{_≡_, refl, sym, ap, _∙_, fun-ext}
 use mathlib.Core.Logic.{_≢_}
@@ -18,11 +19,11 @@ use Rattle.agent_rules.specs.Message.{Assignment, known, Info as Info′}
 use Rattle.agent_rules.specs.Agent.{Self, Nogoods, Agent as Agent′, above, agrees}
 use Rattle.agent_rules.specs.Choosing.{blame, checkView}
 use Rattle.agent_rules.specs.Receiving.{agreeing, updated, conflicts, onInfo}
-use Rattle.agent_rules.specs.Shape.{maxNamed, EachNamed, RecordFits, MessageFits, anyValue}
+use Rattle.agent_rules.specs.Shape.{maxNamed, RecordFits, MessageFits, anyValue}
 use Rattle.agent.specs.Packed.{members}
 use Rattle.agent.specs.Abstract.{assigned, noNogood, agentOf, selfOf, bansIn}
 use Rattle.agent.specs.Entries.{Able}
-use Rattle.agent.specs.Parts.{numberOf, Holding, Makes, Coherent, keeping, seeing}
+use Rattle.agent.specs.Parts.{numberOf, Holding, Makes, Agreed, Coherent, keeping, seeing}
 use Rattle.agent.specs.declared.Agent.{Agent}
 use Rattle.agent.specs.declared.Own.{Own}
 use Rattle.agent.specs.declared.Outbox.{Outbox}
@@ -35,7 +36,7 @@ use Rattle.agent.proofs.Steps.{makes-quiet}
 -- ---- a record in shape
 
 -- a set in sixteen bits names the agents 1 to 16
-pub member-range : (m k : ℕ) → m < 2 ^ 16 → members m k ≡ true → k ≤ 16
+member-range : (m k : ℕ) → m < 2 ^ 16 → members m k ≡ true → k ≤ 16
 unfolding members fromOne
 member-range m zero h e = omega arith
 member-range m (suc k) h e =
@@ -43,7 +44,7 @@ member-range m (suc k) h e =
     (λ t. leb-true (suc k) 16 t)
     (λ t. absurd (false≢true (sym (bit-above 16 m k h (omega (arith, leb-false (suc k) 16 t))) ∙ e)))
 
-pub fits-coherent : (s : Self) (a : Agent′) → RecordFits anyValue s a → Coherent s a
+fits-coherent : (s : Self) (a : Agent′) → RecordFits anyValue s a → Coherent s a
 unfolding anyValue
 fits-coherent s a f =
     record {
@@ -57,7 +58,7 @@ fits-coherent s a f =
 
 module _ (s : Self) (view : Assignment) (few : above s ≤ 16) (from v : ℕ) (lo : 1 ≤ from) (hi : from ≤ above s) where
   -- at the other agents a left side agrees still
-  agrees-else : (lhs : Assignment) → EachNamed lhs (λ k u. u ≡ view k) → (k : ℕ) → 1 ≤ k → k ≤ above s → k ≢ from
+  agrees-else : (lhs : Assignment) → Agreed view lhs → (k : ℕ) → 1 ≤ k → k ≤ above s → k ≢ from
       → not (known (lhs k)) || eqb (lhs k) (at view from v k) ≡ true
   unfolding maxNamed
   agrees-else lhs g k l h n =
@@ -65,7 +66,7 @@ module _ (s : Self) (view : Assignment) (few : above s ≤ 16) (from v : ℕ) (l
       (λ t. rw (t, at-other view from v k n, eq-eqb (lhs k) (view k) (g k l (omega arith) t)))
       (λ t. rw t)
 
-  agrees-there : (lhs : Assignment) → EachNamed lhs (λ k u. u ≡ view k)
+  agrees-there : (lhs : Assignment) → Agreed view lhs
       → agrees s (at view from v) lhs ≡ not (known (lhs from)) || eqb (lhs from) v
   unfolding agrees
   agrees-there lhs g =
@@ -82,7 +83,7 @@ module _ (s : Self) (view : Assignment) (few : above s ≤ 16) (from v : ℕ) (l
       (λ u. absurd (false≢true (sym t ∙ rw (at-same view from v) at (allTo-at (above s) _ u from lo hi))))
       (λ u. u ∙ sym t))
 
-  kept : (o : Option Assignment) → ((lhs : Assignment) → o ≡ some lhs → EachNamed lhs (λ k u. u ≡ view k))
+  kept : (o : Option Assignment) → ((lhs : Assignment) → o ≡ some lhs → Agreed view lhs)
       → agreeing s (at view from v) o ≡ keeping from v o
   unfolding agreeing keeping
   kept none f = refl
@@ -94,14 +95,22 @@ unfolding agentOf fromOne noNogood
 nogoods-beyond a zero h l = refl
 nogoods-beyond a (suc w) h l = rw (List·getD-eq-default (a .nogoods) noNogood {n = w} (omega arith)) (nogood-none noNogood refl)
 
-pub updated-seeing : (s : Self) (a : Agent) (from v : ℕ) → Coherent s (agentOf a) → length (a .nogoods) ≡ 8 → above s ≤ 16 → 1 ≤ from → from ≤ above s
+updated-seeing : (s : Self) (a : Agent) (from v : ℕ) → Coherent s (agentOf a) → length (a .nogoods) ≡ 8 → above s ≤ 16 → 1 ≤ from
+    → from ≤ above s
     → seeing from v (agentOf a) ≡ updated s (agentOf a) from v
 unfolding seeing updated maxDomain agentOf fromOne
 updated-seeing s a from v c h few lo hi =
-    ap (λ (n : Nogoods). record { value = agentOf a .value; listens = agentOf a .listens; informs = agentOf a .informs; view = at (agentOf a .view) from v; nogoods = n })
+    ap (λ (n : Nogoods). record {
+      value = agentOf a .value;
+      listens = agentOf a .listens;
+      informs = agentOf a .informs;
+      view = at (agentOf a .view) from v;
+      nogoods = n;
+    })
     (fun-ext λ w. sym (go w))
   where
-    none-there : (w : ℕ) → agentOf a .nogoods w ≡ none → agreeing s (at (agentOf a .view) from v) (agentOf a .nogoods w) ≡ keeping from v (agentOf a .nogoods w)
+    none-there : (w : ℕ) → agentOf a .nogoods w ≡ none
+        → agreeing s (at (agentOf a .view) from v) (agentOf a .nogoods w) ≡ keeping from v (agentOf a .nogoods w)
     none-there w e = rw e (kept s (agentOf a .view) few from v lo hi none (λ lhs q. no-some q))
 
     go : (w : ℕ) → agreeing s (at (agentOf a .view) from v) (agentOf a .nogoods w) ≡ keeping from v (agentOf a .nogoods w)
@@ -115,7 +124,8 @@ updated-seeing s a from v c h few lo hi =
 
 -- ---- what the code does
 
-module _ (own : Own) (words : List ℕ) (self : Agent) (from v : ℕ) (able : Able own words) (fits : RecordFits anyValue (selfOf own) (agentOf self))
+module _ (own : Own) (words : List ℕ) (self : Agent) (from v : ℕ) (able : Able own words)
+    (fits : RecordFits anyValue (selfOf own) (agentOf self))
     (message : MessageFits anyValue (selfOf own) (agentOf self) from (Info′ v)) (small : self .listens < 2 ^ 16) where
   pub sender : (1 ≤ from) × (from < own .number) × (1 ≤ v) × (v ≤ 8)
   unfolding agentOf selfOf anyValue maxDomain maxNamed
@@ -150,16 +160,16 @@ module _ (own : Own) (words : List ℕ) (self : Agent) (from v : ℕ) (able : Ab
     unfolding conflicts updated agentOf
     barred = sym (ap (λ (x : Agent′). isSome (blame (selfOf own) (bansIn words) (x .view) (x .value))) seen)
 
-    pub news-quiet : (o : Outbox) → numberOf (blame (selfOf own) (bansIn words) (assigned (a .view)) (a .value)) ≡ 0 → Holding o []
+    pub info-quiet : (o : Outbox) → numberOf (blame (selfOf own) (bansIn words) (assigned (a .view)) (a .value)) ≡ 0 → Holding o []
         → Makes record { agent = a; outbox = o; verdict = false } (onInfo (selfOf own) (bansIn words) (agentOf self) from v) 11
     unfolding onInfo isSome blame
-    news-quiet o z h = rw (barred, number-zero _ _ z, onInfo, ← seen) (makes-quiet a o [] 11 h (omega arith))
+    info-quiet o z h = rw (barred, number-zero _ _ z, onInfo, ← seen) (makes-quiet a o [] 11 h (omega arith))
 
-    pub news-chooses : (r : Step) → (numberOf (blame (selfOf own) (bansIn words) (assigned (a .view)) (a .value)) ≡ 0 → ⊥)
+    pub info-chooses : (r : Step) → (numberOf (blame (selfOf own) (bansIn words) (assigned (a .view)) (a .value)) ≡ 0 → ⊥)
         → Makes r (checkView (selfOf own) (bansIn words) (agentOf a)) 11
         → Makes r (onInfo (selfOf own) (bansIn words) (agentOf self) from v) 11
     unfolding onInfo isSome numberOf
-    news-chooses r z m =
+    info-chooses r z m =
         opt (blame (selfOf own) (bansIn words) (assigned (a .view)) (a .value))
         (λ q. absurd (z (rw q)))
         (λ k q. rw (barred, q, onInfo, ← seen) m)

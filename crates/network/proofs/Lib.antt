@@ -1,0 +1,17 @@
+pub mod Numbering
+pub mod Held
+pub mod Masks
+pub mod Words
+pub mod Sending
+pub mod Rings
+pub mod Changes
+pub mod Posting
+pub mod Stepping
+pub mod Finding
+pub mod Rejecting
+pub mod Handing
+pub mod Visits
+pub mod Resuming
+pub mod Here
+pub mod Resting
+pub mod Visiting

@@ -1,0 +1,40 @@
+-- What the network's answers mean: each as the value of the definitions that it stands for. A primed name is the definitions'.
+use mathlib.Core.Path.{_≡_}
+use Rattle.protocol.specs.Delivery.{Delivery, answerNumber}
+use Rattle.protocol.specs.Run.{
+  Ending as Ending′,
+  None as None′,
+  Plan as Plan′,
+  Jammed as Jammed′,
+  Faulty as Faulty′,
+  Open as Open′,
+  Broken as Broken′,
+  Ran as Ran′,
+}
+use Rattle.shape.specs.declared.Network.{Network}
+use Rattle.shape.specs.Abstract.{networkOf}
+use Rattle.network.specs.declared.Delivered.{Delivered}
+use Rattle.network.specs.declared.Ending.{Ending}
+use Rattle.network.specs.declared.Ending.the-variants.{None, Plan, Jammed, Faulty, Open, Broken}
+use Rattle.network.specs.declared.Ran.{Ran}
+
+-- a delivery on r is answered as the definitions' delivery d. A rejected one hands back the very network given, unused places and all.
+pub record Answers (r : Network) (d : Delivery) (answer : Delivered) : Type 0 where
+  pub network : networkOf (answer .network) ≡ d .network
+  pub number : answer .number ≡ answerNumber (d .answer)
+  pub untouched : (answer .number ≡ 0 → ⊥) → answer .network ≡ r
+
+unfoldable pub endingOf : Ending → Ending′
+endingOf None = None′
+endingOf Plan = Plan′
+endingOf Jammed = Jammed′
+endingOf Faulty = Faulty′
+endingOf Open = Open′
+endingOf Broken = Broken′
+
+-- a run on r is answered as the definitions' run d. A rejected one hands back the very network given.
+pub record RunsAs (r : Network) (d : Ran′) (answer : Ran) : Type 0 where
+  pub network : networkOf (answer .network) ≡ d .network
+  pub rounds : answer .rounds ≡ d .made
+  pub ending : endingOf (answer .ending) ≡ d .ending
+  pub untouched : answer .ending ≡ Broken → answer .network ≡ r
