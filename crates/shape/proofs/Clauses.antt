@@ -1,18 +1,18 @@
 -- The clauses of the shape, each for a network of which only what the clause reads is known, in the form in which the code goes through it.
 use Prim.Native.Nat.{ℕ, zero, suc, _-_, _^_, _≤_, _<_}
-use mathlib.Core.Path.{_≡_, _∙_}
-use mathlib.Core.Bool.{not, _&&_, _||_, or-and-distrib-left}
+use mathlib.Core.Path.{_≡_, refl, _∙_}
+use mathlib.Core.Bool.{Bool, true, false, not, _&&_, _||_, or-and-distrib-left}
 use mathlib.Core.Option.{none}
 use mathlib.Core.List.{List, map}
 use native.Mathlib.Nat.{not-suc-le-zero}
 use native.Mathlib.Omega.{arith}
 use lib.Dec.{eqb, ltb, leb}
 use lib.ListN.{length, getD, length-map, List·getD-map}
-use Rattle.base.proofs.Peeling.{allTo-same, allTo-and}
-use Rattle.base.proofs.Arrays.{getD-below}
 use borrow.Author.Tests.{lt-ltb, le-leb, lt-leb, ltb-true, ltb-false}
 use Rattle.base.proofs.Tests.{test}
 use Rattle.base.specs.Finite.{fromOne, allTo, isSome}
+use Rattle.base.proofs.Arrays.{getD-below}
+use Rattle.base.proofs.Peeling.{allTo-same, allTo-and}
 use Rattle.problem.specs.Problem.{Problem, maxAgents, maxDomain, domain, owns, wordAt, isPair, linked}
 use Rattle.agent_rules.specs.Agent.{noAgent}
 use Rattle.agent_rules.specs.Shape.{maxNamed}
@@ -23,7 +23,7 @@ use Rattle.agent.specs.Abstract.{assigned, nogoodOf, noNogood, agentOf}
 use Rattle.agent.specs.declared.Nogood.{Nogood}
 use Rattle.agent.specs.declared.Agent.{Agent}
 use Rattle.shape.specs.Abstract.{agentsOf}
-use Rattle.shape.specs.Parts.{setOf}
+use Rattle.shape.specs.Parts.{setOf, linksInShape}
 use Rattle.shape.proofs.Words.{in-same, none-in, none-named}
 use Rattle.shape.proofs.Ranges.{within-at}
 
@@ -74,18 +74,21 @@ stored-is : (g : Nogood) → isSome (nogoodOf g) ≡ g .stored
 unfolding nogoodOf isSome
 stored-is g = test (g .stored) (λ t. rw (t, nogoodOf)) (λ t. rw (t, nogoodOf))
 
-pub stored-at : (nogoods : List Nogood) (v : ℕ) → 1 ≤ v
-    → not (isSome (fromOne none (λ k. nogoodOf (getD nogoods k noNogood)) v)) ≡ not (getD nogoods (v - 1) noNogood .stored)
-stored-at nogoods v h = rw (from-at none (λ k. nogoodOf (getD nogoods k noNogood)) v h, stored-is)
+pub stored-at : (a : Agent) (v : ℕ) → 1 ≤ v → isSome (agentOf a .nogoods v) ≡ getD (a .nogoods) (v - 1) noNogood .stored
+unfolding agentOf
+stored-at a v h = rw (from-at none (λ k. nogoodOf (getD (a .nogoods) k noNogood)) v h, stored-is)
 
-pub unused-is : (a : Agent) → a .listens < 2 ^ 16 → a .informs < 2 ^ 16 → a .view .digits < 2 ^ 64
-    → unused (agentOf a)
-    ≡ eqb (a .value) 0
+-- an agent of which every field is zero
+unfoldable pub zeroed : Agent → Bool
+zeroed a =
+    eqb (a .value) 0
     && eqb (a .listens) 0
     && eqb (a .informs) 0
     && eqb (a .view .digits) 0
-    && allTo maxDomain (λ v. not (isSome (fromOne none (λ k. nogoodOf (getD (a .nogoods) k noNogood)) v)))
-unfolding unused agentOf assigned
+    && allTo maxDomain (λ v. not (isSome (agentOf a .nogoods v)))
+
+pub unused-is : (a : Agent) → a .listens < 2 ^ 16 → a .informs < 2 ^ 16 → a .view .digits < 2 ^ 64 → unused (agentOf a) ≡ zeroed a
+unfolding unused zeroed agentOf assigned
 unused-is a l i v = rw (none-in (a .listens) l, none-in (a .informs) i, none-named (a .view .digits) v)
 
 -- ---- agents that a ban word links
@@ -113,17 +116,20 @@ pub agent-beyond : (w : Network′) (i : ℕ) → w .problem .count < i → agen
 unfolding agentInShape
 agent-beyond w i h = rw (lt-leb i (w .problem .count) h, agentInShape)
 
+regroup : (h l i k d v n : Bool) → h && l && i && k && d && v && n ≡ h && (l && i && k && d) && v && n
+regroup true l i k d v n = refl
+regroup false l i k d v n = refl
+
 pub agent-within : (w : Network′) (i : ℕ) → i ≤ w .problem .count
     → agentInShape w i
     ≡ holdsValue w i
-    && listensUpward w i
-    && informsDownward w i
-    && linkedListen w i
-    && informedListen w i
+    && linksInShape w i
     && viewListened w i
     && nogoodsFit w i
-unfolding agentInShape
-agent-within w i h = rw (le-leb i (w .problem .count) h, agentInShape)
+unfolding agentInShape linksInShape
+agent-within w i h =
+    rw (le-leb i (w .problem .count) h, agentInShape)
+    (regroup (holdsValue w i) (listensUpward w i) (informsDownward w i) (linkedListen w i) (informedListen w i) (viewListened w i) (nogoodsFit w i))
 
 pub agent-at : (w : Network′) (agents : List Agent) (i : ℕ) (d : Agent) → length agents ≡ 12 → 1 ≤ i → i ≤ 12
     → w .agents ≡ agentsOf (map agentOf agents) → w .agents i ≡ agentOf (getD agents (i - 1) d)

@@ -4,11 +4,11 @@ use mathlib.Core.Path.{_≡_, refl, _∙_}
 use mathlib.Core.Bool.{Bool, true, false, and-false}
 use native.Mathlib.Omega.{arith}
 use lib.Dec.{eqb, ltb}
-use Rattle.base.proofs.Peeling.{same-test}
 use borrow.Author.Tests.{lt-ltb, le-ltb, ltb-true, ltb-false, eqb-true, eqb-false, ne-eqb, eq-eqb}
 use Rattle.base.specs.Finite.{allTo}
 use Rattle.base.proofs.Tests.{test, to-within}
 use Rattle.base.proofs.Search.{allTo-at, to-allTo}
+use Rattle.base.proofs.Peeling.{same-test}
 use Rattle.problem.specs.Problem.{maxAgents}
 use Rattle.shape.specs.Abstract.{isChannel, channelAt}
 use Rattle.shape.specs.Parts.{senderOf, receiverOf}

@@ -8,13 +8,13 @@ use native.Mathlib.Omega.{arith}
 use lib.Dec.{eqb, leb}
 use lib.ListN.{length, getD, List·getD-eq-default}
 use lib.Pow.{shr-shr, pow-mono}
-use Rattle.base.proofs.Peeling.{allTo-same, walk-next, below-test}
-use Rattle.base.proofs.Bits.{bit-of-zero, bit-field}
 use borrow.Author.Tests.{lt-ltb, le-leb, lt-leb, eq-eqb, ne-eqb}
 use Rattle.base.specs.Finite.{fromOne, within, allTo}
 use Rattle.base.specs.Bits.{bit}
 use Rattle.base.proofs.Tests.{to-within}
 use Rattle.base.proofs.Search.{to-allTo}
+use Rattle.base.proofs.Bits.{bit-of-zero, bit-field}
+use Rattle.base.proofs.Peeling.{allTo-same, walk-next, below-test}
 use Rattle.problem.specs.Problem.{Problem, maxAgents, maxDomain, domain, owns, pairsBefore, wordAt, bitAt, countInRange, domainInRange, wordOwned, bansOwned, sized, inRange}
 use Rattle.shape.specs.Parts.{rowOwned}
 

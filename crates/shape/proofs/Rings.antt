@@ -8,9 +8,9 @@ use native.Mathlib.Nat.{not-suc-le-zero}
 use native.Mathlib.Omega.{arith}
 use lib.Dec.{leb}
 use lib.ListN.{length, getD}
-use Rattle.base.proofs.Peeling.{allTo-same}
 use borrow.Author.Tests.{le-leb, lt-leb}
 use Rattle.base.specs.Finite.{allTo, every}
+use Rattle.base.proofs.Peeling.{allTo-same}
 use Rattle.problem.specs.Problem.{maxAgents}
 use Rattle.agent_rules.specs.Message.{Message as Message′}
 use Rattle.protocol.specs.Shape.{capacity, messageFits, hasRoom, channelInShape}

@@ -8,13 +8,13 @@ use native.Mathlib.Nat.{not-suc-le-zero, pow-suc, div-one}
 use native.Mathlib.Omega.{arith}
 use lib.Dec.{eqb, ltb, leb}
 use lib.ListN.{length, getD, List·getD-eq-default}
-use Rattle.base.proofs.Peeling.{allTo-same, same-test, walk-next, below-test, above-test}
-use Rattle.base.proofs.Bits.{bit-zero, bit-suc, bit-of-zero, bit-above}
 use borrow.Author.Tests.{eq-eqb, ne-eqb, eqb-true, le-leb, lt-leb}
 use Rattle.base.specs.Finite.{fromOne}
 use Rattle.base.specs.Bits.{bit}
 use Rattle.base.proofs.Tests.{not-true}
 use Rattle.base.proofs.Search.{allTo-at, to-allTo}
+use Rattle.base.proofs.Bits.{bit-zero, bit-suc, bit-of-zero, bit-above}
+use Rattle.base.proofs.Peeling.{allTo-same, same-test, walk-next, below-test, above-test}
 use Rattle.agent_rules.specs.Message.{known, nobody}
 use Rattle.agent_rules.specs.Shape.{maxNamed}
 use Rattle.protocol.specs.Shape.{eachNamed, eachIn}

@@ -5,9 +5,9 @@ use mathlib.Core.Bool.{false}
 use mathlib.Core.Option.{none}
 use mathlib.Core.List.{List, [], map}
 use lib.ListN.{getD, replicate}
-use Rattle.base.proofs.Arrays.{getD-same, map-replicate}
 use Rattle.base.specs.Finite.{fromOne}
 use Rattle.base.proofs.Tests.{test}
+use Rattle.base.proofs.Arrays.{getD-same, map-replicate}
 use Rattle.problem.specs.Problem.{maxAgents, maxPairs, noBans, emptyProblem}
 use Rattle.agent_rules.specs.Agent.{Agent as Agent′, noAgent, noNogoods}
 use Rattle.protocol.specs.Network.{emptyNetwork}

@@ -9,6 +9,7 @@ use Rattle.base.specs.Finite.{fromOne, within, allTo}
 use Rattle.base.specs.Bits.{bit}
 use Rattle.problem.specs.Problem.{maxDomain}
 use Rattle.protocol.specs.Network.{Network as Network′}
+use Rattle.protocol.specs.Shape.{listensUpward, informsDownward, linkedListen, informedListen}
 use Rattle.agent.specs.Packed.{members}
 use Rattle.agent.specs.declared.Agent.{Agent}
 use Rattle.shape.specs.declared.Outline.{Outline}
@@ -16,6 +17,10 @@ use Rattle.shape.specs.declared.Outline.{Outline}
 -- one byte of a ban word, the bans of the lower agent's value v, is between owned values of two agents with domains d and e
 unfoldable pub rowOwned : ℕ → ℕ → ℕ → ℕ → Bool
 rowOwned d e v row = allTo maxDomain (λ w. not (bit row (pred w)) || (within d v && within e w))
+
+-- the clauses on whom an agent listens to and informs
+unfoldable pub linksInShape : Network′ → ℕ → Bool
+linksInShape w i = listensUpward w i && informsDownward w i && linkedListen w i && informedListen w i
 
 -- ---- the channel of a number from 0: by sender, then receiver
 

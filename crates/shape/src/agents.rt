@@ -1,18 +1,16 @@
-// The shape of the agents.
+// The shape of the agents. Each function is one clause; its contract says which, for every network that has what the function is given.
 ghost use mathlib.Core.Path.{_≡_};
 ghost use mathlib.Core.Bool.{not};
-ghost use mathlib.Core.Option.{none};
 ghost use mathlib.Core.List.{map};
-ghost use Prim.Native.Nat.{ℕ, _+_, _*_, _-_, _≤_, _<_, _^_};
+ghost use Prim.Native.Nat.{ℕ, _≤_, _<_};
 ghost use lib.Dec.{eqb};
-ghost use lib.ListN.{getD};
-ghost use Rattle.base.specs.Finite.{fromOne, allTo, isSome};
+ghost use Rattle.base.specs.Finite.{allTo, isSome};
 ghost use Rattle.problem.specs.Problem.{maxAgents, maxDomain, domain};
 ghost use Rattle.protocol.specs.Network.{Network as Network′};
 ghost use Rattle.protocol.specs.Shape.{eachNamed, holdsValue, listensUpward, informsDownward, linkedListen, informedListen, viewListened, nogoodFits, nogoodsFit, unused, agentInShape};
 ghost use Rattle.agent.specs.Packed.{members};
-ghost use Rattle.agent.specs.Abstract.{assigned, nogoodOf, noNogood, agentOf};
-ghost use Rattle.shape.specs.Parts.{setOf, outlineOf, Outlines};
+ghost use Rattle.agent.specs.Abstract.{assigned, nogoodOf, agentOf};
+ghost use Rattle.shape.specs.Parts.{setOf, linksInShape, outlineOf, Outlines};
 ghost use Rattle.shape.specs.Abstract.{agentsOf};
 use crate::Outline;
 use crate::range::owned;
@@ -156,13 +154,13 @@ fn nogoods_fit(d: u8, a: Agent) -> bool
     true
 }
 
-// No nogood is stored.
-fn unstored(nogoods: [Nogood; 8]) -> bool
-    ensures { λ b. ⌜ b ≡ allTo maxDomain (λ v. not (isSome (fromOne none (λ k. nogoodOf (getD nogoods k noNogood)) v))) ⌝ }
+// An agent has no nogood.
+fn unstored(a: Agent) -> bool
+    ensures { λ b. ⌜ b ≡ allTo maxDomain (λ v. not (isSome (agentOf a .nogoods v))) ⌝ }
 {
     let mut v: u8 = 8;
     while 0 < v {
-        let g = nogoods[v as usize - 1];
+        let g = a.nogoods[v as usize - 1];
         if g.stored {
             return false;
         }
@@ -188,8 +186,26 @@ fn unused(a: Agent) -> bool
     if view.digits != 0 {
         return false;
     }
-    let nogoods = a.nogoods;
-    unstored(nogoods)
+    unstored(a)
+}
+
+// The four clauses on whom agent i listens to and informs.
+fn links_in_shape(o: Outline, bans: &[u64; 66], i: u8, listens: u16, informs: u16) -> bool
+    requires { ⌜ (1 ≤ i) × (i ≤ 12) ⌝ }
+    ensures { λ b. ⌜ ((w : Network′) → Outlines o w → w .problem .bans ≡ now (bans .entry) → w .agents i .listens ≡ members listens → w .agents i .informs ≡ members informs → b ≡ linksInShape w i) ⌝ }
+{
+    let listeners = o.listens;
+    let informers = o.informs;
+    if !listens_upward(i, listens) {
+        return false;
+    }
+    if !informs_downward(o.count, i, informs) {
+        return false;
+    }
+    if !linked_listen(informers, bans, i, listens) {
+        return false;
+    }
+    informed_listen(listeners, i, informs)
 }
 
 fn agent_in_shape(o: Outline, bans: &[u64; 66], i: u8, a: Agent) -> bool
@@ -200,22 +216,11 @@ fn agent_in_shape(o: Outline, bans: &[u64; 66], i: u8, a: Agent) -> bool
         return unused(a);
     }
     let domains = o.domains;
-    let listens = o.listens;
-    let informs = o.informs;
     let view = a.view;
     if !holds_value(o, i, a.value) {
         return false;
     }
-    if !listens_upward(i, a.listens) {
-        return false;
-    }
-    if !informs_downward(o.count, i, a.informs) {
-        return false;
-    }
-    if !linked_listen(informs, bans, i, a.listens) {
-        return false;
-    }
-    if !informed_listen(listens, i, a.informs) {
+    if !links_in_shape(o, bans, i, a.listens, a.informs) {
         return false;
     }
     if !view_listened(domains, a.listens, view) {

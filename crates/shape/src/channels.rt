@@ -1,6 +1,6 @@
-// The shape of the channels (lines).
+// The shape of the channels (lines): their numbers, their rings, and one message.
 ghost use mathlib.Core.Path.{_≡_};
-ghost use Prim.Native.Nat.{ℕ, _+_, _*_, _%_, _≤_, _<_};
+ghost use Prim.Native.Nat.{_+_, _*_, _%_, _≤_, _<_};
 ghost use Rattle.problem.specs.Problem.{Problem};
 ghost use Rattle.protocol.specs.Network.{Network as Network′};
 ghost use Rattle.protocol.specs.Shape.{lhsFits, messageFits};
@@ -62,6 +62,7 @@ fn lhs_fits(domains: [u8; 12], j: u8, lhs: Lhs) -> bool
     true
 }
 
+// One message on the channel from i to j.
 pub fn message_fits(o: Outline, i: u8, j: u8, m: Message) -> bool
     requires { ⌜ (1 ≤ i) × (i ≤ 12) × (1 ≤ j) × (j ≤ 12) ⌝ }
     ensures { λ b. ⌜ ((w : Network′) → Outlines o w → b ≡ messageFits w i j (messageOf m)) ⌝ }

@@ -1,11 +1,11 @@
 // The problem of a network is in range: n, the domains (slot counts) and the bans.
 ghost use mathlib.Core.Path.{_≡_};
 ghost use mathlib.Core.Bool.{true};
-ghost use Prim.Native.Nat.{pred, _+_, _*_, _-_, _≤_, _<_, _^_};
+ghost use Prim.Native.Nat.{pred, _≤_, _<_};
 ghost use lib.ListN.{getD};
-ghost use Rattle.base.specs.Finite.{within, allTo};
+ghost use Rattle.base.specs.Finite.{allTo};
 ghost use Rattle.shape.specs.Parts.{rowOwned};
-ghost use Rattle.problem.specs.Problem.{Problem, maxAgents, maxDomain, domain, owns, wordAt, countInRange, domainInRange, wordOwned, bansOwned, sized, inRange};
+ghost use Rattle.problem.specs.Problem.{Problem, maxAgents, domain, owns, wordAt, domainInRange, wordOwned, bansOwned, sized, inRange};
 
 // Agent k owns value v.
 pub fn owned(domains: [u8; 12], k: u8, v: u8) -> bool

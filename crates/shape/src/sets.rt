@@ -1,9 +1,8 @@
 // Sets of agents, as masks: bit k - 1 is agent k, and there is room for 16.
 ghost use mathlib.Core.Path.{_≡_};
-ghost use Prim.Native.Nat.{ℕ, _+_, _*_, _-_, _≤_, _<_, _^_};
+ghost use Prim.Native.Nat.{_≤_, _<_};
 ghost use lib.Dec.{ltb, leb};
-ghost use Rattle.protocol.specs.Network.{Network as Network′};
-ghost use Rattle.protocol.specs.Shape.{eachIn, informedListen};
+ghost use Rattle.protocol.specs.Shape.{eachIn};
 ghost use Rattle.agent.specs.Packed.{members};
 ghost use Rattle.shape.specs.Parts.{setOf};
 

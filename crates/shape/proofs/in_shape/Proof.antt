@@ -1,18 +1,20 @@
 -- The problem, the agents, then the channels from the last down. The invariant: what is asked of all channels is asked of what is left of them.
-use Rattle.base.proofs.Arrays.{getD-below}
 use borrow.Author.Needs.{needs}
 use Prim.Native.Nat.{ℕ, _+_, _*_, _-_, _≤_}
-use mathlib.Core.Path.{_≡_, refl, sym, ap, _∙_}
-use mathlib.Core.Bool.{true, false, _&&_}
+use mathlib.Core.Path.{_≡_, refl, sym, ap, subst, _∙_}
+use mathlib.Core.Bool.{Bool, true, false, _&&_}
 use native.Mathlib.Omega.{arith}
 use lib.ListN.{length, getD, length-map}
 use borrow.Author.Tests.{not-true, not-false}
 use Rattle.base.specs.Finite.{allTo}
+use Rattle.base.proofs.Arrays.{getD-below}
 use Rattle.problem.specs.Problem.{maxAgents, inRange}
 use Rattle.protocol.specs.Shape.{agentInShape, inShape}
 use Rattle.agent.specs.declared.Message.the-variants.{Info}
 use Rattle.shape.specs.Abstract.{problemOf, placeOf, noPlace, networkOf}
 use Rattle.shape.specs.Parts.{Outlines}
+use Rattle.shape.specs.declared.Outline.{Outline}
+use Rattle.shape.specs.declared.Network.{Network}
 use Rattle.shape.proofs.Rings.{left, full, next, message, over}
 use Rattle.shape.proofs.Whole.{outlines, lengths, whole}
 use Rattle.shape.proofs.in_shape.Statement.{statement}
@@ -30,9 +32,10 @@ in-range-requires c κs = search needs
 returns : tie.Need-returns Inv-loop μ-loop
 unfolding problemOf
 returns c =
-    let s = lengths (c .before .before .before .before .before .args .t1) (search needs) (search needs) in
-    let p : inRange (problemOf (c .before .before .before .before .before .args .t1)) ≡ false = sym (c .before .in-range .ensures (problemOf (c .before .before .before .before .before .args .t1)) s refl refl refl) ∙ not-true _ (c .if1 .taken) in
-    rw (whole (c .before .before .before .before .before .args .t1), p)
+    let args = c .before .before .before .before .before .args in
+    let s = lengths (args .t1) (search needs) (search needs) in
+    let p : inRange (problemOf (args .t1)) ≡ false = sym (c .before .in-range .ensures (problemOf (args .t1)) s refl refl refl) ∙ not-true _ (c .if1 .taken) in
+    rw (whole (args .t1), p)
 
 outline-requires : tie.Need-outline-requires Inv-loop μ-loop
 outline-requires c κs = search needs
@@ -41,30 +44,33 @@ agents-in-shape-requires : tie.Need-agents-in-shape-requires Inv-loop μ-loop
 agents-in-shape-requires c κs = search needs
 
 -- what is known from then on: the problem is in range, and the outline is the network's
-ranged : (c : tie.After-agents-in-shape Inv-loop μ-loop) → inRange (problemOf (c .before .before .before .before .before .before .before .before .before .before .args .t1)) ≡ true
+abbrev given : tie.After-agents-in-shape Inv-loop μ-loop → Network
+given c = c .before .before .before .before .before .before .before .before .before .before .args .t1
+
+ranged : (c : tie.After-agents-in-shape Inv-loop μ-loop) → inRange (problemOf (given c)) ≡ true
 unfolding problemOf
 ranged c =
-    sym (c .before .before .before .before .before .before .in-range .ensures (problemOf (c .before .before .before .before .before .before .before .before .before .before .args .t1)) (lengths (c .before .before .before .before .before .before .before .before .before .before .args .t1) (search needs) (search needs)) refl refl refl)
+    sym (c .before .before .before .before .before .before .in-range .ensures (problemOf (given c)) (lengths (given c) (search needs) (search needs)) refl refl refl)
     ∙ not-false _ (c .before .before .before .before .before .if1 .left)
 
-outlined : (c : tie.After-agents-in-shape Inv-loop μ-loop) → Outlines (c .before .before .before .outline .result) (networkOf (c .before .before .before .before .before .before .before .before .before .before .args .t1))
-outlined c = rw (c .before .before .before .outline .ensures) (outlines (c .before .before .before .before .before .before .before .before .before .before .args .t1))
+outlined : (c : tie.After-agents-in-shape Inv-loop μ-loop) → Outlines (c .before .before .before .outline .result) (networkOf (given c))
+outlined c = subst (λ (o : Outline). Outlines o (networkOf (given c))) (sym (c .before .before .before .outline .ensures)) (outlines (given c))
 
-tested : (c : tie.After-agents-in-shape Inv-loop μ-loop) → c .agents-in-shape .result ≡ allTo maxAgents (agentInShape (networkOf (c .before .before .before .before .before .before .before .before .before .before .args .t1)))
+tested : (c : tie.After-agents-in-shape Inv-loop μ-loop) → c .agents-in-shape .result ≡ allTo maxAgents (agentInShape (networkOf (given c)))
 unfolding problemOf networkOf
-tested c = c .agents-in-shape .ensures (networkOf (c .before .before .before .before .before .before .before .before .before .before .args .t1)) (outlined c) refl refl
+tested c = c .agents-in-shape .ensures (networkOf (given c)) (outlined c) refl refl
 
 returns-2 : tie.Need-returns-2 Inv-loop μ-loop
 returns-2 c =
     let p = ranged (c .before) in
     let a = sym (tested (c .before)) ∙ not-true _ (c .if2 .taken) in
-    rw (whole (c .before .before .before .before .before .before .before .before .before .before .before .args .t1), p, a)
+    rw (whole (given (c .before)), p, a)
 
-decided : (c : tie.Else2 Inv-loop μ-loop) → inShape (networkOf (c .before .before .before .before .before .before .before .before .before .before .before .args .t1)) ≡ left (c .before .before .before .before .before .before .before .before .before .before .before .args .t1) 132 0
+decided : (c : tie.Else2 Inv-loop μ-loop) → inShape (networkOf (given (c .before))) ≡ left (given (c .before)) 132 0
 decided c =
     let p = ranged (c .before) in
     let a = sym (tested (c .before)) ∙ not-false _ (c .if2 .left) in
-    rw (whole (c .before .before .before .before .before .before .before .before .before .before .before .args .t1), p, a)
+    rw (whole (given (c .before)), p, a)
 
 loop-holds : tie.Need-loop-holds Inv-loop μ-loop
 loop-holds c = (omega arith, omega arith, refl)
@@ -76,7 +82,9 @@ element-copy-out-waiting : tie.Need-element-copy-out-waiting Inv-loop μ-loop
 element-copy-out-waiting c = search needs
 
 returns-3 : tie.Need-returns-3 Inv-loop μ-loop
-returns-3 c = sym (decided (c .before .before .before .before) ∙ c .before .before .before .loop .inv .2 ∙ full (c .before .before .before .before .before .before .before .before .before .before .before .before .before .before .before .args .t1) (c .before .before .before .loop .l) (c .before .before .before .loop .t) (c .before .before .loop-test .taken) (c .if3 .taken))
+returns-3 c =
+    let loop = c .before .before .before .loop in
+    sym (decided (c .before .before .before .before) ∙ loop .inv .2 ∙ full (given (c .before .before .before .before .before)) (loop .l) (loop .t) (c .before .before .loop-test .taken) (omega (arith, c .if3 .taken)))
 
 element-copy-out-place-at : tie.Need-element-copy-out-place-at Inv-loop μ-loop
 element-copy-out-place-at c = search needs
@@ -103,14 +111,19 @@ placed : (c : tie.Start Inv-loop μ-loop) → length (c .args .t1 .places) ≡ 1
 placed c = simp length-map at (c .good .0 .1 .1 .1 .1 .1 .1 .1 .1 .1 .0 .1 .0 .1)
 
 -- one message is looked at
-looked : (c : tie.After-message-fits Inv-loop μ-loop) → left (c .before .before .before .before .before .before .before .before .before .before .before .before .before .before .before .before .before .before .before .before .before .before .args .t1) (c .before .before .before .before .before .before .before .before .before .before .loop .l) (c .before .before .before .before .before .before .before .before .before .before .loop .t) ≡ c .message-fits .result && left (c .before .before .before .before .before .before .before .before .before .before .before .before .before .before .before .before .before .before .before .before .before .before .args .t1) (c .before .before .before .before .before .before .before .before .before .before .loop .l) (c .before .before .before .before .before .before .before .before .before .before .loop .t + 1)
+abbrev todo : tie.After-message-fits Inv-loop μ-loop → ℕ → Bool
+todo c t = left (given (c .before .before .before .before .before .before .before .before .before .before .before .before)) (c .before .before .before .before .before .before .before .before .before .before .loop .l) t
+
+looked : (c : tie.After-message-fits Inv-loop μ-loop) → todo c (c .before .before .before .before .before .before .before .before .before .before .loop .t) ≡ c .message-fits .result && todo c (c .before .before .before .before .before .before .before .before .before .before .loop .t + 1)
 unfolding placeOf
 looked c =
+    let loop = c .before .before .before .before .before .before .before .before .before .before .loop in
+    let r = given (c .before .before .before .before .before .before .before .before .before .before .before .before) in
     let e =
-    ap (λ (k : ℕ). getD (c .before .before .before .before .before .before .before .before .before .before .before .before .before .before .before .before .before .before .before .before .before .before .args .t1 .places) k noPlace) (sym (c .before .before .before .before .place-at .ensures .0))
-    ∙ getD-below (c .before .before .before .before .before .before .before .before .before .before .before .before .before .before .before .before .before .before .before .before .before .before .args .t1 .places) (c .before .before .before .before .place-at .result) noPlace (record { message = Info 0 }) (omega (arith, placed (c .before .before .before .before .before .before .before .before .before .before .before .before .before .before .before .before .before .before .before .before .before .before), c .before .before .before .before .place-at .ensures .1)) in
-    let f = c .message-fits .ensures (networkOf (c .before .before .before .before .before .before .before .before .before .before .before .before .before .before .before .before .before .before .before .before .before .before .args .t1)) (outlined (c .before .before .before .before .before .before .before .before .before .before .before .before)) in
-    message (c .before .before .before .before .before .before .before .before .before .before .before .before .before .before .before .before .before .before .before .before .before .before .args .t1) (c .before .before .before .before .before .before .before .before .before .before .loop .l) (c .before .before .before .before .before .before .before .before .before .before .loop .t) _ (c .before .before .before .before .before .before .before .before .before .loop-test .taken) (c .before .before .before .before .before .before .before .if3 .left) (c .before .before .before .before .before .before .if4 .taken) e
+    ap (λ (k : ℕ). getD (r .places) k noPlace) (sym (c .before .before .before .before .place-at .ensures .0))
+    ∙ getD-below (r .places) (c .before .before .before .before .place-at .result) noPlace (record { message = Info 0 }) (omega (arith, placed (c .before .before .before .before .before .before .before .before .before .before .before .before .before .before .before .before .before .before .before .before .before .before), c .before .before .before .before .place-at .ensures .1)) in
+    let f = c .message-fits .ensures (networkOf r) (outlined (c .before .before .before .before .before .before .before .before .before .before .before .before)) in
+    message r (loop .l) (loop .t) _ (c .before .before .before .before .before .before .before .before .before .loop-test .taken) (omega (arith, c .before .before .before .before .before .before .before .if3 .left)) (c .before .before .before .before .before .before .if4 .taken) e
     ∙ rw (← c .before .before .sender .ensures .0, ← c .before .receiver .ensures .0, ← f)
 
 returns-4 : tie.Need-returns-4 Inv-loop μ-loop
@@ -133,10 +146,14 @@ loop-less-2 : tie.Need-loop-less-2 Inv-loop μ-loop
 loop-less-2 c = omega arith
 
 loop-again-2 : tie.Need-loop-again-2 Inv-loop μ-loop
-loop-again-2 c = (omega arith, omega arith, c .before .before .before .before .loop .inv .2 ∙ next (c .before .before .before .before .before .before .before .before .before .before .before .before .before .before .before .before .args .t1) (c .before .before .before .before .loop .l) (c .before .before .before .before .loop .t) (c .before .before .before .loop-test .taken) (c .before .if3 .left) (c .if4 .left))
+loop-again-2 c =
+    let loop = c .before .before .before .before .loop in
+    (omega arith, omega arith, loop .inv .2 ∙ next (given (c .before .before .before .before .before .before)) (loop .l) (loop .t) (c .before .before .before .loop-test .taken) (omega (arith, c .before .if3 .left)) (c .if4 .left))
 
 returns-5 : tie.Need-returns-5 Inv-loop μ-loop
-returns-5 c = sym (decided (c .before .before) ∙ c .before .loop .inv .2 ∙ over (c .before .before .before .before .before .before .before .before .before .before .before .before .before .args .t1) (c .before .loop .l) (c .before .loop .t) (omega arith))
+returns-5 c =
+    let loop = c .before .loop in
+    sym (decided (c .before .before) ∙ loop .inv .2 ∙ over (given (c .before .before .before)) (loop .l) (loop .t) (omega arith))
 
 pub in-shape-spec : {M : Type 1} → statement M
 in-shape-spec =

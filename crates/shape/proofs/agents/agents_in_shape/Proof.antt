@@ -1,6 +1,4 @@
 -- From agent 12 down. The invariant: what is asked of all agents is asked of those left.
-use Rattle.base.proofs.Peeling.{allTo-over}
-use Rattle.base.proofs.Loops.{allTo-goes, allTo-fails}
 use borrow.Author.Needs.{needs}
 use Prim.Native.Nat.{_≤_}
 use mathlib.Core.Path.{_≡_, refl, sym, _∙_}
@@ -8,6 +6,8 @@ use mathlib.Core.List.{map}
 use native.Mathlib.Omega.{arith}
 use borrow.Author.Tests.{not-true, not-false}
 use Rattle.base.specs.Finite.{allTo}
+use Rattle.base.proofs.Loops.{allTo-goes, allTo-fails}
+use Rattle.base.proofs.Peeling.{allTo-over}
 use Rattle.problem.specs.Problem.{maxAgents}
 use Rattle.protocol.specs.Network.{Network as Network′}
 use Rattle.protocol.specs.Shape.{agentInShape}
@@ -48,10 +48,11 @@ agent-in-shape-requires c κs = search needs
 
 returns : tie.Need-returns Inv-loop μ-loop
 returns c =
+    let loop = c .before .before .before .before .loop in
     λ w o b e.
-    sym (c .before .before .before .before .loop .inv .1 w o b e
-    ∙ allTo-fails (c .before .before .before .before .loop .i) (agentInShape w) (c .before .before .before .loop-test .taken)
-    (sym (c .before .agent-in-shape .ensures w o b (agent-at w (c .before .before .before .before .before .args .t3) (c .before .before .before .before .loop .i) _ (search needs) (c .before .before .before .loop-test .taken) (c .before .before .before .before .loop .inv .0) e)) ∙ not-true _ (c .if1 .taken)))
+    sym (loop .inv .1 w o b e
+    ∙ allTo-fails (loop .i) (agentInShape w) (c .before .before .before .loop-test .taken)
+    (sym (c .before .agent-in-shape .ensures w o b (agent-at w (c .before .before .before .before .before .args .t3) (loop .i) _ (search needs) (c .before .before .before .loop-test .taken) (loop .inv .0) e)) ∙ not-true _ (c .if1 .taken)))
 
 sub-i : tie.Need-sub-i Inv-loop μ-loop
 sub-i c = search needs
@@ -60,16 +61,19 @@ loop-less : tie.Need-loop-less Inv-loop μ-loop
 loop-less c = search needs
 
 loop-again : tie.Need-loop-again Inv-loop μ-loop
-loop-again c = (
-  omega arith,
-  λ w o b e.
-      c .before .before .before .before .loop .inv .1 w o b e
-      ∙ allTo-goes (c .before .before .before .before .loop .i) (agentInShape w) (c .before .before .before .loop-test .taken)
-      (sym (c .before .agent-in-shape .ensures w o b (agent-at w (c .before .before .before .before .before .args .t3) (c .before .before .before .before .loop .i) _ (search needs) (c .before .before .before .loop-test .taken) (c .before .before .before .before .loop .inv .0) e)) ∙ not-false _ (c .if1 .left)),
-)
+loop-again c =
+    let loop = c .before .before .before .before .loop in (
+      omega arith,
+      λ w o b e.
+          loop .inv .1 w o b e
+          ∙ allTo-goes (loop .i) (agentInShape w) (c .before .before .before .loop-test .taken)
+          (sym (c .before .agent-in-shape .ensures w o b (agent-at w (c .before .before .before .before .before .args .t3) (loop .i) _ (search needs) (c .before .before .before .loop-test .taken) (loop .inv .0) e)) ∙ not-false _ (c .if1 .left)),
+    )
 
 returns-2 : tie.Need-returns-2 Inv-loop μ-loop
-returns-2 c = λ w o b e. sym (c .before .loop .inv .1 w o b e ∙ allTo-over (c .before .loop .i) (agentInShape w) (omega arith))
+returns-2 c =
+    let loop = c .before .loop in
+    λ w o b e. sym (loop .inv .1 w o b e ∙ allTo-over (loop .i) (agentInShape w) (omega arith))
 
 pub agents-in-shape-spec : {M : Type 1} → statement M
 agents-in-shape-spec =

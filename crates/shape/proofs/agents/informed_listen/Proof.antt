@@ -1,5 +1,4 @@
 -- Bit by bit, the lowest first. The invariant: what is asked of the set is asked of what is left of it.
-use Rattle.base.proofs.Peeling.{one-off}
 use borrow.Author.Needs.{needs}
 use Prim.Native.Nat.{_+_, _-_, _%_, _^_, _≤_, _<_}
 use mathlib.Core.Path.{_≡_, sym, _∙_}
@@ -8,6 +7,7 @@ use mathlib.Core.Bool.{true, false, not, _||_}
 use native.Mathlib.Omega.{arith}
 use lib.Dec.{eqb}
 use borrow.Author.Tests.{not-true, not-false}
+use Rattle.base.proofs.Peeling.{one-off}
 use Rattle.protocol.specs.Shape.{eachIn}
 use Rattle.agent.specs.Packed.{members}
 use Rattle.shape.specs.Parts.{setOf}
@@ -26,7 +26,9 @@ abbrev μ-loop : tie.MeasureT-loop
 μ-loop listens i informs rest₀ k₀ rest k = rest
 
 loop-holds : tie.Need-loop-holds Inv-loop μ-loop
-loop-holds c = (omega arith, search needs, in-start (λ j. setOf (c .args .listens) j (c .args .i)) (c .args .informs))
+loop-holds c =
+    let args = c .args in
+    (omega arith, search needs, in-start (λ j. setOf (args .listens) j (args .i)) (args .informs))
 
 add-k : tie.Need-add-k Inv-loop μ-loop
 add-k c = search needs
@@ -36,30 +38,36 @@ has-at-requires c κs = search needs
 
 returns : tie.Need-returns Inv-loop μ-loop
 returns c =
-    let o = one-off 2 16 (c .before .before .before .before .loop .k) (c .before .before .before .before .loop .rest) (omega arith) (c .before .before .before .before .loop .inv .1) (c .before .before .before .loop-test .taken) in
-    let t : setOf (c .before .before .before .before .before .args .listens) (c .before .before .before .before .loop .k + 1) (c .before .before .before .before .before .args .i) ≡ false = sym (c .before .has-at .ensures) ∙ not-true _ (c .if2 .taken) in
+    let args = c .before .before .before .before .before .args in
+    let loop = c .before .before .before .before .loop in
+    let o = one-off 2 16 (loop .k) (loop .rest) (omega arith) (loop .inv .1) (c .before .before .before .loop-test .taken) in
+    let t : setOf (args .listens) (loop .k + 1) (args .i) ≡ false = sym (c .before .has-at .ensures) ∙ not-true _ (c .if2 .taken) in
     λ w e f.
-    sym (informed-is w (c .before .before .before .before .before .args .i) (c .before .before .before .before .before .args .informs) (c .before .before .before .before .before .args .listens) e f
-    ∙ c .before .before .before .before .loop .inv .2
-    ∙ in-stop (λ j. setOf (c .before .before .before .before .before .args .listens) j (c .before .before .before .before .before .args .i)) (c .before .before .before .before .loop .k) (c .before .before .before .before .loop .rest) (o .fits) (c .before .before .if1 .taken) t)
+    sym (informed-is w (args .i) (args .informs) (args .listens) e f
+    ∙ loop .inv .2
+    ∙ in-stop (λ j. setOf (args .listens) j (args .i)) (loop .k) (loop .rest) (o .fits) (c .before .before .if1 .taken) t)
 
 loop-less : tie.Need-loop-less Inv-loop μ-loop
 loop-less c = omega arith
 
 loop-again : tie.Need-loop-again Inv-loop μ-loop
 loop-again c =
-    let o = one-off 2 16 (c .before .before .loop .k) (c .before .before .loop .rest) (omega arith) (c .before .before .loop .inv .1) (c .before .loop-test .taken) in
-    let t : not (eqb (c .before .before .loop .rest % 2) 1) || setOf (c .before .before .before .args .listens) (c .before .before .loop .k + 1) (c .before .before .before .args .i) ≡ true =
+    let args = c .before .before .before .args in
+    let loop = c .before .before .loop in
+    let o = one-off 2 16 (loop .k) (loop .rest) (omega arith) (loop .inv .1) (c .before .loop-test .taken) in
+    let t : not (eqb (loop .rest % 2) 1) || setOf (args .listens) (loop .k + 1) (args .i) ≡ true =
     ⊎-elim
-    (λ a. member-passed (c .before .before .loop .rest) (sym (a .1 .ensures) ∙ not-false _ (a .2 .left)))
-    (λ a. no-member-here (c .before .before .loop .rest) (setOf (c .before .before .before .args .listens) (c .before .before .loop .k + 1) (c .before .before .before .args .i)) (a .left))
+    (λ a. member-passed (loop .rest) (sym (a .1 .ensures) ∙ not-false _ (a .2 .left)))
+    (λ a. no-member-here (loop .rest) (setOf (args .listens) (loop .k + 1) (args .i)) (a .left))
     (c .if1 .came) in
-    (omega (arith, o .fewer), o .rest, c .before .before .loop .inv .2 ∙ in-go (λ j. setOf (c .before .before .before .args .listens) j (c .before .before .before .args .i)) (c .before .before .loop .k) (c .before .before .loop .rest) (o .fits) t)
+    (omega (arith, o .fewer), o .rest, loop .inv .2 ∙ in-go (λ j. setOf (args .listens) j (args .i)) (loop .k) (loop .rest) (o .fits) t)
 
 returns-2 : tie.Need-returns-2 Inv-loop μ-loop
 returns-2 c =
+    let args = c .before .before .args in
+    let loop = c .before .loop in
     λ w e f.
-    sym (informed-is w (c .before .before .args .i) (c .before .before .args .informs) (c .before .before .args .listens) e f ∙ c .before .loop .inv .2 ∙ in-over _ (c .before .loop .rest) (c .loop-test .left))
+    sym (informed-is w (args .i) (args .informs) (args .listens) e f ∙ loop .inv .2 ∙ in-over _ (loop .rest) (c .loop-test .left))
 
 pub informed-listen-spec : {M : Type 1} → statement M
 informed-listen-spec =

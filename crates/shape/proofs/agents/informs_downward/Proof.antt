@@ -1,5 +1,10 @@
 -- All are above i, and at most n.
 use borrow.Author.Needs.{needs}
+use mathlib.Core.Path.{_≡_, sym, _∙_}
+use mathlib.Core.Bool.{true, false}
+use lib.Dec.{ltb}
+use Rattle.protocol.specs.Shape.{eachIn}
+use Rattle.agent.specs.Packed.{members}
 use Rattle.shape.proofs.Clauses.{downward}
 use Rattle.shape.proofs.agents.informs_downward.Statement.{statement}
 use Rattle.shape.proofs.agents.informs_downward.Tie as tie
@@ -12,11 +17,15 @@ all-to-requires c κs = search needs
 
 returns : tie.Need-returns
 returns c =
-    λ w e f.
-    rw (downward w (c .before .before .before .args .i) (c .before .before .before .args .count) (c .before .before .before .args .informs) e f, ← c .before .before .all-above .ensures, ← c .all-to .ensures, c .before .if1 .taken)
+    let args = c .before .before .before .args in
+    let t : eachIn (members (args .informs)) (λ k. ltb (args .i) k) ≡ true = sym (c .before .before .all-above .ensures) ∙ c .before .if1 .taken in
+    λ w e f. rw (downward w (args .i) (args .count) (args .informs) e f, t) (c .all-to .ensures)
 
 returns-2 : tie.Need-returns-2
-returns-2 c = λ w e f. rw (downward w (c .before .before .args .i) (c .before .before .args .count) (c .before .before .args .informs) e f, ← c .before .all-above .ensures, c .if1 .left)
+returns-2 c =
+    let args = c .before .before .args in
+    let t : eachIn (members (args .informs)) (λ k. ltb (args .i) k) ≡ false = sym (c .before .all-above .ensures) ∙ c .if1 .left in
+    λ w e f. rw (downward w (args .i) (args .count) (args .informs) e f, t) (c .if1 .left)
 
 pub informs-downward-spec : {M : Type 1} → statement M
 informs-downward-spec = tie.close (tie.spec all-above-requires all-to-requires returns returns-2)

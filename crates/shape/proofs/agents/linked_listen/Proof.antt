@@ -1,6 +1,4 @@
 -- From agent j - 1 down. The invariant: what is asked of all above j is asked of those left.
-use Rattle.base.proofs.Loops.{allTo-goes, allTo-fails}
-use Rattle.base.proofs.Peeling.{all-true, allTo-over}
 use borrow.Author.Needs.{needs}
 use Prim.Native.Nat.{ℕ, _<_}
 use mathlib.Core.Path.{_≡_, sym, ap, _∙_}
@@ -12,6 +10,8 @@ use lib.Dec.{ltb}
 use lib.ListN.{getD}
 use borrow.Author.Tests.{not-true, not-false, lt-ltb}
 use Rattle.base.specs.Finite.{allTo}
+use Rattle.base.proofs.Loops.{allTo-goes, allTo-fails}
+use Rattle.base.proofs.Peeling.{all-true, allTo-over}
 use Rattle.problem.specs.Problem.{linked}
 use Rattle.protocol.specs.Network.{Network as Network′}
 use Rattle.protocol.specs.Shape.{linkedListen}
@@ -36,7 +36,9 @@ sub-i c = search needs
 
 loop-holds : tie.Need-loop-holds Inv-loop μ-loop
 unfolding linkedListen
-loop-holds c = (omega arith, λ w h. ap (λ (m : ℕ). allTo m (heard w (c .args .j))) (sym (sub-one (c .args .j))))
+loop-holds c =
+    let args = c .args in
+    (omega arith, λ w h. ap (λ (m : ℕ). allTo m (heard w (args .j))) (sym (sub-one (args .j))))
 
 word-at-requires : tie.Need-word-at-requires Inv-loop μ-loop
 word-at-requires c κs = search needs
@@ -52,22 +54,26 @@ has-requires c κs = search needs
 
 returns : tie.Need-returns Inv-loop μ-loop
 returns c =
+    let args = c .before .before .before .before .before .before .before .args in
+    let loop = c .before .before .before .before .before .before .loop in
     λ w e f g.
-    let h : Heard w (c .before .before .before .before .before .before .before .args .bans .now) (c .before .before .before .before .before .before .before .args .informs) (c .before .before .before .before .before .before .before .args .j) (c .before .before .before .before .before .before .before .args .listens) = record { banned = e; informing = f; listening = g } in
-    let t : members (c .before .before .before .before .before .before .before .args .listens) (c .before .before .before .before .before .before .loop .i) ≡ false = sym (c .before .has .ensures) ∙ not-true _ (c .if2 .taken) in
-    sym (c .before .before .before .before .before .before .loop .inv .1 w h
-    ∙ allTo-fails (c .before .before .before .before .before .before .loop .i) (heard w (c .before .before .before .before .before .before .before .args .j)) (c .before .before .before .before .before .loop-test .taken) (heard-is w (c .before .before .before .before .before .before .before .args .bans .now) (c .before .before .before .before .before .before .before .args .informs) (c .before .before .before .before .before .before .loop .i) (c .before .before .before .before .before .before .before .args .j) (c .before .before .before .before .before .before .before .args .listens) (c .before .before .before .before .word-at .result) h (c .before .before .before .before .before .loop-test .taken) (c .before .before .before .before .before .before .loop .inv .0) (c .before .before .before .before .before .before .before .pre .1) (c .before .before .before .before .word-at .ensures .0) ∙ rw (lt-ltb 0 (getD (c .before .before .before .before .before .before .before .args .bans .now) (c .before .before .before .before .word-at .result) 0) (omega (arith, c .before .before .if1 .taken)), t)))
+    let h : Heard w (args .bans .now) (args .informs) (args .j) (args .listens) = record { banned = e; informing = f; listening = g } in
+    let t : members (args .listens) (loop .i) ≡ false = sym (c .before .has .ensures) ∙ not-true _ (c .if2 .taken) in
+    sym (loop .inv .1 w h
+    ∙ allTo-fails (loop .i) (heard w (args .j)) (c .before .before .before .before .before .loop-test .taken) (heard-is w (args .bans .now) (args .informs) (loop .i) (args .j) (args .listens) (c .before .before .before .before .word-at .result) h (c .before .before .before .before .before .loop-test .taken) (loop .inv .0) (c .before .before .before .before .before .before .before .pre .1) (c .before .before .before .before .word-at .ensures .0) ∙ rw (lt-ltb 0 (getD (args .bans .now) (c .before .before .before .before .word-at .result) 0) (omega (arith, c .before .before .if1 .taken)), t)))
 
 has-at-requires : tie.Need-has-at-requires Inv-loop μ-loop
 has-at-requires c κs = search needs
 
 returns-2 : tie.Need-returns-2 Inv-loop μ-loop
 returns-2 c =
+    let args = c .before .before .before .before .before .before .before .before .before .args in
+    let loop = c .before .before .before .before .before .before .before .before .loop in
     λ w e f g.
-    let h : Heard w (c .before .before .before .before .before .before .before .before .before .args .bans .now) (c .before .before .before .before .before .before .before .before .before .args .informs) (c .before .before .before .before .before .before .before .before .before .args .j) (c .before .before .before .before .before .before .before .before .before .args .listens) = record { banned = e; informing = f; listening = g } in
-    let t : setOf (c .before .before .before .before .before .before .before .before .before .args .informs) (c .before .before .before .before .before .before .before .before .loop .i) (c .before .before .before .before .before .before .before .before .before .args .j) ≡ false = sym (c .before .has-at .ensures) ∙ not-true _ (c .if3 .taken) in
-    sym (c .before .before .before .before .before .before .before .before .loop .inv .1 w h
-    ∙ allTo-fails (c .before .before .before .before .before .before .before .before .loop .i) (heard w (c .before .before .before .before .before .before .before .before .before .args .j)) (c .before .before .before .before .before .before .before .loop-test .taken) (heard-is w (c .before .before .before .before .before .before .before .before .before .args .bans .now) (c .before .before .before .before .before .before .before .before .before .args .informs) (c .before .before .before .before .before .before .before .before .loop .i) (c .before .before .before .before .before .before .before .before .before .args .j) (c .before .before .before .before .before .before .before .before .before .args .listens) (c .before .before .before .before .before .before .word-at .result) h (c .before .before .before .before .before .before .before .loop-test .taken) (c .before .before .before .before .before .before .before .before .loop .inv .0) (c .before .before .before .before .before .before .before .before .before .pre .1) (c .before .before .before .before .before .before .word-at .ensures .0) ∙ rw (lt-ltb 0 (getD (c .before .before .before .before .before .before .before .before .before .args .bans .now) (c .before .before .before .before .before .before .word-at .result) 0) (omega (arith, c .before .before .before .before .if1 .taken)), t, and-false)))
+    let h : Heard w (args .bans .now) (args .informs) (args .j) (args .listens) = record { banned = e; informing = f; listening = g } in
+    let t : setOf (args .informs) (loop .i) (args .j) ≡ false = sym (c .before .has-at .ensures) ∙ not-true _ (c .if3 .taken) in
+    sym (loop .inv .1 w h
+    ∙ allTo-fails (loop .i) (heard w (args .j)) (c .before .before .before .before .before .before .before .loop-test .taken) (heard-is w (args .bans .now) (args .informs) (loop .i) (args .j) (args .listens) (c .before .before .before .before .before .before .word-at .result) h (c .before .before .before .before .before .before .before .loop-test .taken) (loop .inv .0) (c .before .before .before .before .before .before .before .before .before .pre .1) (c .before .before .before .before .before .before .word-at .ensures .0) ∙ rw (lt-ltb 0 (getD (args .bans .now) (c .before .before .before .before .before .before .word-at .result) 0) (omega (arith, c .before .before .before .before .if1 .taken)), t, and-false)))
 
 sub-i-2 : tie.Need-sub-i-2 Inv-loop μ-loop
 sub-i-2 c = search needs
@@ -77,17 +83,20 @@ loop-less c = search needs
 
 loop-again : tie.Need-loop-again Inv-loop μ-loop
 loop-again c =
-    let t : not (ltb 0 (getD (c .before .before .before .before .before .args .bans .now) (c .before .before .word-at .result) 0)) || (members (c .before .before .before .before .before .args .listens) (c .before .before .before .before .loop .i) && setOf (c .before .before .before .before .before .args .informs) (c .before .before .before .before .loop .i) (c .before .before .before .before .before .args .j)) ≡ true =
+    let args = c .before .before .before .before .before .args in
+    let loop = c .before .before .before .before .loop in
+    let t : not (ltb 0 (getD (args .bans .now) (c .before .before .word-at .result) 0)) || (members (args .listens) (loop .i) && setOf (args .informs) (loop .i) (args .j)) ≡ true =
     ⊎-elim
     (λ a. rw (all-true (sym (a .1 .ensures) ∙ not-false _ (a .2 .left)) (sym (a .3 .ensures) ∙ not-false _ (a .4 .left)), or-true))
     (λ a. rw (a .left))
     (c .if1 .came) in
-    (omega arith, λ w h. c .before .before .before .before .loop .inv .1 w h ∙ allTo-goes (c .before .before .before .before .loop .i) (heard w (c .before .before .before .before .before .args .j)) (c .before .before .before .loop-test .taken) (heard-is w (c .before .before .before .before .before .args .bans .now) (c .before .before .before .before .before .args .informs) (c .before .before .before .before .loop .i) (c .before .before .before .before .before .args .j) (c .before .before .before .before .before .args .listens) (c .before .before .word-at .result) h (c .before .before .before .loop-test .taken) (c .before .before .before .before .loop .inv .0) (c .before .before .before .before .before .pre .1) (c .before .before .word-at .ensures .0) ∙ t))
+    (omega arith, λ w h. loop .inv .1 w h ∙ allTo-goes (loop .i) (heard w (args .j)) (c .before .before .before .loop-test .taken) (heard-is w (args .bans .now) (args .informs) (loop .i) (args .j) (args .listens) (c .before .before .word-at .result) h (c .before .before .before .loop-test .taken) (loop .inv .0) (c .before .before .before .before .before .pre .1) (c .before .before .word-at .ensures .0) ∙ t))
 
 returns-3 : tie.Need-returns-3 Inv-loop μ-loop
 returns-3 c =
+    let loop = c .before .loop in
     λ w e f g.
-    sym (c .before .loop .inv .1 w (record { banned = e; informing = f; listening = g }) ∙ allTo-over (c .before .loop .i) (heard w (c .before .before .args .j)) (omega arith))
+    sym (loop .inv .1 w (record { banned = e; informing = f; listening = g }) ∙ allTo-over (loop .i) (heard w (c .before .before .args .j)) (omega arith))
 
 pub linked-listen-spec : {M : Type 1} → statement M
 linked-listen-spec =

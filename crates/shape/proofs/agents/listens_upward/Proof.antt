@@ -12,7 +12,9 @@ all-to-requires : tie.Need-all-to-requires
 all-to-requires c κs = search needs
 
 returns : tie.Need-returns
-returns c = λ w e. c .all-to .ensures ∙ sym (upward w (c .before .args .i) (c .before .args .listens) (c .before .pre) e)
+returns c =
+    let args = c .before .args in
+    λ w e. c .all-to .ensures ∙ sym (upward w (args .i) (args .listens) (c .before .pre) e)
 
 pub listens-upward-spec : {M : Type 1} → statement M
 listens-upward-spec = tie.close (tie.spec sub-all-to all-to-requires returns)

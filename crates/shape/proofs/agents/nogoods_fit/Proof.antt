@@ -1,6 +1,4 @@
 -- From value 8 down. The invariant: what is asked of all values is asked of those left.
-use Rattle.base.proofs.Peeling.{allTo-over}
-use Rattle.base.proofs.Loops.{allTo-goes, allTo-fails}
 use borrow.Author.Needs.{needs}
 use Prim.Native.Nat.{ℕ, _-_, _≤_}
 use mathlib.Core.Path.{_≡_, refl, sym, _∙_}
@@ -10,6 +8,8 @@ use lib.Dec.{leb}
 use lib.ListN.{getD}
 use borrow.Author.Tests.{not-true, not-false}
 use Rattle.base.specs.Finite.{allTo}
+use Rattle.base.proofs.Loops.{allTo-goes, allTo-fails}
+use Rattle.base.proofs.Peeling.{allTo-over}
 use Rattle.protocol.specs.Shape.{nogoodFits}
 use Rattle.agent.specs.Abstract.{assigned, nogoodOf, noNogood}
 use Rattle.agent.specs.declared.Agent.{Agent}
@@ -47,10 +47,12 @@ nogood-fits-requires c κs = search needs
 returns : tie.Need-returns Inv-loop μ-loop
 unfolding noNogood
 returns c =
+    let args = c .before .before .before .before .before .before .args in
+    let loop = c .before .before .before .before .loop in
     λ w i e f.
-    sym (nogoods-is w i (c .before .before .before .before .before .before .args .d) (c .before .before .before .before .before .before .args .t2) e f
-    ∙ c .before .before .before .before .loop .inv .1
-    ∙ allTo-fails (c .before .before .before .before .loop .v) (fitsAt (c .before .before .before .before .before .before .args .d) (c .before .before .before .before .before .before .args .t2)) (c .before .before .before .loop-test .taken) (sym (c .before .nogood-fits .ensures) ∙ not-true _ (c .if1 .taken)))
+    sym (nogoods-is w i (args .d) (args .t2) e f
+    ∙ loop .inv .1
+    ∙ allTo-fails (loop .v) (fitsAt (args .d) (args .t2)) (c .before .before .before .loop-test .taken) (sym (c .before .nogood-fits .ensures) ∙ not-true _ (c .if1 .taken)))
 
 sub-v : tie.Need-sub-v Inv-loop μ-loop
 sub-v c = search needs
@@ -60,16 +62,20 @@ loop-less c = search needs
 
 loop-again : tie.Need-loop-again Inv-loop μ-loop
 unfolding noNogood
-loop-again c = (
-  omega arith,
-  c .before .before .before .before .loop .inv .1
-      ∙ allTo-goes (c .before .before .before .before .loop .v) (fitsAt (c .before .before .before .before .before .before .args .d) (c .before .before .before .before .before .before .args .t2)) (c .before .before .before .loop-test .taken) (sym (c .before .nogood-fits .ensures) ∙ not-false _ (c .if1 .left)),
-)
+loop-again c =
+    let args = c .before .before .before .before .before .before .args in
+    let loop = c .before .before .before .before .loop in (
+      omega arith,
+      loop .inv .1
+          ∙ allTo-goes (loop .v) (fitsAt (args .d) (args .t2)) (c .before .before .before .loop-test .taken) (sym (c .before .nogood-fits .ensures) ∙ not-false _ (c .if1 .left)),
+    )
 
 returns-2 : tie.Need-returns-2 Inv-loop μ-loop
 returns-2 c =
+    let args = c .before .before .before .args in
+    let loop = c .before .loop in
     λ w i e f.
-    sym (nogoods-is w i (c .before .before .before .args .d) (c .before .before .before .args .t2) e f ∙ c .before .loop .inv .1 ∙ allTo-over (c .before .loop .v) (fitsAt (c .before .before .before .args .d) (c .before .before .before .args .t2)) (omega arith))
+    sym (nogoods-is w i (args .d) (args .t2) e f ∙ loop .inv .1 ∙ allTo-over (loop .v) (fitsAt (args .d) (args .t2)) (omega arith))
 
 pub nogoods-fit-spec : {M : Type 1} → statement M
 nogoods-fit-spec =

@@ -1,5 +1,4 @@
 -- Agent by agent. The invariant: the masks of those passed are copied.
-use Rattle.base.proofs.Arrays.{copied}
 use borrow.Author.Needs.{needs}
 use Prim.Native.Nat.{ℕ, _-_, _≤_, _<_}
 use mathlib.Core.Path.{_≡_, refl, sym, _∙_}
@@ -7,6 +6,7 @@ use mathlib.Core.List.{List, [], map}
 use native.Mathlib.Omega.{arith}
 use lib.ListN.{length, take, length-map, length-set, List·getD-map}
 use lib.Seq.{take-all}
+use Rattle.base.proofs.Arrays.{copied}
 use Rattle.agent.specs.declared.Agent.{Agent}
 use Rattle.shape.specs.Parts.{outlineOf}
 use Rattle.shape.proofs.agents.outline.Statement.{statement}
@@ -62,14 +62,16 @@ loop-less c = search needs
 
 loop-again : tie.Need-loop-again Inv-loop μ-loop
 loop-again c =
-    let n : length (c .before .before .before .args .t4) ≡ 12 = search needs in
-    let l : c .before .before .loop .k < length (map listensOf (c .before .before .before .args .t4)) = rw length-map (omega arith) in
-    let i : c .before .before .loop .k < length (map informsOf (c .before .before .before .args .t4)) = rw length-map (omega arith) in (
+    let args = c .before .before .before .args in
+    let loop = c .before .before .loop in
+    let n : length (args .t4) ≡ 12 = search needs in
+    let l : loop .k < length (map listensOf (args .t4)) = rw length-map (omega arith) in
+    let i : loop .k < length (map informsOf (args .t4)) = rw length-map (omega arith) in (
       omega arith,
-      simp length-set (c .before .before .loop .inv .1),
-      simp length-set (c .before .before .loop .inv .2),
-      copied (c .before .before .loop .listens) (map listensOf (c .before .before .before .args .t4)) (c .before .before .loop .k) _ 0 (omega arith) l (c .before .before .loop .inv .3) (sym (List·getD-map listensOf (c .before .before .before .args .t4) (c .before .before .loop .k) unset)),
-      copied (c .before .before .loop .informs) (map informsOf (c .before .before .before .args .t4)) (c .before .before .loop .k) _ 0 (omega arith) i (c .before .before .loop .inv .4) (sym (List·getD-map informsOf (c .before .before .before .args .t4) (c .before .before .loop .k) unset)),
+      simp length-set (loop .inv .1),
+      simp length-set (loop .inv .2),
+      copied (loop .listens) (map listensOf (args .t4)) (loop .k) _ 0 (omega arith) l (loop .inv .3) (sym (List·getD-map listensOf (args .t4) (loop .k) unset)),
+      copied (loop .informs) (map informsOf (args .t4)) (loop .k) _ 0 (omega arith) i (loop .inv .4) (sym (List·getD-map informsOf (args .t4) (loop .k) unset)),
     )
 
 whole : {A : Type 0} {l m : List A} {k : ℕ} → k ≡ 12 → length l ≡ 12 → length m ≡ 12 → take k l ≡ take k m → l ≡ m
@@ -78,10 +80,12 @@ whole {l = l} {m = m} {k = k} e a b t = sym (take-all k l (omega arith)) ∙ t �
 returns : tie.Need-returns Inv-loop μ-loop
 unfolding outlineOf
 returns c =
-    let k : c .before .loop .k ≡ 12 = omega arith in
-    let n : length (c .before .before .args .t4) ≡ 12 = search needs in
-    let l : c .before .loop .listens ≡ map listensOf (c .before .before .args .t4) = whole k (c .before .loop .inv .1) (rw length-map n) (c .before .loop .inv .3) in
-    let i : c .before .loop .informs ≡ map informsOf (c .before .before .args .t4) = whole k (c .before .loop .inv .2) (rw length-map n) (c .before .loop .inv .4) in
+    let args = c .before .before .args in
+    let loop = c .before .loop in
+    let k : loop .k ≡ 12 = omega arith in
+    let n : length (args .t4) ≡ 12 = search needs in
+    let l : loop .listens ≡ map listensOf (args .t4) = whole k (loop .inv .1) (rw length-map n) (loop .inv .3) in
+    let i : loop .informs ≡ map informsOf (args .t4) = whole k (loop .inv .2) (rw length-map n) (loop .inv .4) in
     rw (l, i)
 
 pub outline-spec : {M : Type 1} → statement M

@@ -24,22 +24,27 @@ loop-holds c = (search needs, refl)
 
 returns : tie.Need-returns Inv-loop μ-loop
 unfolding agreeing assigned
-returns c = sym (c .before .before .before .loop .inv .1 ∙ agree-stop (c .before .before .before .loop .rest) (c .before .before .before .loop .values) (c .before .before .before .loop .inv .0) (c .before .if1 .taken) (c .if2 .taken))
+returns c =
+    let loop = c .before .before .before .loop in
+    sym (loop .inv .1 ∙ agree-stop (loop .rest) (loop .values) (loop .inv .0) (c .before .if1 .taken) (c .if2 .taken))
 
 loop-less : tie.Need-loop-less Inv-loop μ-loop
 loop-less c = omega arith
 
 loop-again : tie.Need-loop-again Inv-loop μ-loop
 loop-again c =
-    let x = c .before .before .loop .rest in
-    let y = c .before .before .loop .values in
+    let loop = c .before .before .loop in
+    let x = loop .rest in
+    let y = loop .values in
     let t : not (known (x % 16)) || eqb (x % 16) (y % 16) ≡ true =
     ⊎-elim (λ a. passed (x % 16) (eq-eqb (x % 16) (y % 16) (a .1 .left))) (λ a. unnamed (x % 16) (eqb (x % 16) (y % 16)) (a .left)) (c .if1 .came) in
-    (omega arith, c .before .before .loop .inv .1 ∙ agree-go x y (c .before .before .loop .inv .0) t)
+    (omega arith, loop .inv .1 ∙ agree-go x y (loop .inv .0) t)
 
 returns-2 : tie.Need-returns-2 Inv-loop μ-loop
 unfolding agreeing assigned
-returns-2 c = sym (c .before .loop .inv .1 ∙ agree-over (c .before .loop .rest) (c .before .loop .values) (c .loop-test .left))
+returns-2 c =
+    let loop = c .before .loop in
+    sym (loop .inv .1 ∙ agree-over (loop .rest) (loop .values) (c .loop-test .left))
 
 pub seen-spec : {M : Type 1} → statement M
 seen-spec = tie.close (tie.spec Inv-loop μ-loop loop-holds returns loop-less loop-again returns-2)

@@ -1,5 +1,4 @@
 -- Digit by digit, the lowest first. The invariant: what is asked of the view is asked of what is left of it.
-use Rattle.base.proofs.Peeling.{all-true, one-off}
 use borrow.Author.Needs.{needs}
 use Prim.Native.Nat.{ℕ, _+_, _-_, _%_, _^_, _≤_, _<_}
 use mathlib.Core.Path.{_≡_, sym, _∙_}
@@ -7,6 +6,7 @@ use mathlib.Core.Logic.{⊎-elim}
 use mathlib.Core.Bool.{Bool, true, false, not, _&&_, _||_, and-false}
 use native.Mathlib.Omega.{arith}
 use borrow.Author.Tests.{not-true, not-false}
+use Rattle.base.proofs.Peeling.{all-true, one-off}
 use Rattle.problem.specs.Problem.{Problem, owns}
 use Rattle.agent_rules.specs.Message.{known}
 use Rattle.protocol.specs.Shape.{eachNamed}
@@ -41,18 +41,21 @@ cast-v c = search needs
 
 has-requires : tie.Need-has-requires Inv-loop μ-loop
 has-requires c κs =
-    let o = one-off 16 16 (c .before .before .loop .k) (c .before .before .loop .rest) (omega arith) (c .before .before .loop .inv .1) (c .before .loop-test .taken) in
+    let loop = c .before .before .loop in
+    let o = one-off 16 16 (loop .k) (loop .rest) (omega arith) (loop .inv .1) (c .before .loop-test .taken) in
     (omega arith, omega arith)
 
 returns : tie.Need-returns Inv-loop μ-loop
 unfolding assigned
 returns c =
-    let o = one-off 16 16 (c .before .before .before .before .loop .k) (c .before .before .before .before .loop .rest) (omega arith) (c .before .before .before .before .loop .inv .1) (c .before .before .before .loop-test .taken) in
-    let t : members (c .before .before .before .before .before .args .listens) (c .before .before .before .before .loop .k + 1) ≡ false = sym (c .before .has .ensures) ∙ not-true _ (c .if2 .taken) in
+    let args = c .before .before .before .before .before .args in
+    let loop = c .before .before .before .before .loop in
+    let o = one-off 16 16 (loop .k) (loop .rest) (omega arith) (loop .inv .1) (c .before .before .before .loop-test .taken) in
+    let t : members (args .listens) (loop .k + 1) ≡ false = sym (c .before .has .ensures) ∙ not-true _ (c .if2 .taken) in
     λ w i d l v.
-    sym (view-is w i (c .before .before .before .before .before .args .listens) _ l v
-    ∙ c .before .before .before .before .loop .inv .2 (w .problem) d
-    ∙ named-stop (fits (c .before .before .before .before .before .args .listens) (w .problem)) (c .before .before .before .before .loop .k) (c .before .before .before .before .loop .rest) (o .fits) (c .before .before .if1 .taken) (rw t))
+    sym (view-is w i (args .listens) _ l v
+    ∙ loop .inv .2 (w .problem) d
+    ∙ named-stop (fits (args .listens) (w .problem)) (loop .k) (loop .rest) (o .fits) (c .before .before .if1 .taken) (rw t))
 
 owned-requires : tie.Need-owned-requires Inv-loop μ-loop
 owned-requires c κs = search needs
@@ -60,32 +63,37 @@ owned-requires c κs = search needs
 returns-2 : tie.Need-returns-2 Inv-loop μ-loop
 unfolding assigned
 returns-2 c =
-    let o = one-off 16 16 (c .before .before .before .before .before .before .loop .k) (c .before .before .before .before .before .before .loop .rest) (omega arith) (c .before .before .before .before .before .before .loop .inv .1) (c .before .before .before .before .before .loop-test .taken) in
+    let args = c .before .before .before .before .before .before .before .args in
+    let loop = c .before .before .before .before .before .before .loop in
+    let o = one-off 16 16 (loop .k) (loop .rest) (omega arith) (loop .inv .1) (c .before .before .before .before .before .loop-test .taken) in
     λ w i d l v.
-    let t : owns (w .problem) (c .before .before .before .before .before .before .loop .k + 1) (c .before .before .before .before .before .before .loop .rest % 16) ≡ false = sym (c .before .owned .ensures (w .problem) d) ∙ not-true _ (c .if3 .taken) in
-    sym (view-is w i (c .before .before .before .before .before .before .before .args .listens) _ l v
-    ∙ c .before .before .before .before .before .before .loop .inv .2 (w .problem) d
-    ∙ named-stop (fits (c .before .before .before .before .before .before .before .args .listens) (w .problem)) (c .before .before .before .before .before .before .loop .k) (c .before .before .before .before .before .before .loop .rest) (o .fits) (c .before .before .before .before .if1 .taken) (rw (t, and-false)))
+    let t : owns (w .problem) (loop .k + 1) (loop .rest % 16) ≡ false = sym (c .before .owned .ensures (w .problem) d) ∙ not-true _ (c .if3 .taken) in
+    sym (view-is w i (args .listens) _ l v
+    ∙ loop .inv .2 (w .problem) d
+    ∙ named-stop (fits (args .listens) (w .problem)) (loop .k) (loop .rest) (o .fits) (c .before .before .before .before .if1 .taken) (rw (t, and-false)))
 
 loop-less : tie.Need-loop-less Inv-loop μ-loop
 loop-less c = omega arith
 
 loop-again : tie.Need-loop-again Inv-loop μ-loop
 loop-again c =
-    let o = one-off 16 16 (c .before .before .loop .k) (c .before .before .loop .rest) (omega arith) (c .before .before .loop .inv .1) (c .before .loop-test .taken) in
-    let t : (p : Problem) → p .domains ≡ c .before .before .before .args .domains
-    → not (known (c .before .before .loop .rest % 16)) || fits (c .before .before .before .args .listens) p (c .before .before .loop .k + 1) (c .before .before .loop .rest % 16) ≡ true =
+    let args = c .before .before .before .args in
+    let loop = c .before .before .loop in
+    let o = one-off 16 16 (loop .k) (loop .rest) (omega arith) (loop .inv .1) (c .before .loop-test .taken) in
+    let t : (p : Problem) → p .domains ≡ args .domains
+    → not (known (loop .rest % 16)) || fits (args .listens) p (loop .k + 1) (loop .rest % 16) ≡ true =
     λ p e. ⊎-elim
-    (λ a. passed (c .before .before .loop .rest % 16) (all-true (sym (a .1 .ensures) ∙ not-false _ (a .2 .left)) (sym (a .3 .ensures p e) ∙ not-false _ (a .4 .left))))
-    (λ a. unnamed (c .before .before .loop .rest % 16) (fits (c .before .before .before .args .listens) p (c .before .before .loop .k + 1) (c .before .before .loop .rest % 16)) (a .left))
+    (λ a. passed (loop .rest % 16) (all-true (sym (a .1 .ensures) ∙ not-false _ (a .2 .left)) (sym (a .3 .ensures p e) ∙ not-false _ (a .4 .left))))
+    (λ a. unnamed (loop .rest % 16) (fits (args .listens) p (loop .k + 1) (loop .rest % 16)) (a .left))
     (c .if1 .came) in
-    (omega (arith, o .fewer), o .rest, λ p e. c .before .before .loop .inv .2 p e ∙ named-go (fits (c .before .before .before .args .listens) p) (c .before .before .loop .k) (c .before .before .loop .rest) (o .fits) (t p e))
+    (omega (arith, o .fewer), o .rest, λ p e. loop .inv .2 p e ∙ named-go (fits (args .listens) p) (loop .k) (loop .rest) (o .fits) (t p e))
 
 returns-3 : tie.Need-returns-3 Inv-loop μ-loop
 unfolding assigned
 returns-3 c =
+    let loop = c .before .loop in
     λ w i d l v.
-    sym (view-is w i (c .before .before .args .listens) _ l v ∙ c .before .loop .inv .2 (w .problem) d ∙ named-over _ (c .before .loop .rest) (c .loop-test .left))
+    sym (view-is w i (c .before .before .args .listens) _ l v ∙ loop .inv .2 (w .problem) d ∙ named-over _ (loop .rest) (c .loop-test .left))
 
 pub view-listened-spec : {M : Type 1} → statement M
 view-listened-spec =

@@ -1,5 +1,4 @@
 -- Digit by digit, the lowest first. The invariant: what is asked of the left side is asked of what is left of it.
-use Rattle.base.proofs.Peeling.{all-true, one-off}
 use borrow.Author.Needs.{needs}
 use Prim.Native.Nat.{ℕ, _+_, _-_, _%_, _^_, _≤_, _<_}
 use mathlib.Core.Path.{_≡_, sym, _∙_}
@@ -8,6 +7,7 @@ use mathlib.Core.Bool.{Bool, true, false, not, _&&_, _||_, and-false}
 use native.Mathlib.Omega.{arith}
 use lib.Dec.{ltb}
 use borrow.Author.Tests.{lt-ltb, le-ltb, not-true, not-false}
+use Rattle.base.proofs.Peeling.{all-true, one-off}
 use Rattle.problem.specs.Problem.{Problem, owns}
 use Rattle.agent_rules.specs.Message.{known}
 use Rattle.protocol.specs.Shape.{eachNamed, lhsFits}
@@ -42,10 +42,12 @@ cast-v c = search needs
 returns : tie.Need-returns Inv-loop μ-loop
 unfolding lhsFits assigned
 returns c =
-    let o = one-off 16 16 (c .before .before .before .loop .k) (c .before .before .before .loop .rest) (omega arith) (c .before .before .before .loop .inv .1) (c .before .before .loop-test .taken) in
+    let args = c .before .before .before .before .args in
+    let loop = c .before .before .before .loop in
+    let o = one-off 16 16 (loop .k) (loop .rest) (omega arith) (loop .inv .1) (c .before .before .loop-test .taken) in
     λ p e.
-    sym (c .before .before .before .loop .inv .2 p e
-    ∙ named-stop (fits (c .before .before .before .before .args .j) p) (c .before .before .before .loop .k) (c .before .before .before .loop .rest) (o .fits) (c .before .if1 .taken) (rw (le-ltb (c .before .before .before .loop .k + 1) (c .before .before .before .before .args .j) (c .if2 .taken))))
+    sym (loop .inv .2 p e
+    ∙ named-stop (fits (args .j) p) (loop .k) (loop .rest) (o .fits) (c .before .if1 .taken) (rw (le-ltb (loop .k + 1) (args .j) (c .if2 .taken))))
 
 owned-requires : tie.Need-owned-requires Inv-loop μ-loop
 owned-requires c κs = search needs
@@ -53,29 +55,34 @@ owned-requires c κs = search needs
 returns-2 : tie.Need-returns-2 Inv-loop μ-loop
 unfolding lhsFits assigned
 returns-2 c =
-    let o = one-off 16 16 (c .before .before .before .before .before .loop .k) (c .before .before .before .before .before .loop .rest) (omega arith) (c .before .before .before .before .before .loop .inv .1) (c .before .before .before .before .loop-test .taken) in
+    let loop = c .before .before .before .before .before .loop in
+    let o = one-off 16 16 (loop .k) (loop .rest) (omega arith) (loop .inv .1) (c .before .before .before .before .loop-test .taken) in
     λ p e.
-    let t : owns p (c .before .before .before .before .before .loop .k + 1) (c .before .before .before .before .before .loop .rest % 16) ≡ false = sym (c .before .owned .ensures p e) ∙ not-true _ (c .if3 .taken) in
-    sym (c .before .before .before .before .before .loop .inv .2 p e
-    ∙ named-stop (fits (c .before .before .before .before .before .before .args .j) p) (c .before .before .before .before .before .loop .k) (c .before .before .before .before .before .loop .rest) (o .fits) (c .before .before .before .if1 .taken) (rw (t, and-false)))
+    let t : owns p (loop .k + 1) (loop .rest % 16) ≡ false = sym (c .before .owned .ensures p e) ∙ not-true _ (c .if3 .taken) in
+    sym (loop .inv .2 p e
+    ∙ named-stop (fits (c .before .before .before .before .before .before .args .j) p) (loop .k) (loop .rest) (o .fits) (c .before .before .before .if1 .taken) (rw (t, and-false)))
 
 loop-less : tie.Need-loop-less Inv-loop μ-loop
 loop-less c = omega arith
 
 loop-again : tie.Need-loop-again Inv-loop μ-loop
 loop-again c =
-    let o = one-off 16 16 (c .before .before .loop .k) (c .before .before .loop .rest) (omega arith) (c .before .before .loop .inv .1) (c .before .loop-test .taken) in
-    let t : (p : Problem) → p .domains ≡ c .before .before .before .args .domains
-    → not (known (c .before .before .loop .rest % 16)) || fits (c .before .before .before .args .j) p (c .before .before .loop .k + 1) (c .before .before .loop .rest % 16) ≡ true =
+    let args = c .before .before .before .args in
+    let loop = c .before .before .loop in
+    let o = one-off 16 16 (loop .k) (loop .rest) (omega arith) (loop .inv .1) (c .before .loop-test .taken) in
+    let t : (p : Problem) → p .domains ≡ args .domains
+    → not (known (loop .rest % 16)) || fits (args .j) p (loop .k + 1) (loop .rest % 16) ≡ true =
     λ p e. ⊎-elim
-    (λ a. passed (c .before .before .loop .rest % 16) (all-true (lt-ltb (c .before .before .loop .k + 1) (c .before .before .before .args .j) (a .1 .left)) (sym (a .2 .ensures p e) ∙ not-false _ (a .3 .left))))
-    (λ a. unnamed (c .before .before .loop .rest % 16) (fits (c .before .before .before .args .j) p (c .before .before .loop .k + 1) (c .before .before .loop .rest % 16)) (a .left))
+    (λ a. passed (loop .rest % 16) (all-true (lt-ltb (loop .k + 1) (args .j) (a .1 .left)) (sym (a .2 .ensures p e) ∙ not-false _ (a .3 .left))))
+    (λ a. unnamed (loop .rest % 16) (fits (args .j) p (loop .k + 1) (loop .rest % 16)) (a .left))
     (c .if1 .came) in
-    (omega (arith, o .fewer), o .rest, λ p e. c .before .before .loop .inv .2 p e ∙ named-go (fits (c .before .before .before .args .j) p) (c .before .before .loop .k) (c .before .before .loop .rest) (o .fits) (t p e))
+    (omega (arith, o .fewer), o .rest, λ p e. loop .inv .2 p e ∙ named-go (fits (args .j) p) (loop .k) (loop .rest) (o .fits) (t p e))
 
 returns-3 : tie.Need-returns-3 Inv-loop μ-loop
 unfolding lhsFits assigned
-returns-3 c = λ p e. sym (c .before .loop .inv .2 p e ∙ named-over _ (c .before .loop .rest) (c .loop-test .left))
+returns-3 c =
+    let loop = c .before .loop in
+    λ p e. sym (loop .inv .2 p e ∙ named-over _ (loop .rest) (c .loop-test .left))
 
 pub lhs-fits-spec : {M : Type 1} → statement M
 lhs-fits-spec =

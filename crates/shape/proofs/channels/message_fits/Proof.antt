@@ -15,8 +15,9 @@ enum-known-m c = search needs
 returns : tie.Need-returns
 unfolding messageFits messageOf
 returns c =
+    let args = c .before .before .before .before .before .before .args in
     λ w o.
-    rw (c .before .before .m .given .1, le-ltb (c .before .before .before .before .before .before .args .i) (c .before .before .before .before .before .before .args .j) (c .if1 .taken))
+    rw (c .before .before .m .given .1, le-ltb (args .i) (args .j) (c .if1 .taken))
 
 owned-requires : tie.Need-owned-requires
 owned-requires c κs = search needs
@@ -24,9 +25,10 @@ owned-requires c κs = search needs
 returns-2 : tie.Need-returns-2
 unfolding messageFits messageOf
 returns-2 c =
+    let args = c .before .before .before .before .before .before .before .before .args in
     λ w o.
-    let a : owns (w .problem) (c .before .before .before .before .before .before .before .before .args .i) _ ≡ false = sym (c .before .owned .ensures (w .problem) (o .domains)) ∙ not-true _ (c .if2 .taken) in
-    rw (c .before .before .before .before .m .given .1, lt-ltb (c .before .before .before .before .before .before .before .before .args .i) (c .before .before .before .before .before .before .before .before .args .j) (c .before .before .if1 .left), a)
+    let a : owns (w .problem) (args .i) _ ≡ false = sym (c .before .owned .ensures (w .problem) (o .domains)) ∙ not-true _ (c .if2 .taken) in
+    rw (c .before .before .before .before .m .given .1, lt-ltb (args .i) (args .j) (c .before .before .if1 .left), a)
 
 has-at-requires : tie.Need-has-at-requires
 has-at-requires c κs = search needs
@@ -37,8 +39,9 @@ enum-known-m-2 c = search needs
 returns-3 : tie.Need-returns-3
 unfolding messageFits messageOf
 returns-3 c =
+    let args = c .before .before .before .before .before .before .args in
     λ w o.
-    rw (c .before .before .m2 .given .1, le-ltb (c .before .before .before .before .before .before .args .j) (c .before .before .before .before .before .before .args .i) (c .if3 .taken))
+    rw (c .before .before .m2 .given .1, le-ltb (args .j) (args .i) (c .if3 .taken))
 
 owned-requires-2 : tie.Need-owned-requires-2
 owned-requires-2 c κs = search needs
@@ -46,9 +49,10 @@ owned-requires-2 c κs = search needs
 returns-4 : tie.Need-returns-4
 unfolding messageFits messageOf
 returns-4 c =
+    let args = c .before .before .before .before .before .before .before .before .args in
     λ w o.
-    let a : owns (w .problem) (c .before .before .before .before .before .before .before .before .args .j) _ ≡ false = sym (c .before .owned2 .ensures (w .problem) (o .domains)) ∙ not-true _ (c .if4 .taken) in
-    rw (c .before .before .before .before .m2 .given .1, lt-ltb (c .before .before .before .before .before .before .before .before .args .j) (c .before .before .before .before .before .before .before .before .args .i) (c .before .before .if3 .left), a)
+    let a : owns (w .problem) (args .j) _ ≡ false = sym (c .before .owned2 .ensures (w .problem) (o .domains)) ∙ not-true _ (c .if4 .taken) in
+    rw (c .before .before .before .before .m2 .given .1, lt-ltb (args .j) (args .i) (c .before .before .if3 .left), a)
 
 has-at-requires-2 : tie.Need-has-at-requires-2
 has-at-requires-2 c κs = search needs
@@ -56,10 +60,11 @@ has-at-requires-2 c κs = search needs
 returns-5 : tie.Need-returns-5
 unfolding messageFits messageOf
 returns-5 c =
+    let args = c .before .before .before .before .before .before .before .before .before .before .args in
     λ w o.
-    let a : owns (w .problem) (c .before .before .before .before .before .before .before .before .before .before .args .j) _ ≡ true = sym (c .before .before .before .owned2 .ensures (w .problem) (o .domains)) ∙ not-false _ (c .before .before .if4 .left) in
-    let b : w .agents (c .before .before .before .before .before .before .before .before .before .before .args .i) .listens (c .before .before .before .before .before .before .before .before .before .before .args .j) ≡ false = o .listens (c .before .before .before .before .before .before .before .before .before .before .args .i) (c .before .before .before .before .before .before .before .before .before .before .args .j) ∙ sym (c .before .has-at2 .ensures) ∙ not-true _ (c .if5 .taken) in
-    rw (c .before .before .before .before .before .before .m2 .given .1, lt-ltb (c .before .before .before .before .before .before .before .before .before .before .args .j) (c .before .before .before .before .before .before .before .before .before .before .args .i) (c .before .before .before .before .if3 .left), a, b)
+    let a : owns (w .problem) (args .j) _ ≡ true = sym (c .before .before .before .owned2 .ensures (w .problem) (o .domains)) ∙ not-false _ (c .before .before .if4 .left) in
+    let b : w .agents (args .i) .listens (args .j) ≡ false = o .listens (args .i) (args .j) ∙ sym (c .before .has-at2 .ensures) ∙ not-true _ (c .if5 .taken) in
+    rw (c .before .before .before .before .before .before .m2 .given .1, lt-ltb (args .j) (args .i) (c .before .before .before .before .if3 .left), a, b)
 
 lhs-fits-requires : tie.Need-lhs-fits-requires
 lhs-fits-requires c κs = search needs
@@ -70,8 +75,9 @@ enum-told c = search needs
 returns-6 : tie.Need-returns-6
 unfolding messageFits messageOf
 returns-6 c =
+    let args = c .before .before .before .before .before .args in
     λ w o.
-    rw (c .before .enum-told .given .1, le-ltb (c .before .before .before .before .before .args .j) (c .before .before .before .before .before .args .i) (c .if6 .taken))
+    rw (c .before .enum-told .given .1, le-ltb (args .j) (args .i) (c .if6 .taken))
 
 has-at-requires-3 : tie.Need-has-at-requires-3
 has-at-requires-3 c κs = search needs
@@ -79,23 +85,26 @@ has-at-requires-3 c κs = search needs
 returns-7 : tie.Need-returns-7
 unfolding messageFits messageOf
 returns-7 c =
+    let args = c .before .before .before .before .before .before .before .before .before .args in
     λ w o.
-    let a : owns (w .problem) (c .before .before .before .before .before .before .before .before .before .args .i) _ ≡ true = sym (c .before .before .owned .ensures (w .problem) (o .domains)) ∙ not-false _ (c .before .if2 .left) in
-    rw (c .before .before .before .before .before .m .given .1, lt-ltb (c .before .before .before .before .before .before .before .before .before .args .i) (c .before .before .before .before .before .before .before .before .before .args .j) (c .before .before .before .if1 .left), a, o .listens (c .before .before .before .before .before .before .before .before .before .args .j) (c .before .before .before .before .before .before .before .before .before .args .i)) (c .has-at .ensures)
+    let a : owns (w .problem) (args .i) _ ≡ true = sym (c .before .before .owned .ensures (w .problem) (o .domains)) ∙ not-false _ (c .before .if2 .left) in
+    rw (c .before .before .before .before .before .m .given .1, lt-ltb (args .i) (args .j) (c .before .before .before .if1 .left), a, o .listens (args .j) (args .i)) (c .has-at .ensures)
 
 returns-8 : tie.Need-returns-8
 unfolding messageFits messageOf
 returns-8 c =
+    let args = c .before .before .before .before .before .before .before .before .before .before .before .args in
     λ w o.
-    let a : owns (w .problem) (c .before .before .before .before .before .before .before .before .before .before .before .args .j) _ ≡ true = sym (c .before .before .before .before .owned2 .ensures (w .problem) (o .domains)) ∙ not-false _ (c .before .before .before .if4 .left) in
-    let b : w .agents (c .before .before .before .before .before .before .before .before .before .before .before .args .i) .listens (c .before .before .before .before .before .before .before .before .before .before .before .args .j) ≡ true = o .listens (c .before .before .before .before .before .before .before .before .before .before .before .args .i) (c .before .before .before .before .before .before .before .before .before .before .before .args .j) ∙ sym (c .before .before .has-at2 .ensures) ∙ not-false _ (c .before .if5 .left) in
-    rw (c .before .before .before .before .before .before .before .m2 .given .1, lt-ltb (c .before .before .before .before .before .before .before .before .before .before .before .args .j) (c .before .before .before .before .before .before .before .before .before .before .before .args .i) (c .before .before .before .before .before .if3 .left), a, b) (c .lhs-fits .ensures (w .problem) (o .domains))
+    let a : owns (w .problem) (args .j) _ ≡ true = sym (c .before .before .before .before .owned2 .ensures (w .problem) (o .domains)) ∙ not-false _ (c .before .before .before .if4 .left) in
+    let b : w .agents (args .i) .listens (args .j) ≡ true = o .listens (args .i) (args .j) ∙ sym (c .before .before .has-at2 .ensures) ∙ not-false _ (c .before .if5 .left) in
+    rw (c .before .before .before .before .before .before .before .m2 .given .1, lt-ltb (args .j) (args .i) (c .before .before .before .before .before .if3 .left), a, b) (c .lhs-fits .ensures (w .problem) (o .domains))
 
 returns-9 : tie.Need-returns-9
 unfolding messageFits messageOf
 returns-9 c =
+    let args = c .before .before .before .before .before .before .args in
     λ w o.
-    rw (c .before .before .enum-told .given .1, lt-ltb (c .before .before .before .before .before .before .args .j) (c .before .before .before .before .before .before .args .i) (c .before .if6 .left), o .listens (c .before .before .before .before .before .before .args .i) (c .before .before .before .before .before .before .args .j)) (c .has-at3 .ensures)
+    rw (c .before .before .enum-told .given .1, lt-ltb (args .j) (args .i) (c .before .if6 .left), o .listens (args .i) (args .j)) (c .has-at3 .ensures)
 
 pub message-fits-spec : {M : Type 1} → statement M
 message-fits-spec =

@@ -1,6 +1,4 @@
 -- From agent j - 1 down. The invariant: what is asked of all words is asked of those left.
-use Rattle.base.proofs.Peeling.{allTo-over}
-use Rattle.base.proofs.Loops.{allTo-goes, allTo-fails}
 use borrow.Author.Needs.{needs}
 use Prim.Native.Nat.{ℕ, pred, _<_}
 use mathlib.Core.Path.{_≡_, sym, ap, _∙_}
@@ -10,6 +8,8 @@ use native.Mathlib.Numerals.{sub-one}
 use lib.ListN.{getD}
 use borrow.Author.Tests.{not-true, not-false}
 use Rattle.base.specs.Finite.{allTo}
+use Rattle.base.proofs.Loops.{allTo-goes, allTo-fails}
+use Rattle.base.proofs.Peeling.{allTo-over}
 use Rattle.problem.specs.Problem.{Problem, domain, wordAt, wordOwned}
 use Rattle.shape.proofs.Ranges.{word-is}
 use Rattle.shape.proofs.range.bans_of_owned.Statement.{statement}
@@ -35,7 +35,9 @@ sub-i : tie.Need-sub-i Inv-loop μ-loop
 sub-i c = search needs
 
 loop-holds : tie.Need-loop-holds Inv-loop μ-loop
-loop-holds c = (omega arith, λ p e f. ap (λ (m : ℕ). allTo m (word p (c .args .j))) (sym (sub-one (c .args .j))))
+loop-holds c =
+    let args = c .args in
+    (omega arith, λ p e f. ap (λ (m : ℕ). allTo m (word p (args .j))) (sym (sub-one (args .j))))
 
 cast-word-owned : tie.Need-cast-word-owned Inv-loop μ-loop
 cast-word-owned c = search needs
@@ -60,10 +62,12 @@ word-owned-requires c κs = search needs
 
 returns : tie.Need-returns Inv-loop μ-loop
 returns c =
+    let args = c .before .before .before .before .before .before .args in
+    let loop = c .before .before .before .before .before .loop in
     λ p e f.
-    sym (c .before .before .before .before .before .loop .inv .1 p e f
-    ∙ allTo-fails (c .before .before .before .before .before .loop .i) (word p (c .before .before .before .before .before .before .args .j)) (c .before .before .before .before .loop-test .taken)
-    (word-is p (c .before .before .before .before .before .before .args .t1) _ (c .before .before .before .before .before .loop .i) (c .before .before .before .before .before .before .args .j) (c .before .before .before .word-at .result) e f (c .before .before .before .before .loop-test .taken) (c .before .before .before .before .before .before .pre .0) (c .before .before .before .word-at .ensures .0)
+    sym (loop .inv .1 p e f
+    ∙ allTo-fails (loop .i) (word p (args .j)) (c .before .before .before .before .loop-test .taken)
+    (word-is p (args .t1) _ (loop .i) (args .j) (c .before .before .before .word-at .result) e f (c .before .before .before .before .loop-test .taken) (c .before .before .before .before .before .before .pre .0) (c .before .before .before .word-at .ensures .0)
     ∙ sym (c .before .word-owned .ensures) ∙ not-true _ (c .if1 .taken)))
 
 sub-i-2 : tie.Need-sub-i-2 Inv-loop μ-loop
@@ -73,17 +77,21 @@ loop-less : tie.Need-loop-less Inv-loop μ-loop
 loop-less c = search needs
 
 loop-again : tie.Need-loop-again Inv-loop μ-loop
-loop-again c = (
-  omega arith,
-  λ p e f.
-      c .before .before .before .before .before .loop .inv .1 p e f
-      ∙ allTo-goes (c .before .before .before .before .before .loop .i) (word p (c .before .before .before .before .before .before .args .j)) (c .before .before .before .before .loop-test .taken)
-      (word-is p (c .before .before .before .before .before .before .args .t1) _ (c .before .before .before .before .before .loop .i) (c .before .before .before .before .before .before .args .j) (c .before .before .before .word-at .result) e f (c .before .before .before .before .loop-test .taken) (c .before .before .before .before .before .before .pre .0) (c .before .before .before .word-at .ensures .0)
-      ∙ sym (c .before .word-owned .ensures) ∙ not-false _ (c .if1 .left)),
-)
+loop-again c =
+    let args = c .before .before .before .before .before .before .args in
+    let loop = c .before .before .before .before .before .loop in (
+      omega arith,
+      λ p e f.
+          loop .inv .1 p e f
+          ∙ allTo-goes (loop .i) (word p (args .j)) (c .before .before .before .before .loop-test .taken)
+          (word-is p (args .t1) _ (loop .i) (args .j) (c .before .before .before .word-at .result) e f (c .before .before .before .before .loop-test .taken) (c .before .before .before .before .before .before .pre .0) (c .before .before .before .word-at .ensures .0)
+          ∙ sym (c .before .word-owned .ensures) ∙ not-false _ (c .if1 .left)),
+    )
 
 returns-2 : tie.Need-returns-2 Inv-loop μ-loop
-returns-2 c = λ p e f. sym (c .before .loop .inv .1 p e f ∙ allTo-over (c .before .loop .i) (word p (c .before .before .args .j)) (omega arith))
+returns-2 c =
+    let loop = c .before .loop in
+    λ p e f. sym (loop .inv .1 p e f ∙ allTo-over (loop .i) (word p (c .before .before .args .j)) (omega arith))
 
 pub bans-of-owned-spec : {M : Type 1} → statement M
 bans-of-owned-spec =

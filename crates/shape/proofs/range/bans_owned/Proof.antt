@@ -1,6 +1,4 @@
 -- From agent 12 down. The invariant: what is asked of all agents is asked of those left.
-use Rattle.base.proofs.Peeling.{allTo-over}
-use Rattle.base.proofs.Loops.{allTo-goes, allTo-fails}
 use borrow.Author.Needs.{needs}
 use Prim.Native.Nat.{ℕ, pred, _≤_}
 use mathlib.Core.Path.{_≡_, refl, sym, _∙_}
@@ -9,6 +7,8 @@ use native.Mathlib.Omega.{arith}
 use lib.ListN.{getD}
 use borrow.Author.Tests.{not-true, not-false}
 use Rattle.base.specs.Finite.{allTo}
+use Rattle.base.proofs.Loops.{allTo-goes, allTo-fails}
+use Rattle.base.proofs.Peeling.{allTo-over}
 use Rattle.problem.specs.Problem.{Problem, maxAgents, domain, wordAt, wordOwned, bansOwned}
 use Rattle.shape.proofs.range.bans_owned.Statement.{statement}
 use Rattle.shape.proofs.range.bans_owned.Tie as tie
@@ -33,9 +33,10 @@ bans-of-owned-requires c κs = search needs
 returns : tie.Need-returns Inv-loop μ-loop
 unfolding bansOwned
 returns c =
+    let loop = c .before .before .before .loop in
     λ p e f.
-    sym (c .before .before .before .loop .inv .1 p e f
-    ∙ allTo-fails (c .before .before .before .loop .j) (words p) (c .before .before .loop-test .taken) (sym (c .before .bans-of-owned .ensures p e f) ∙ not-true _ (c .if1 .taken)))
+    sym (loop .inv .1 p e f
+    ∙ allTo-fails (loop .j) (words p) (c .before .before .loop-test .taken) (sym (c .before .bans-of-owned .ensures p e f) ∙ not-true _ (c .if1 .taken)))
 
 sub-j : tie.Need-sub-j Inv-loop μ-loop
 sub-j c = search needs
@@ -44,16 +45,19 @@ loop-less : tie.Need-loop-less Inv-loop μ-loop
 loop-less c = search needs
 
 loop-again : tie.Need-loop-again Inv-loop μ-loop
-loop-again c = (
-  omega arith,
-  λ p e f.
-      c .before .before .before .loop .inv .1 p e f
-      ∙ allTo-goes (c .before .before .before .loop .j) (words p) (c .before .before .loop-test .taken) (sym (c .before .bans-of-owned .ensures p e f) ∙ not-false _ (c .if1 .left)),
-)
+loop-again c =
+    let loop = c .before .before .before .loop in (
+      omega arith,
+      λ p e f.
+          loop .inv .1 p e f
+          ∙ allTo-goes (loop .j) (words p) (c .before .before .loop-test .taken) (sym (c .before .bans-of-owned .ensures p e f) ∙ not-false _ (c .if1 .left)),
+    )
 
 returns-2 : tie.Need-returns-2 Inv-loop μ-loop
 unfolding bansOwned
-returns-2 c = λ p e f. sym (c .before .loop .inv .1 p e f ∙ allTo-over (c .before .loop .j) (words p) (omega arith))
+returns-2 c =
+    let loop = c .before .loop in
+    λ p e f. sym (loop .inv .1 p e f ∙ allTo-over (loop .j) (words p) (omega arith))
 
 pub bans-owned-spec : {M : Type 1} → statement M
 bans-owned-spec =

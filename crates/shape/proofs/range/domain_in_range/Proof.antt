@@ -9,11 +9,15 @@ use Rattle.shape.proofs.range.domain_in_range.Tie as tie
 
 returns : tie.Need-returns
 unfolding within maxDomain
-returns c = λ p e f. rw (in-range-within p (c .before .before .args .i) (omega arith), f, lt-ltb 0 (c .before .before .args .d) (c .if2 .taken))
+returns c =
+    let args = c .before .before .args in
+    λ p e f. rw (in-range-within p (args .i) (omega arith), f, lt-ltb 0 (args .d) (c .if2 .taken))
 
 returns-2 : tie.Need-returns-2
 unfolding within maxDomain
-returns-2 c = λ p e f. rw (in-range-within p (c .before .before .args .i) (omega arith), f, le-ltb 0 (c .before .before .args .d) (c .if2 .left))
+returns-2 c =
+    let args = c .before .before .args in
+    λ p e f. rw (in-range-within p (args .i) (omega arith), f, le-ltb 0 (args .d) (c .if2 .left))
 
 returns-3 : tie.Need-returns-3
 returns-3 c = λ p e f. rw (in-range-zero p (c .before .args .i) (omega arith), f)

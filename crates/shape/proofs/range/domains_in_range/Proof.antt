@@ -1,12 +1,12 @@
 -- From agent 12 down. The invariant: what is asked of all is asked of those left.
-use Rattle.base.proofs.Peeling.{allTo-over}
-use Rattle.base.proofs.Loops.{allTo-goes, allTo-fails}
 use borrow.Author.Needs.{needs}
 use Prim.Native.Nat.{_≤_}
 use mathlib.Core.Path.{_≡_, refl, sym, _∙_}
 use native.Mathlib.Omega.{arith}
 use borrow.Author.Tests.{not-true, not-false}
 use Rattle.base.specs.Finite.{allTo}
+use Rattle.base.proofs.Loops.{allTo-goes, allTo-fails}
+use Rattle.base.proofs.Peeling.{allTo-over}
 use Rattle.problem.specs.Problem.{Problem, maxAgents, domainInRange}
 use Rattle.shape.proofs.Ranges.{domain-at}
 use Rattle.shape.proofs.range.domains_in_range.Statement.{statement}
@@ -38,10 +38,11 @@ domain-in-range-requires c κs = search needs
 
 returns : tie.Need-returns Inv-loop μ-loop
 returns c =
+    let loop = c .before .before .before .loop in
     λ p e f.
-    sym (c .before .before .before .loop .inv .1 p e f
-    ∙ allTo-fails (c .before .before .before .loop .i) (domainInRange p) (c .before .before .loop-test .taken)
-    (sym (c .before .domain-in-range .ensures p e (domain-at p (c .before .before .before .before .args .t2) (c .before .before .before .loop .i) f (c .before .before .loop-test .taken))) ∙ not-true _ (c .if1 .taken)))
+    sym (loop .inv .1 p e f
+    ∙ allTo-fails (loop .i) (domainInRange p) (c .before .before .loop-test .taken)
+    (sym (c .before .domain-in-range .ensures p e (domain-at p (c .before .before .before .before .args .t2) (loop .i) f (c .before .before .loop-test .taken))) ∙ not-true _ (c .if1 .taken)))
 
 sub-i : tie.Need-sub-i Inv-loop μ-loop
 sub-i c = search needs
@@ -50,16 +51,19 @@ loop-less : tie.Need-loop-less Inv-loop μ-loop
 loop-less c = search needs
 
 loop-again : tie.Need-loop-again Inv-loop μ-loop
-loop-again c = (
-  omega arith,
-  λ p e f.
-      c .before .before .before .loop .inv .1 p e f
-      ∙ allTo-goes (c .before .before .before .loop .i) (domainInRange p) (c .before .before .loop-test .taken)
-      (sym (c .before .domain-in-range .ensures p e (domain-at p (c .before .before .before .before .args .t2) (c .before .before .before .loop .i) f (c .before .before .loop-test .taken))) ∙ not-false _ (c .if1 .left)),
-)
+loop-again c =
+    let loop = c .before .before .before .loop in (
+      omega arith,
+      λ p e f.
+          loop .inv .1 p e f
+          ∙ allTo-goes (loop .i) (domainInRange p) (c .before .before .loop-test .taken)
+          (sym (c .before .domain-in-range .ensures p e (domain-at p (c .before .before .before .before .args .t2) (loop .i) f (c .before .before .loop-test .taken))) ∙ not-false _ (c .if1 .left)),
+    )
 
 returns-2 : tie.Need-returns-2 Inv-loop μ-loop
-returns-2 c = λ p e f. sym (c .before .loop .inv .1 p e f ∙ allTo-over (c .before .loop .i) (domainInRange p) (omega arith))
+returns-2 c =
+    let loop = c .before .loop in
+    λ p e f. sym (loop .inv .1 p e f ∙ allTo-over (loop .i) (domainInRange p) (omega arith))
 
 pub domains-in-range-spec : {M : Type 1} → statement M
 domains-in-range-spec =

@@ -7,13 +7,19 @@ use Rattle.shape.proofs.range.owned.Statement.{statement}
 use Rattle.shape.proofs.range.owned.Tie as tie
 
 returns : tie.Need-returns
-returns c = λ p e. sym (owns-nobody p (c .before .args .k) (c .before .args .v) (c .if1 .taken))
+returns c =
+    let args = c .before .args in
+    λ p e. sym (owns-nobody p (args .k) (args .v) (c .if1 .taken))
 
 returns-2 : tie.Need-returns-2
-returns-2 c = λ p e. sym (owns-beyond p (c .before .before .args .t1) (c .before .before .args .k) (c .before .before .args .v) e (search needs) (c .if2 .taken))
+returns-2 c =
+    let args = c .before .before .args in
+    λ p e. sym (owns-beyond p (args .t1) (args .k) (args .v) e (search needs) (c .if2 .taken))
 
 returns-3 : tie.Need-returns-3
-returns-3 c = λ p e. sym (owns-nothing p (c .before .before .before .args .k) (c .before .before .before .args .v) (c .if3 .taken))
+returns-3 c =
+    let args = c .before .before .before .args in
+    λ p e. sym (owns-nothing p (args .k) (args .v) (c .if3 .taken))
 
 sub-result : tie.Need-sub-result
 sub-result c = search needs
@@ -22,7 +28,9 @@ array-read-result : tie.Need-array-read-result
 array-read-result c = search needs
 
 returns-4 : tie.Need-returns-4
-returns-4 c = λ p e. sym (owns-at p (c .before .before .before .args .t1) (c .before .before .before .args .k) (c .before .before .before .args .v) e (omega arith) (omega arith))
+returns-4 c =
+    let args = c .before .before .before .args in
+    λ p e. sym (owns-at p (args .t1) (args .k) (args .v) e (omega arith) (omega arith))
 
 pub owned-spec : {M : Type 1} → statement M
 owned-spec = tie.close (tie.spec returns returns-2 returns-3 sub-result array-read-result returns-4)

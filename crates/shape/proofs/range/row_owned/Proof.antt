@@ -6,21 +6,28 @@ use Rattle.shape.proofs.range.row_owned.Statement.{statement}
 use Rattle.shape.proofs.range.row_owned.Tie as tie
 
 returns : tie.Need-returns
-returns c = sym (row-none (c .before .args .d) (c .before .args .e) (c .before .args .v) (c .before .args .row) (c .if1 .taken))
+returns c =
+    let args = c .before .args in
+    sym (row-none (args .d) (args .e) (args .v) (args .row) (c .if1 .taken))
 
 returns-2 : tie.Need-returns-2
-returns-2 c = sym (row-out (c .before .before .args .d) (c .before .before .args .e) (c .before .before .args .v) (c .before .before .args .row) (c .before .before .pre .1) (c .before .if1 .left) (c .if2 .taken))
+returns-2 c =
+    let args = c .before .before .args in
+    sym (row-out (args .d) (args .e) (args .v) (args .row) (c .before .before .pre .1) (c .before .if1 .left) (c .if2 .taken))
 
 returns-3 : tie.Need-returns-3
 returns-3 c =
-    sym (row-in (c .before .before .before .args .d) (c .before .before .before .args .e) (c .before .before .before .args .v) (c .before .before .before .args .row) (c .before .before .before .pre .1) (c .before .before .before .pre .0) (c .before .if2 .left)
-    ∙ row-wide (c .before .before .before .args .e) (c .before .before .before .args .row) (c .before .before .before .pre .1) (c .if3 .taken))
+    let args = c .before .before .before .args in
+    sym (row-in (args .d) (args .e) (args .v) (args .row) (c .before .before .before .pre .1) (c .before .before .before .pre .0) (c .before .if2 .left)
+    ∙ row-wide (args .e) (args .row) (c .before .before .before .pre .1) (c .if3 .taken))
 
 shr-result : tie.Need-shr-result
 shr-result c = search needs
 
 returns-4 : tie.Need-returns-4
-returns-4 c = sym (row-in (c .before .before .before .args .d) (c .before .before .before .args .e) (c .before .before .before .args .v) (c .before .before .before .args .row) (c .before .before .before .pre .1) (c .before .before .before .pre .0) (c .before .if2 .left))
+returns-4 c =
+    let args = c .before .before .before .args in
+    sym (row-in (args .d) (args .e) (args .v) (args .row) (c .before .before .before .pre .1) (c .before .before .before .pre .0) (c .before .if2 .left))
 
 pub row-owned-spec : {M : Type 1} → statement M
 row-owned-spec = tie.close (tie.spec returns returns-2 returns-3 shr-result returns-4)

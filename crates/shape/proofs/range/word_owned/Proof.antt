@@ -1,11 +1,11 @@
 -- Byte by byte, the lowest first. The invariant: what is asked of the word is asked of what is left of it.
-use Rattle.base.proofs.Peeling.{one-off}
 use borrow.Author.Needs.{needs}
 use Prim.Native.Nat.{_+_, _-_, _%_, _^_, _≤_, _<_}
 use mathlib.Core.Path.{_≡_, sym, _∙_}
 use mathlib.Core.Bool.{true, false}
 use native.Mathlib.Omega.{arith}
 use borrow.Author.Tests.{not-true, not-false}
+use Rattle.base.proofs.Peeling.{one-off}
 use Rattle.problem.specs.Problem.{wordOwned}
 use Rattle.shape.specs.Parts.{rowOwned}
 use Rattle.shape.proofs.Ranges.{rowsFrom, rows-start, rows-step, rows-over}
@@ -29,21 +29,28 @@ row-owned-requires c κs = (omega arith, omega arith)
 
 returns : tie.Need-returns Inv-loop μ-loop
 returns c =
-    let o = one-off 256 8 (c .before .before .before .loop .v) (c .before .before .before .loop .rest) (omega arith) (c .before .before .before .loop .inv .1) (c .before .before .loop-test .taken) in
-    let t : rowOwned (c .before .before .before .before .args .d) (c .before .before .before .before .args .e) (c .before .before .before .loop .v + 1) (c .before .before .before .loop .rest % 256) ≡ false = sym (c .before .row-owned .ensures) ∙ not-true _ (c .if1 .taken) in
-    sym (c .before .before .before .loop .inv .2 ∙ rows-step (c .before .before .before .before .args .d) (c .before .before .before .before .args .e) (c .before .before .before .loop .v) (c .before .before .before .loop .rest) (o .fits) ∙ rw t)
+    let args = c .before .before .before .before .args in
+    let loop = c .before .before .before .loop in
+    let o = one-off 256 8 (loop .v) (loop .rest) (omega arith) (loop .inv .1) (c .before .before .loop-test .taken) in
+    let t : rowOwned (args .d) (args .e) (loop .v + 1) (loop .rest % 256) ≡ false = sym (c .before .row-owned .ensures) ∙ not-true _ (c .if1 .taken) in
+    sym (loop .inv .2 ∙ rows-step (args .d) (args .e) (loop .v) (loop .rest) (o .fits) ∙ rw t)
 
 loop-less : tie.Need-loop-less Inv-loop μ-loop
 loop-less c = omega arith
 
 loop-again : tie.Need-loop-again Inv-loop μ-loop
 loop-again c =
-    let o = one-off 256 8 (c .before .before .before .loop .v) (c .before .before .before .loop .rest) (omega arith) (c .before .before .before .loop .inv .1) (c .before .before .loop-test .taken) in
-    let t : rowOwned (c .before .before .before .before .args .d) (c .before .before .before .before .args .e) (c .before .before .before .loop .v + 1) (c .before .before .before .loop .rest % 256) ≡ true = sym (c .before .row-owned .ensures) ∙ not-false _ (c .if1 .left) in
-    (omega (arith, o .fewer), o .rest, c .before .before .before .loop .inv .2 ∙ rows-step (c .before .before .before .before .args .d) (c .before .before .before .before .args .e) (c .before .before .before .loop .v) (c .before .before .before .loop .rest) (o .fits) ∙ rw t)
+    let args = c .before .before .before .before .args in
+    let loop = c .before .before .before .loop in
+    let o = one-off 256 8 (loop .v) (loop .rest) (omega arith) (loop .inv .1) (c .before .before .loop-test .taken) in
+    let t : rowOwned (args .d) (args .e) (loop .v + 1) (loop .rest % 256) ≡ true = sym (c .before .row-owned .ensures) ∙ not-false _ (c .if1 .left) in
+    (omega (arith, o .fewer), o .rest, loop .inv .2 ∙ rows-step (args .d) (args .e) (loop .v) (loop .rest) (o .fits) ∙ rw t)
 
 returns-2 : tie.Need-returns-2 Inv-loop μ-loop
-returns-2 c = sym (c .before .loop .inv .2 ∙ rows-over (c .before .before .args .d) (c .before .before .args .e) (c .before .loop .v) (c .before .loop .rest) (c .loop-test .left))
+returns-2 c =
+    let args = c .before .before .args in
+    let loop = c .before .loop in
+    sym (loop .inv .2 ∙ rows-over (args .d) (args .e) (loop .v) (loop .rest) (c .loop-test .left))
 
 pub word-owned-spec : {M : Type 1} → statement M
 word-owned-spec =

@@ -7,10 +7,14 @@ use Rattle.shape.proofs.sets.has_at.Statement.{statement}
 use Rattle.shape.proofs.sets.has_at.Tie as tie
 
 returns : tie.Need-returns
-returns c = sym (set-nobody (c .before .args .t1) (c .before .args .k) (c .before .args .j) (c .if1 .taken))
+returns c =
+    let args = c .before .args in
+    sym (set-nobody (args .t1) (args .k) (args .j) (c .if1 .taken))
 
 returns-2 : tie.Need-returns-2
-returns-2 c = sym (set-beyond (c .before .before .args .t1) (c .before .before .args .k) (c .before .before .args .j) (search needs) (c .if2 .taken))
+returns-2 c =
+    let args = c .before .before .args in
+    sym (set-beyond (args .t1) (args .k) (args .j) (search needs) (c .if2 .taken))
 
 sub-has : tie.Need-sub-has
 sub-has c = search needs
@@ -25,7 +29,9 @@ has-requires : tie.Need-has-requires
 has-requires c κs = search needs
 
 returns-3 : tie.Need-returns-3
-returns-3 c = c .has .ensures ∙ sym (set-at (c .before .before .before .args .t1) (c .before .before .before .args .k) (c .before .before .before .args .j) (omega arith))
+returns-3 c =
+    let args = c .before .before .before .args in
+    c .has .ensures ∙ sym (set-at (args .t1) (args .k) (args .j) (omega arith))
 
 pub has-at-spec : {M : Type 1} → statement M
 has-at-spec =
