@@ -21,14 +21,14 @@ pub fn deliver_in_shape(r: Network, from: u8, to: u8) -> Delivered
     ensures { λ d. ⌜ Answers r (deliver (networkOf r) from to) d ⌝ }
 {
     let mut o = r;
+    let channel = channel_at(from, to);
+    let count = o.counts[channel];
     if o.verdict {
         return Delivered {
             number: 7,
             network: o,
         };
     }
-    let channel = channel_at(from, to);
-    let count = o.counts[channel];
     if count == 0 {
         return Delivered {
             number: 8,

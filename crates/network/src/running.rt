@@ -52,11 +52,14 @@ pub fn run_in_shape(r: Network, allowed: u64) -> Ran
     let bans = o.bans;
     let mut left = allowed;
     let mut made: u64 = 0;
+    // what each channel held when the round began, and all of them; what was accepted since
     let mut quota = o.counts;
     let mut waited: usize = 0;
     let mut accepted: usize = 0;
+    // a 9 or a 10 was met
     let mut faulty = false;
     let mut jammed = false;
+    // the channel that is visited, and the deliveries left on it; past the last sender, between rounds
     let mut from: u8 = n + 1;
     let mut to: u8 = 1;
     let mut q: u8 = 0;
@@ -84,7 +87,7 @@ pub fn run_in_shape(r: Network, allowed: u64) -> Ran
             } else if from < n {
                 from += 1;
                 to = 1;
-                q = held(&quota, from, to);
+                q = held(&quota, from, 1);
             } else {
                 from += 1;
                 if accepted == waited {

@@ -52,20 +52,20 @@ kept c =
 ends : (c : tie.Start Inv-loop μ-loop) → Between (c .args .from) (c .args .to)
 ends c = numbers-between (networkOf (c .args .r)) _ _ (c .pre .0) (c .pre .1)
 
-found : (c : tie.After-place-at Inv-loop μ-loop) → Found (c .before .before .before .before .before .before .args .r) (c .before .before .before .before .before .before .args .from) (c .before .before .before .before .before .before .args .to) (c .before .before .before .before .channel-at .result) (c .place-at .result)
+found : (c : tie.After-place-at Inv-loop μ-loop) → Found (c .before .before .before .before .before .before .args .r) (c .before .before .before .before .before .before .args .from) (c .before .before .before .before .before .before .args .to) (c .before .before .before .before .before .channel-at .result) (c .place-at .result)
 found c =
     record {
       sized = kept (c .before .before .before .before .before .before);
       shape = c .before .before .before .before .before .before .pre .0;
       numbers = c .before .before .before .before .before .before .pre .1;
-      running = c .before .before .before .before .before .if1 .left;
-      channel = c .before .before .before .before .channel-at .ensures .0;
+      running = c .before .before .before .if1 .left;
+      channel = c .before .before .before .before .before .channel-at .ensures .0;
       waits = c .before .before .if2 .left;
       place = c .place-at .ensures .0;
     }
 
 stepped : (c : tie.After-receive Inv-loop μ-loop)
-    → Stepped (c .before .before .before .before .before .before .before .before .before .before .before .before .before .before .before .before .args .r) (c .before .before .before .before .before .before .before .before .before .before .before .before .before .before .before .before .args .from) (c .before .before .before .before .before .before .before .before .before .before .before .before .before .before .before .before .args .to) (c .before .before .before .before .before .before .before .before .before .before .before .before .before .before .channel-at .result) (c .before .before .before .before .before .before .before .before .before .before .place-at .result) (c .receive .result)
+    → Stepped (c .before .before .before .before .before .before .before .before .before .before .before .before .before .before .before .before .args .r) (c .before .before .before .before .before .before .before .before .before .before .before .before .before .before .before .before .args .from) (c .before .before .before .before .before .before .before .before .before .before .before .before .before .before .before .before .args .to) (c .before .before .before .before .before .before .before .before .before .before .before .before .before .before .before .channel-at .result) (c .before .before .before .before .before .before .before .before .before .before .place-at .result) (c .receive .result)
 stepped c =
     steps (found (c .before .before .before .before .before .before .before .before .before .before)) _ _ (c .before .before .before .before .words-before .result) refl (c .before .before .before .before .words-before .ensures .0) _ (c .before .before .before .before .before .before .before .asks-again .ensures) (c .before .before .before .before .before .before .if3 .left)
     (c .receive .result) (c .receive .ensures)
@@ -75,21 +75,21 @@ room c = sym (c .before .has-room .ensures) ∙ not-false _ (c .if4 .left)
 
 -- ---- the needs
 
-returns : tie.Need-returns Inv-loop μ-loop
-unfolding rejectionNumber networkOf
-returns c = rejected (c .before .args .r) _ VerdictStands (stands _ _ _ (c .before .pre .0) (c .before .pre .1) (c .if1 .taken))
-
 channel-at-requires : tie.Need-channel-at-requires Inv-loop μ-loop
-channel-at-requires c κs = ends (c .before)
+channel-at-requires c κs = ends (c)
 
 element-copy-out-count : tie.Need-element-copy-out-count Inv-loop μ-loop
 element-copy-out-count c = search needs
+
+returns : tie.Need-returns Inv-loop μ-loop
+unfolding rejectionNumber networkOf
+returns c = rejected (c .before .before .before .args .r) _ VerdictStands (stands _ _ _ (c .before .before .before .pre .0) (c .before .before .before .pre .1) (c .if1 .taken))
 
 returns-2 : tie.Need-returns-2 Inv-loop μ-loop
 unfolding rejectionNumber
 returns-2 c =
     rejected (c .before .before .before .before .args .r) _ EmptyChannel
-    (finds-none _ _ _ (c .before .before .before .before .pre .0) (c .before .before .before .before .pre .1) (c .before .before .before .if1 .left) (c .before .before .channel-at .result) (c .before .before .channel-at .ensures .0) (c .if2 .taken))
+    (finds-none _ _ _ (c .before .before .before .before .pre .0) (c .before .before .before .before .pre .1) (c .before .if1 .left) (c .before .before .before .channel-at .result) (c .before .before .before .channel-at .ensures .0) (c .if2 .taken))
 
 element-copy-out-head : tie.Need-element-copy-out-head Inv-loop μ-loop
 element-copy-out-head c = search needs
@@ -222,9 +222,9 @@ deliver-in-shape-spec =
     (tie.spec
     Inv-loop
     μ-loop
-    returns
     channel-at-requires
     element-copy-out-count
+    returns
     returns-2
     element-copy-out-head
     place-at-requires
