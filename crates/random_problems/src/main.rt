@@ -1,0 +1,148 @@
+// Tries the dock on random sheets. Each sheet must be refused with the number that a second reading gives, or accepted. On those accepted the run's
+// word and random lists of deliveries are held to an exhaustive search: at rest the slots obey all bans, and at the verdict no choice of slots does.
+// Every failure is printed with its sheet; at the end stands how many of each kind were tried.
+mod choices;
+mod drafts;
+mod draws;
+mod printing;
+mod rails;
+mod reading;
+mod tallies;
+
+use choices::settles;
+use choices::solvable;
+use drafts::drawn;
+use draws::next;
+use draws::pick;
+use network::Ending;
+use rails::at_rest;
+use rails::listed;
+use rails::taken;
+use reading::fault;
+use shape::Network;
+use tallies::AT_REST;
+use tallies::AT_VERDICT;
+use tallies::CUT_SHORT;
+use tallies::DELIVERIES;
+use tallies::JAMMED;
+use tallies::NONES;
+use tallies::OPEN;
+use tallies::PLANS;
+use tallies::REFUSALS;
+use tallies::SHEETS;
+use tallies::Tally;
+use tallies::judged;
+use tallies::report;
+use tallies::with_more;
+use tallies::with_one;
+
+// The rounds that a run may use: 1,000, or one time in eight up to seven.
+fn allowed(state: u64) -> u64 {
+    if pick(state, 8) == 0 {
+        pick(next(state), 8) as u64
+    } else {
+        1000
+    }
+}
+
+// How a run ended: right where a plan settles the sheet, and where the search finds nothing for `none`. A rail from a start is never faulty.
+fn ended(t: Tally, e: Ending, settled: bool, found: bool, s: &[u8]) -> Tally {
+    match e {
+        Ending::Plan => judged(t, PLANS, settled, b"a plan that breaks a ban:", s),
+        Ending::None => judged(t, NONES, !found, b"none, where there is a plan:", s),
+        Ending::Jammed => with_one(t, JAMMED),
+        Ending::Open => with_one(t, OPEN),
+        Ending::Faulty => judged(t, OPEN, false, b"a faulty run:", s),
+        Ending::Broken => judged(t, OPEN, false, b"a start out of shape:", s),
+    }
+}
+
+fn with_run(t: Tally, rail: Network, state: u64, found: bool, s: &[u8]) -> Tally {
+    let out = network::run(rail, allowed(state));
+    let after = out.network;
+    let ending = out.ending;
+    ended(t, ending, settles(s, taken(after)), found, s)
+}
+
+// Where a list of deliveries has come to.
+fn list_ended(t: Tally, rail: Network, found: bool, s: &[u8]) -> Tally {
+    if rail.verdict {
+        return judged(
+            t,
+            AT_VERDICT,
+            !found,
+            b"a verdict, where there is a plan:",
+            s,
+        );
+    }
+    if at_rest(rail) {
+        return judged(
+            t,
+            AT_REST,
+            settles(s, taken(rail)),
+            b"a rest that breaks a ban:",
+            s,
+        );
+    }
+    with_one(t, CUT_SHORT)
+}
+
+fn with_list(t: Tally, rail: Network, state: u64, found: bool, s: &[u8]) -> Tally {
+    let l = listed(rail, state, 200);
+    let after = l.rail;
+    let t = with_more(with_more(t, DELIVERIES, l.accepted), REFUSALS, l.refused);
+    let t = list_ended(t, after, found, s);
+    if l.wrong == 0 {
+        return t;
+    }
+    judged(t, 15, false, b"a delivery with a wrong number:", s)
+}
+
+// A sheet, which is refused with the right number, or whose rail is run and delivered on.
+fn with_sheet(t: Tally, state: u64, s: &[u8]) -> Tally {
+    let out = opening::start(s);
+    let rail = out.network;
+    let number = fault(s);
+    let t = judged(
+        t,
+        SHEETS,
+        out.number == number,
+        b"a sheet that is not refused as it must be:",
+        s,
+    );
+    if number != 0 {
+        return with_one(t, number as usize);
+    }
+    let found = solvable(s);
+    with_list(
+        with_run(t, rail, state, found, s),
+        rail,
+        next(state),
+        found,
+        s,
+    )
+}
+
+fn with_bytes(t: Tally, state: u64, bytes: &[u8], length: usize) -> Tally {
+    if length <= bytes.len() {
+        return with_sheet(t, state, &bytes[..length]);
+    }
+    t
+}
+
+// So many sheets, from a fixed seed.
+fn tried(sheets: usize) -> Tally {
+    let mut t = Tally { of: [0u64; 15] };
+    let mut state: u64 = 20030139;
+    for k in 0..sheets {
+        let d = drawn(state);
+        let bytes = d.bytes;
+        state = d.state;
+        t = with_bytes(t, state, &bytes, d.length);
+    }
+    t
+}
+
+fn main() {
+    report(tried(10000));
+}

@@ -1,0 +1,209 @@
+// The checks: what a line finds on the rail of the case under hand, and what it must find.
+ghost use Prim.Native.Nat.{_<_};
+use crate::kinds::DELIVER;
+use crate::kinds::LINE;
+use crate::kinds::REFUSED;
+use crate::kinds::RUN;
+use crate::kinds::SAME;
+use crate::kinds::START;
+use crate::kinds::TAKEN;
+use crate::lines::Numbers;
+use crate::lines::small;
+use crate::printing::put;
+use crate::printing::put_ending;
+use crate::rails::same_rail;
+use crate::sheets::Sheet;
+use network::Ending;
+use opening::Started;
+use shape::Network;
+
+// What a line finds: a number, whether all else is as the line says, and the rail after it.
+pub struct Found {
+    pub rail: Network,
+    pub number: u64,
+    pub right: bool,
+}
+
+// ---- the start
+
+// The start of the sheet that is the first n bytes.
+fn start_on(bytes: &[u8], n: usize) -> Started {
+    if n <= bytes.len() {
+        return opening::start(&bytes[..n]);
+    }
+    opening::start(bytes)
+}
+
+// A refused sheet gives the empty rail.
+fn started(s: Sheet) -> Found {
+    let bytes = s.bytes;
+    let out = start_on(&bytes, s.length);
+    let rail = out.network;
+    let number = out.number;
+    if number == 0 {
+        return Found {
+            rail,
+            number: 0,
+            right: true,
+        };
+    }
+    Found {
+        rail,
+        number: number as u64,
+        right: same_rail(rail, shape::empty()),
+    }
+}
+
+// ---- run and delivery
+
+// The first letter of the word for how a run ended.
+fn initial(e: Ending) -> u8 {
+    match e {
+        Ending::None => b'n',
+        Ending::Plan => b'p',
+        Ending::Jammed => b'j',
+        Ending::Faulty => b'f',
+        Ending::Open => b'o',
+        Ending::Broken => b' ',
+    }
+}
+
+// The line names the word, behind `run`; where it names another one, the word that came is printed.
+fn ended(e: Ending, line: &[u8]) -> bool {
+    if 4 < line.len() {
+        if line[4] == initial(e) {
+            return true;
+        }
+    }
+    put(b"the run's word is ");
+    put_ending(e);
+    put(b"\n");
+    false
+}
+
+// The rounds that a line allows: its second number, or 100,000.
+fn allowed(n: Numbers) -> u64 {
+    if n.count == 1 { 100000 } else { n.values[1] }
+}
+
+fn ran(rail: Network, n: Numbers, line: &[u8]) -> Found {
+    let out = network::run(rail, allowed(n));
+    let after = out.network;
+    let ending = out.ending;
+    Found {
+        rail: after,
+        number: out.rounds,
+        right: ended(ending, line),
+    }
+}
+
+fn delivered(rail: Network, n: Numbers) -> Found {
+    let out = network::deliver(rail, small(n, 0), small(n, 1));
+    let after = out.network;
+    Found {
+        rail: after,
+        number: out.number as u64,
+        right: true,
+    }
+}
+
+// ---- looking
+
+// Scanner k + 1 has the slot that the line gives, or there is no such scanner and asking is refused.
+fn slot_right(rail: Network, n: Numbers, k: usize) -> bool
+    requires { ⌜ k < 12 ⌝ }
+{
+    let a = opening::value(rail, k as u8 + 1);
+    if k < n.count {
+        return a.number == 0 && a.value as u64 == n.values[k];
+    }
+    a.number == 6 && a.value == 0
+}
+
+// The first scanner whose slot is not right, and 0 where all are.
+fn first_wrong(rail: Network, n: Numbers) -> u64 {
+    for k in 0..12 {
+        if !slot_right(rail, n, k) {
+            return k as u64 + 1;
+        }
+    }
+    0
+}
+
+// The number of the line between two scanners; 132 where there is none.
+fn line_between(from: u8, to: u8) -> usize {
+    if from == 0 {
+        return 132;
+    }
+    if 12 < from {
+        return 132;
+    }
+    if to == 0 {
+        return 132;
+    }
+    if 12 < to {
+        return 132;
+    }
+    let row = 11 * (from as usize - 1);
+    if to < from {
+        return row + (to as usize - 1);
+    }
+    if from < to {
+        return row + (to as usize - 2);
+    }
+    132
+}
+
+// How many messages wait on the line that a line of the text names.
+fn waiting(rail: Network, n: Numbers) -> u64 {
+    let c = line_between(small(n, 0), small(n, 1));
+    if c < 132 {
+        return rail.counts[c] as u64;
+    }
+    0
+}
+
+fn looked(rail: Network, kept: Network, kind: usize, n: Numbers) -> u64 {
+    match kind {
+        TAKEN => first_wrong(rail, n),
+        LINE => waiting(rail, n),
+        SAME => same_rail(rail, kept) as u64,
+        _ => 0,
+    }
+}
+
+// ---- all of them
+
+// What a line finds. A line that checks nothing leaves the rail as it is.
+pub fn tried(
+    rail: Network,
+    kept: Network,
+    s: Sheet,
+    kind: usize,
+    n: Numbers,
+    line: &[u8],
+) -> Found {
+    match kind {
+        START => started(s),
+        REFUSED => started(s),
+        RUN => ran(rail, n, line),
+        DELIVER => delivered(rail, n),
+        _ => Found {
+            rail,
+            number: looked(rail, kept, kind, n),
+            right: true,
+        },
+    }
+}
+
+// The number that the line must find.
+pub fn expected(kind: usize, n: Numbers) -> u64 {
+    match kind {
+        SAME => 1,
+        REFUSED => n.values[0],
+        RUN => n.values[0],
+        DELIVER => n.values[2],
+        LINE => n.values[2],
+        _ => 0,
+    }
+}

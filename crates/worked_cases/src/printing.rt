@@ -1,0 +1,26 @@
+// Printing, on standard output.
+use libc::STDOUT_FILENO;
+use network::Ending;
+use words::word_for;
+
+pub fn put(s: &[u8]) {
+    io::write_all(STDOUT_FILENO, s);
+}
+
+pub fn put_number(n: u64) {
+    io::print_decimal(STDOUT_FILENO, n);
+}
+
+// A line: what stands before the number, and the number.
+pub fn put_line(before: &[u8], n: u64) {
+    put(before);
+    put_number(n);
+    put(b"\n");
+}
+
+pub fn put_ending(e: Ending) {
+    let w = word_for(e);
+    let letters = w.letters;
+    let n = w.length;
+    put(&letters[..n]);
+}
