@@ -1,0 +1,81 @@
+-- The call that the word says is made; a word that says none leaves the network. Assumes nothing.
+use mathlib.Core.Path.{_≡_, refl, sym, _∙_}
+use borrow.Enum.Known.{lives-at}
+use Rattle.board.specs.declared.calls.Call.the-variants.{Unknown}
+use Rattle.board.specs.Calling.{afterCall}
+use Rattle.board.proofs.calls.Call as Call
+use borrow.Author.Needs.{needs}
+use Rattle.board.proofs.call.Statement.{statement}
+use Rattle.board.proofs.call.Tie as tie
+
+read-call-requires : tie.Need-read-call-requires
+read-call-requires c κs = search needs
+
+enum-known-from : tie.Need-enum-known-from
+enum-known-from c = search needs
+
+deliver-requires : tie.Need-deliver-requires
+deliver-requires c κs = search needs
+
+enum-known-rounds : tie.Need-enum-known-rounds
+enum-known-rounds c = search needs
+
+run-requires : tie.Need-run-requires
+run-requires c κs = search needs
+
+enum-told : tie.Need-enum-told
+enum-told c = search needs
+
+slice-aggregate-put : tie.Need-slice-aggregate-put
+slice-aggregate-put c = search needs
+
+put-requires : tie.Need-put-requires
+put-requires c κs = search needs
+
+put-requires-2 : tie.Need-put-requires-2
+put-requires-2 c κs = search needs
+
+slice-aggregate-put-2 : tie.Need-slice-aggregate-put-2
+slice-aggregate-put-2 c = search needs
+
+put-requires-3 : tie.Need-put-requires-3
+put-requires-3 c κs = search needs
+
+returns : tie.Need-returns
+unfolding afterCall
+returns c =
+    let e = sym (c .before .before .before .before .read-call .ensures) ∙ c .before .before .from .given .1 in
+    rw e (c .deliver .ensures)
+
+returns-2 : tie.Need-returns-2
+unfolding afterCall
+returns-2 c =
+    let e = sym (c .before .before .before .before .read-call .ensures) ∙ c .before .before .rounds .given .1 in
+    rw e (c .run .ensures)
+
+returns-3 : tie.Need-returns-3
+unfolding afterCall
+returns-3 c =
+    let m = c .before .before .before .before .before .before in
+    let u : m .before .read-call .result ≡ Unknown = lives-at Call.enum _ 2 (m .match .keys3) .1 in
+    let e = sym (m .before .read-call .ensures) ∙ u in
+    rw e refl
+
+pub call-spec : {M : Type 1} → statement M
+call-spec =
+    tie.close
+    (tie.spec
+    read-call-requires
+    enum-known-from
+    deliver-requires
+    enum-known-rounds
+    run-requires
+    enum-told
+    slice-aggregate-put
+    put-requires
+    put-requires-2
+    slice-aggregate-put-2
+    put-requires-3
+    returns
+    returns-2
+    returns-3)

@@ -1,0 +1,176 @@
+// The text of the board: each scanner with its view, whom it informs and its reasons; then the lines that hold something.
+ghost use Prim.Native.Nat.{_<_};
+use crate::put;
+use crate::put_line;
+use crate::put_number;
+use agent::Agent;
+use agent::Lhs;
+use agent::Message;
+use shape::Network;
+
+// ---- left sides and sets
+
+// Scanner k of 1 to 16, and its value.
+fn put_pair(k: u64, value: u64) {
+    put(b" ");
+    put_number(k);
+    put(b"=");
+    put_number(value);
+}
+
+// The scanners that a left side names, with their values.
+fn put_lhs(l: Lhs) {
+    if l.digits == 0 {
+        put(b" nothing");
+        return;
+    }
+    for k in 0..16 {
+        let value = (l.digits >> (4 * k)) % 16;
+        if value != 0 {
+            put_pair(k + 1, value);
+        }
+    }
+}
+
+// The scanners listened to, with their values, `?` where they are unknown.
+fn put_view(listens: u16, view: Lhs) {
+    if listens == 0 {
+        return;
+    }
+    put(b"  view");
+    for k in 0..16 {
+        if (listens >> k) % 2 == 1 {
+            let value = (view.digits >> (4 * k)) % 16;
+            if value == 0 {
+                put(b" ");
+                put_number(k + 1);
+                put(b"=?");
+            } else {
+                put_pair(k + 1, value);
+            }
+        }
+    }
+    put(b"\n");
+}
+
+fn put_informs(informs: u16) {
+    if informs == 0 {
+        return;
+    }
+    put(b"  informs");
+    for k in 0..16 {
+        if (informs >> k) % 2 == 1 {
+            put(b" ");
+            put_number(k + 1);
+        }
+    }
+    put(b"\n");
+}
+
+// ---- scanners
+
+fn put_reasons(a: Agent) {
+    for v in 0..8 {
+        let g = a.nogoods[v];
+        if g.stored {
+            put(b"  reason ");
+            put_number(v as u64 + 1);
+            put(b":");
+            put_lhs(g.lhs);
+            put(b"\n");
+        }
+    }
+}
+
+fn put_agent(number: u64, a: Agent) {
+    put(b"scanner ");
+    put_number(number);
+    if a.value == 0 {
+        put(b" slot -\n");
+    } else {
+        put_line(b" slot ", a.value as u64);
+    }
+    put_view(a.listens, a.view);
+    put_informs(a.informs);
+    put_reasons(a);
+}
+
+// ---- lines
+
+fn put_message(m: Message) {
+    match m {
+        Message::Info(value) => {
+            put(b"news ");
+            put_number(value as u64);
+        }
+        Message::Back(lhs, value) => {
+            put(b"refusal ");
+            put_number(value as u64);
+            put(b":");
+            put_lhs(lhs);
+        }
+        Message::AddLink => put(b"link"),
+    }
+}
+
+// The message that stands k places behind the head of line l.
+fn put_waiting(r: Network, l: usize, k: usize)
+    requires { ⌜ (l < 132) × (k < 8) ⌝ }
+{
+    if 0 < k {
+        put(b", ");
+    }
+    let head = (r.heads[l] % 8) as usize;
+    let p = r.places[8 * l + (head + k) % 8];
+    let m = p.message;
+    put_message(m);
+}
+
+// The line that has this number, by sender, then receiver: its messages from the head on.
+fn put_channel(r: Network, l: usize)
+    requires { ⌜ l < 132 ⌝ }
+{
+    let from = l / 11 + 1;
+    let other = l % 11 + 1;
+    let to = if other < from { other } else { other + 1 };
+    put(b"line ");
+    put_number(from as u64);
+    put(b" to ");
+    put_number(to as u64);
+    put(b": ");
+    let count = r.counts[l];
+    for k in 0..8 {
+        if k < count {
+            put_waiting(r, l, k as usize);
+        }
+    }
+    put(b"\n");
+}
+
+// ---- the board
+
+fn put_agents(r: Network) {
+    for i in 0..12 {
+        if i < r.count as usize {
+            let a = r.agents[i];
+            put_agent(i as u64 + 1, a);
+        }
+    }
+}
+
+fn put_channels(r: Network) {
+    for l in 0..132 {
+        let count = r.counts[l];
+        if 0 < count {
+            put_channel(r, l);
+        }
+    }
+}
+
+pub fn put_board(r: Network) {
+    if r.verdict {
+        put(b"verdict none\n");
+    }
+    put_agents(r);
+    put_channels(r);
+}

@@ -1,0 +1,101 @@
+// Reads a sheet on standard input, has the scanners settle it and prints what they come to.
+ghost use Rattle.dock.specs.Settling.{Settles};
+use libc::STDIN_FILENO;
+use libc::STDOUT_FILENO;
+use network::Ending;
+use network::Ran;
+use shape::Network;
+use words::word_for;
+
+// What a sheet comes to: the number of its fault, or 0 and the run on its start.
+struct Settled {
+    number: u8,
+    ran: Ran,
+}
+
+// The start of a sheet, and the run on it with 100,000 rounds.
+fn settle(sheet: &[u8]) -> Settled
+    ensures { λ s. ⌜ Settles (now (sheet .entry)) s ⌝ }
+{
+    let started = opening::start(sheet);
+    let network = started.network;
+    if started.number != 0 {
+        let ran = Ran {
+            network: network,
+            rounds: 0,
+            ending: Ending::Broken,
+        };
+        return Settled {
+            number: started.number,
+            ran: ran,
+        };
+    }
+    let ran = network::run(network, 100000);
+    Settled {
+        number: 0,
+        ran: ran,
+    }
+}
+
+// ---- printing
+
+fn put(s: &[u8]) {
+    io::write_all(STDOUT_FILENO, s);
+}
+
+fn put_number(n: u64) {
+    io::print_decimal(STDOUT_FILENO, n);
+}
+
+// A line: what stands before the number, and the number.
+fn put_line(before: &[u8], n: u64) {
+    put(before);
+    put_number(n);
+    put(b"\n");
+}
+
+fn put_ending(e: Ending) {
+    let w = word_for(e);
+    let letters = w.letters;
+    let n = w.length;
+    put(&letters[..n]);
+}
+
+// A line for scanner i, where there is one.
+fn put_agent(r: Network, i: u8) {
+    if r.count < i {
+        return;
+    }
+    put(b"scanner ");
+    put_number(i as u64);
+    put_line(b" slot ", opening::value(r, i).value as u64);
+}
+
+// A line for each scanner.
+fn put_plan(r: Network) {
+    for i in 1..=12 {
+        put_agent(r, i);
+    }
+}
+
+fn put_settled(s: Settled) {
+    if s.number != 0 {
+        put_line(b"sheet refused ", s.number as u64);
+        return;
+    }
+    let ran = s.ran;
+    let ending = ran.ending;
+    put(b"verdict ");
+    put_ending(ending);
+    put_line(b"\nrounds ", ran.rounds);
+    if let Ending::Plan = ending {
+        put_plan(ran.network);
+    }
+}
+
+// One byte beyond the longest sheet tells that the input is too long.
+fn main() {
+    let mut sheet = [0u8; 33817];
+    let n = io::read_full(STDIN_FILENO, &mut sheet);
+    put_settled(settle(&sheet[..n]));
+}
