@@ -72,7 +72,7 @@ fn both(work: impl Fn(&mut dyn Side) -> u64) -> Times {
 
 fn row(what: &str, times: Times, parts: usize) {
     let each = times.each(parts);
-    println!("{what:<58} {:>12} {:>12} {:>7.2}", time(each.plain), time(each.proved), times.ratio());
+    println!("{what:<58} {:>12} {:>12} {:>7.3}", time(each.plain), time(each.proved), times.ratio());
 }
 
 /// A whole run, and the same for each delivery.
