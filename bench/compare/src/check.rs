@@ -1,0 +1,97 @@
+//! Both sides give the same answers: through the entries, and as the programs print.
+
+use std::io::Write;
+use std::path::Path;
+use std::process::{Command, Stdio};
+
+use plain::random::Random;
+use plain::PROGRAM_ROUNDS;
+
+use crate::sheets;
+use crate::sides::{Plain, Proved, Side};
+
+/// Gives the number of answers compared, or what differs.
+pub fn entries(measured: &[(String, Vec<u8>)]) -> Result<usize, String> {
+    let mut compared = Compared { proved: Proved, plain: Plain::new(), count: 0 };
+    for (name, sheet) in measured {
+        compared.on(name, sheet)?;
+        for word in 0..67 {
+            compared.same(name, |side| side.decode(sheet, word))?;
+        }
+        for channel in 0..133 {
+            compared.same(name, |side| side.start(sheet, channel))?;
+        }
+        let calls = sheets::calls(sheet, 500);
+        compared.same(name, |side| side.deliver(sheet, &calls))?;
+    }
+    let mut random = Random::new(11);
+    let small = sheets::random(4_000, 5, 4, 20, 21);
+    let mixed = sheets::random(1_000, 12, 8, 10, 22);
+    for (number, sheet) in small.iter().chain(&mixed).enumerate() {
+        let name = format!("random sheet {number}");
+        compared.on(&name, sheet)?;
+        let (word, channel) = (random.below(66), random.below(132));
+        compared.same(&name, |side| side.decode(sheet, word))?;
+        compared.same(&name, |side| side.start(sheet, channel))?;
+        // Any numbers, so that most calls are refused.
+        let calls: Vec<u8> = (0..120).map(|_| random.below(7) as u8).collect();
+        compared.same(&name, |side| side.deliver(sheet, &calls))?;
+    }
+    Ok(compared.count)
+}
+
+struct Compared {
+    proved: Proved,
+    plain: Plain,
+    count: usize,
+}
+
+impl Compared {
+    fn on(&mut self, name: &str, sheet: &[u8]) -> Result<(), String> {
+        for rounds in [0, 1, 2, 5, 37, 1_000, PROGRAM_ROUNDS] {
+            self.same(name, |side| side.settle(sheet, rounds))?;
+        }
+        Ok(())
+    }
+
+    fn same(&mut self, name: &str, ask: impl Fn(&mut dyn Side) -> u64) -> Result<(), String> {
+        let (proved, plain) = (ask(&mut self.proved), ask(&mut self.plain));
+        self.count += 1;
+        if proved == plain {
+            Ok(())
+        } else {
+            Err(format!("{name}: the proved side answers {proved:#x}, the plain one {plain:#x}"))
+        }
+    }
+}
+
+/// Gives the number of sheets on which both programs print the same, or what differs.
+pub fn programs(proved: &Path, plain: &Path, measured: &[(String, Vec<u8>)]) -> Result<usize, String> {
+    let mut count = 0;
+    let mut random = sheets::random(1_000, 5, 4, 20, 31);
+    random.extend(sheets::random(1_000, 12, 8, 20, 32));
+    // Longer than the longest sheet.
+    random.extend([vec![1; 200_000], [sheets::longest(), vec![0; 8]].concat(), vec![]]);
+    let random = random.iter().enumerate().map(|(number, sheet)| (format!("random sheet {number}"), sheet));
+    let measured = measured.iter().map(|(name, sheet)| (name.clone(), sheet));
+    for (name, sheet) in measured.chain(random) {
+        let (one, other) = (prints(proved, sheet)?, prints(plain, sheet)?);
+        if one != other {
+            return Err(format!("{name}: the proved program prints\n{one}and the plain one\n{other}"));
+        }
+        count += 1;
+    }
+    Ok(count)
+}
+
+fn prints(program: &Path, sheet: &[u8]) -> Result<String, String> {
+    let fault = |error: std::io::Error| format!("{}: {error}", program.display());
+    let mut child =
+        Command::new(program).stdin(Stdio::piped()).stdout(Stdio::piped()).spawn().map_err(fault)?;
+    if let Some(mut input) = child.stdin.take() {
+        // The program may stop reading early.
+        let _ = input.write_all(sheet);
+    }
+    let output = child.wait_with_output().map_err(fault)?;
+    Ok(String::from_utf8_lossy(&output.stdout).into_owned())
+}

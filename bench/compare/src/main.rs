@@ -1,0 +1,116 @@
+//! `compare PROVED PLAIN`: the proved libraries beside the plain one. First both have to give the
+//! same answers, and the two programs `dock`, whose paths are given, to print the same; then both
+//! are timed, alternately, and the medians printed.
+
+mod check;
+mod sheets;
+mod sides;
+mod timing;
+
+use std::fs::File;
+use std::hint::black_box;
+use std::path::{Path, PathBuf};
+use std::process::{Command, Stdio};
+
+use plain::PROGRAM_ROUNDS;
+
+use crate::sides::{Plain, Proved, Side};
+use crate::timing::{alternately, Clock, Times};
+
+fn main() -> Result<(), String> {
+    let words: Vec<PathBuf> = std::env::args_os().skip(1).map(PathBuf::from).collect();
+    let [proved, plain] = words.as_slice() else {
+        return Err("usage: compare PROVED PLAIN, two programs `dock`".to_string());
+    };
+    let deep: Vec<_> = (1..=5).map(|k| (format!("deep {k}"), sheets::deep(k))).collect();
+    let open: Vec<_> = (7..=12).map(|n| (format!("open {n}"), sheets::open(n))).collect();
+    let longest = ("longest".to_string(), sheets::longest());
+    let measured: Vec<_> = deep.iter().chain(&open).chain([&longest]).cloned().collect();
+
+    println!("same answers: {} of the libraries' entries", check::entries(&measured)?);
+    println!("same output: {} sheets, by the programs", check::programs(proved, plain, &measured)?);
+
+    let long = &open[open.len() - 1].1;
+    println!("\n{:<58} {:>12} {:>12} {:>7}", "what, and for each", "Rust", "ours", "ratio");
+    run_row("long run, 12 scanners, 8 slots, 100,000 rounds", long);
+    run_row("deepest search that ends, 73,855 rounds", &deep[deep.len() - 1].1);
+    bulk_row("small sheets in bulk", &sheets::random(20_000, 5, 4, 20, 7));
+    row("decoding alone, 4,224 records", both(|side| side.decode(&longest.1, black_box(65))), 1);
+    row("decoding and start of the long run's sheet", both(|side| side.start(long, black_box(0))), 1);
+    delivery_row("a delivery by the public entry, 12 scanners", long);
+    delivery_row("a delivery by the public entry, 6 scanners", &deep[deep.len() - 1].1);
+    program_row("the program on the long run's sheet", plain, proved, long)?;
+
+    println!("\ngrowth with n, 100,000 rounds of eight slots each");
+    for (n, (_, sheet)) in (7..).zip(&open) {
+        run_row(&format!("  {n} scanners"), sheet);
+    }
+    println!("\ngrowth with rounds");
+    for rounds in [100, 1_000, 10_000, 100_000] {
+        let times = both(|side| side.settle(long, rounds));
+        row(&format!("  long run's sheet, {rounds} rounds, a round"), times, rounds as usize);
+    }
+    for (k, (_, sheet)) in (1..).zip(&deep) {
+        run_row(&format!("  deep search of {} scanners", k + 1), sheet);
+    }
+    Ok(())
+}
+
+/// Both sides at the same work.
+fn both(work: impl Fn(&mut dyn Side) -> u64) -> Times {
+    let (mut plain, mut proved) = (Plain::new(), Proved);
+    alternately(
+        Clock::Thread,
+        || {
+            black_box(work(&mut plain));
+        },
+        || {
+            black_box(work(&mut proved));
+        },
+    )
+}
+
+fn row(what: &str, times: Times, parts: usize) {
+    let each = times.each(parts);
+    println!("{what:<58} {:>12} {:>12} {:>7.3}", time(each.plain), time(each.proved), times.ratio());
+}
+
+/// A whole run, and the same for each delivery.
+fn run_row(what: &str, sheet: &[u8]) {
+    let times = both(|side| side.settle(sheet, black_box(PROGRAM_ROUNDS)));
+    let deliveries = sheets::deliveries(sheet, PROGRAM_ROUNDS);
+    row(what, times, 1);
+    row(&format!("    each of {deliveries} deliveries"), times, deliveries);
+}
+
+fn bulk_row(what: &str, sheets: &[Vec<u8>]) {
+    let times = both(|side| sheets.iter().fold(0, |sum, sheet| sum ^ side.settle(sheet, PROGRAM_ROUNDS)));
+    row(&format!("{what}, a sheet"), times, sheets.len());
+}
+
+fn delivery_row(what: &str, sheet: &[u8]) {
+    let calls = sheets::calls(sheet, 4_000);
+    row(what, both(|side| side.deliver(sheet, &calls)), calls.len() / 2);
+}
+
+fn program_row(what: &str, plain: &Path, proved: &Path, sheet: &[u8]) -> Result<(), String> {
+    let file = std::env::temp_dir().join(format!("bench-{}.sheet", std::process::id()));
+    std::fs::write(&file, sheet).map_err(|error| error.to_string())?;
+    let run = |program: &Path| {
+        let input = File::open(&file).expect("the sheet just written");
+        let status = Command::new(program).stdin(input).stdout(Stdio::null()).status();
+        assert!(status.is_ok_and(|status| status.success()), "{} failed", program.display());
+    };
+    row(what, alternately(Clock::Wall, || run(plain), || run(proved)), 1);
+    std::fs::remove_file(&file).map_err(|error| error.to_string())
+}
+
+fn time(nanoseconds: f64) -> String {
+    if nanoseconds < 1e3 {
+        format!("{nanoseconds:.1} ns")
+    } else if nanoseconds < 1e6 {
+        format!("{:.2} µs", nanoseconds / 1e3)
+    } else {
+        format!("{:.2} ms", nanoseconds / 1e6)
+    }
+}

@@ -1,0 +1,150 @@
+//! The two sides, each with the same four entries: the proved libraries behind `bench_entry`, and
+//! the plain one.
+
+use plain::{Network, Problem, Word};
+
+/// One side. What each entry gives is said at `crates/bench_entry/src/lib.rt`.
+pub trait Side {
+    /// Decoding alone.
+    fn decode(&mut self, sheet: &[u8], word: usize) -> u64;
+    /// Decoding and the start.
+    fn start(&mut self, sheet: &[u8], channel: usize) -> u64;
+    /// Decoding, the start and a run.
+    fn settle(&mut self, sheet: &[u8], rounds: u64) -> u64;
+    /// Decoding, the start and deliveries through the public entry.
+    fn deliver(&mut self, sheet: &[u8], calls: &[u8]) -> u64;
+}
+
+mod entry {
+    // A byte slice is passed as its address and its length.
+    extern "C" {
+        pub fn bench_entry_decode(sheet: *const u8, length: usize, word: usize) -> u64;
+        pub fn bench_entry_start(sheet: *const u8, length: usize, channel: usize) -> u64;
+        pub fn bench_entry_settle(sheet: *const u8, length: usize, rounds: u64) -> u64;
+        pub fn bench_entry_deliver(sheet: *const u8, length: usize, calls: *const u8, bytes: usize) -> u64;
+    }
+}
+
+/// The proved libraries.
+pub struct Proved;
+
+// Each call lends slices that live through it, and the entries have no `requires`.
+impl Side for Proved {
+    fn decode(&mut self, sheet: &[u8], word: usize) -> u64 {
+        unsafe { entry::bench_entry_decode(sheet.as_ptr(), sheet.len(), word) }
+    }
+
+    fn start(&mut self, sheet: &[u8], channel: usize) -> u64 {
+        unsafe { entry::bench_entry_start(sheet.as_ptr(), sheet.len(), channel) }
+    }
+
+    fn settle(&mut self, sheet: &[u8], rounds: u64) -> u64 {
+        unsafe { entry::bench_entry_settle(sheet.as_ptr(), sheet.len(), rounds) }
+    }
+
+    fn deliver(&mut self, sheet: &[u8], calls: &[u8]) -> u64 {
+        unsafe { entry::bench_entry_deliver(sheet.as_ptr(), sheet.len(), calls.as_ptr(), calls.len()) }
+    }
+}
+
+/// The plain library. It keeps a problem and a network and uses them again.
+pub struct Plain {
+    problem: Problem,
+    network: Network,
+}
+
+impl Plain {
+    pub fn new() -> Plain {
+        Plain { problem: Problem::EMPTY, network: Network::EMPTY }
+    }
+}
+
+impl Side for Plain {
+    #[inline(never)]
+    fn decode(&mut self, sheet: &[u8], word: usize) -> u64 {
+        match self.problem.decode_over(sheet) {
+            Ok(()) if word < 66 => {
+                let (lower, higher) = pair(word);
+                self.problem.bans_between(lower, higher)
+            }
+            Ok(()) => 0,
+            Err(rejection) => u64::from(rejection.number()),
+        }
+    }
+
+    #[inline(never)]
+    fn start(&mut self, sheet: &[u8], channel: usize) -> u64 {
+        if let Err(rejection) = self.problem.decode_over(sheet) {
+            return u64::from(rejection.number());
+        }
+        self.network.restart(&self.problem);
+        if channel < 132 {
+            let (from, to) = (channel / 11, channel % 11);
+            self.network.waiting(from, to + usize::from(to >= from)) as u64
+        } else {
+            0
+        }
+    }
+
+    #[inline(never)]
+    fn settle(&mut self, sheet: &[u8], rounds: u64) -> u64 {
+        if let Err(rejection) = self.problem.decode_over(sheet) {
+            return 8 + u64::from(rejection.number());
+        }
+        self.network.restart(&self.problem);
+        let (ending, rounds) = match self.network.run(rounds) {
+            Ok(run) => (ending_number(run.word), run.rounds),
+            Err(_) => (5, 0),
+        };
+        let mut values = 0;
+        for agent in self.network.agents() {
+            values = values * 8 + u64::from(agent.value().unwrap_or(0) % 8);
+        }
+        values <<= 3 * (12 - self.network.n());
+        (values << 20 | rounds) << 4 | ending
+    }
+
+    #[inline(never)]
+    fn deliver(&mut self, sheet: &[u8], calls: &[u8]) -> u64 {
+        let refused = match self.problem.decode_over(sheet) {
+            Ok(()) => {
+                self.network.restart(&self.problem);
+                0
+            }
+            Err(rejection) => {
+                self.network = Network::EMPTY;
+                rejection.number()
+            }
+        };
+        let mut sum = u64::from(refused);
+        let mut add = |number: u8| sum = (sum & 0xffff_ffff) * 31 + u64::from(number);
+        for call in calls.chunks_exact(2) {
+            add(self.network.deliver(call[0], call[1]).map_or_else(|rejection| rejection.number(), |()| 0));
+        }
+        for agent in 0..=12 {
+            add(self.network.value(agent).unwrap_or(0));
+        }
+        sum
+    }
+}
+
+/// The two agents of a word of the ban table, counted from 0.
+fn pair(word: usize) -> (usize, usize) {
+    let mut before = 0;
+    let mut higher = 1;
+    while word >= before + higher {
+        before += higher;
+        higher += 1;
+    }
+    (word - before, higher)
+}
+
+fn ending_number(word: Word) -> u64 {
+    match word {
+        Word::None => 0,
+        Word::Plan => 1,
+        Word::Jammed => 2,
+        Word::Faulty => 3,
+        Word::Open => 4,
+    }
+}

@@ -1,0 +1,222 @@
+//! One agent (scanner): its record and its rules, in place.
+
+use crate::assignment::{AgentSet, Assignment, MAX_DOMAIN};
+use crate::channel::{Channels, Full, Message};
+use crate::problem::{bit, row, BanRow};
+
+/// The record of an agent (scanner), with its domain and bans.
+#[derive(Clone, Copy)]
+pub struct Agent {
+    /// Its value (slot), 0 for none.
+    pub(crate) value: u8,
+    /// Own values that have a nogood, bit v - 1 for value v.
+    pub(crate) stored: u8,
+    /// All own values, as such a mask.
+    pub(crate) values: u8,
+    /// The agents above it that it listens to.
+    pub(crate) listens: AgentSet,
+    /// The agents below it that it informs.
+    pub(crate) informs: AgentSet,
+    /// The view: a value or unknown for each agent it listens to.
+    pub(crate) view: Assignment,
+    /// The nogood (stored reason) of each own value: an lhs. It counts where `stored` says so.
+    pub(crate) nogoods: [Assignment; MAX_DOMAIN],
+    /// Derived from the view and the bans: byte k holds the own values banned against the
+    /// known value of agent k.
+    pub(crate) banned: [u64; 2],
+    /// The bans that name it together with an agent above.
+    pub(crate) bans: BanRow,
+}
+
+/// Did a verdict fall?
+#[derive(Clone, Copy, PartialEq, Eq)]
+pub(crate) enum Step {
+    Settled,
+    Verdict,
+}
+
+/// The lowest bit of each byte.
+const LOWEST: u64 = 0x0101_0101_0101_0101;
+
+impl Agent {
+    /// No value, no links, nothing known.
+    pub(crate) const BLANK: Agent = Agent {
+        value: 0,
+        stored: 0,
+        values: 0,
+        listens: AgentSet::EMPTY,
+        informs: AgentSet::EMPTY,
+        view: Assignment::EMPTY,
+        nogoods: [Assignment::EMPTY; MAX_DOMAIN],
+        banned: [0; 2],
+        bans: [0; crate::MAX_AGENTS],
+    };
+
+    /// Its value (slot), if it has one.
+    pub fn value(&self) -> Option<u8> {
+        (self.value != 0).then_some(self.value)
+    }
+
+    /// Is there nothing in the record, and no ban?
+    pub(crate) fn is_blank(&self) -> bool {
+        let words = self.listens.0 | self.informs.0 | self.view.0;
+        self.value | self.stored == 0 && self.bans.iter().fold(words, |all, word| all | word) == 0
+    }
+
+    /// The own values banned against some known value of the view.
+    #[inline(always)]
+    fn banned_values(&self) -> u8 {
+        let x = self.banned[0] | self.banned[1];
+        let x = x | x >> 32;
+        let x = x | x >> 16;
+        (x | x >> 8) as u8
+    }
+
+    /// Is the own value of bit `v` banned against some known value of the view?
+    #[inline(always)]
+    fn is_banned(&self, v: u32) -> bool {
+        (self.banned[0] | self.banned[1]) >> v & LOWEST != 0
+    }
+
+    /// The lowest-numbered agent whose known value bans the own value of bit `v`. Only where
+    /// there is one.
+    #[inline(always)]
+    fn lowest_banning(&self, v: usize) -> usize {
+        let low = self.banned[0] >> v & LOWEST;
+        if low != 0 {
+            low.trailing_zeros() as usize / 8
+        } else {
+            8 + (self.banned[1] >> v & LOWEST).trailing_zeros() as usize / 8
+        }
+    }
+
+    /// Sets the view of one agent, 0 for unknown.
+    #[inline(always)]
+    fn see(&mut self, agent: usize, value: u8) {
+        self.view = self.view.with(agent, value);
+        let word = &mut self.banned[(agent / 8) & 1];
+        let at = 8 * (agent as u32 & 7);
+        *word = *word & !(0xff << at) | u64::from(row(self.bans[agent], value)) << at;
+    }
+
+    /// Drops the nogoods that name an agent.
+    #[inline(always)]
+    fn drop_naming(&mut self, agent: usize) {
+        let mut naming = 0;
+        for (v, nogood) in self.nogoods.iter().enumerate() {
+            naming |= u8::from(nogood.names(agent)) << v;
+        }
+        self.stored &= !naming;
+    }
+
+    /// Takes a message from `sender` and sends what it sends. An AddLink comes only from an
+    /// agent not yet informed.
+    #[inline(always)]
+    pub(crate) fn receive<const CHECKED: bool>(
+        &mut self,
+        sender: usize,
+        message: Message,
+        out: &mut Channels,
+    ) -> Result<Step, Full> {
+        match message {
+            Message::Info { value } => self.info::<CHECKED>(sender, value, out),
+            Message::Back { lhs, refused } => self.back::<CHECKED>(sender, lhs, refused, out),
+            Message::AddLink => {
+                self.informs.add(sender);
+                self.tell::<CHECKED>(sender, out)
+            }
+        }
+    }
+
+    /// Sends its value to one agent.
+    #[inline(always)]
+    fn tell<const CHECKED: bool>(&self, agent: usize, out: &mut Channels) -> Result<Step, Full> {
+        out.send_one::<CHECKED>(agent, Message::Info { value: self.value })?;
+        Ok(Step::Settled)
+    }
+
+    /// News.
+    #[inline(always)]
+    fn info<const CHECKED: bool>(
+        &mut self,
+        sender: usize,
+        value: u8,
+        out: &mut Channels,
+    ) -> Result<Step, Full> {
+        let old = self.view.get(sender);
+        if old != value {
+            self.see(sender, value);
+            // A nogood agrees with the view, so none names an unknown agent.
+            if old != 0 {
+                self.drop_naming(sender);
+            }
+        }
+        if self.is_banned(u32::from(self.value - 1)) {
+            self.choose::<CHECKED>(out)
+        } else {
+            Ok(Step::Settled)
+        }
+    }
+
+    /// Refusal.
+    #[inline(always)]
+    fn back<const CHECKED: bool>(
+        &mut self,
+        sender: usize,
+        lhs: Assignment,
+        refused: u8,
+        out: &mut Channels,
+    ) -> Result<Step, Full> {
+        if refused != self.value {
+            return Ok(Step::Settled);
+        }
+        if !lhs.agrees_on(self.view, self.listens) {
+            return self.tell::<CHECKED>(sender, out);
+        }
+        for agent in lhs.agents().minus(self.listens).iter() {
+            out.send_one::<CHECKED>(agent, Message::AddLink)?;
+            self.listens.add(agent);
+            self.see(agent, lhs.get(agent));
+        }
+        self.nogoods[usize::from(refused - 1) & 7] = lhs;
+        self.stored |= bit(refused);
+        self.choose::<CHECKED>(out)
+    }
+
+    /// Choosing and backing up, until a value is taken or the verdict falls.
+    #[inline(always)]
+    fn choose<const CHECKED: bool>(&mut self, out: &mut Channels) -> Result<Step, Full> {
+        loop {
+            let banned = self.banned_values() & !self.stored;
+            let free = self.values & !self.stored & !banned;
+            // The values below the lowest free one; all where none is free.
+            let tried = self.values & (free.wrapping_sub(1) & !free);
+            let mut blaming = banned & tried;
+            self.stored |= blaming;
+            while blaming != 0 {
+                let v = blaming.trailing_zeros() as usize & 7;
+                self.nogoods[v] = self.view.only(self.lowest_banning(v));
+                blaming &= blaming - 1;
+            }
+            if free != 0 {
+                self.value = free.trailing_zeros() as u8 + 1;
+                out.send::<CHECKED>(self.informs, Message::Info { value: self.value })?;
+                return Ok(Step::Settled);
+            }
+            let mut union = 0;
+            for (v, nogood) in self.nogoods.iter().enumerate() {
+                union |= if self.values >> v & 1 != 0 { nogood.0 } else { 0 };
+            }
+            let union = Assignment(union);
+            if union.is_empty() {
+                self.value = 0;
+                return Ok(Step::Verdict);
+            }
+            let highest = union.highest();
+            let (lhs, refused) = (union.without(highest), union.get(highest));
+            out.send_one::<CHECKED>(highest, Message::Back { lhs, refused })?;
+            self.see(highest, 0);
+            self.drop_naming(highest);
+        }
+    }
+}

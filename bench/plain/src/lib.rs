@@ -1,0 +1,56 @@
+//! Asynchronous Backtracking on a dock rail, by the rules of docs/RULES.md: plain Rust, in
+//! place, std only.
+//!
+//! The field's terms stand for the dock's words: agent (scanner), value (slot), domain (slot
+//! count), network (rail), channel (line), Info (news), Back (refusal), AddLink (link request),
+//! nogood (stored reason), lhs (left side), rejection (the numbers 1 to 10).
+
+mod agent;
+mod assignment;
+mod channel;
+mod network;
+mod problem;
+pub mod random;
+mod shape;
+pub mod sheet;
+
+pub use agent::Agent;
+pub use assignment::{AgentSet, Assignment, MAX_AGENTS, MAX_DOMAIN};
+pub use channel::{Message, CAPACITY};
+pub use network::{Network, Run, Word};
+pub use problem::{Problem, HEADER, MAX_RECORDS, MAX_SHEET, RECORD};
+
+/// Rounds that the program allows.
+pub const PROGRAM_ROUNDS: u64 = 100_000;
+
+/// Why a call comes back.
+#[derive(Clone, Copy, PartialEq, Eq, Debug)]
+#[repr(u8)]
+pub enum Rejection {
+    /// Length under 24, or not 24 + 8m.
+    Length = 1,
+    /// A header byte outside its range, or first index above m.
+    Header = 2,
+    /// A bad record on the chain.
+    Record = 3,
+    /// The chain comes back to a record.
+    Chain = 4,
+    /// The shape is broken.
+    Shape = 5,
+    /// Agent numbers not 1 to n, or equal.
+    Numbers = 6,
+    /// A verdict already stands.
+    Verdict = 7,
+    /// That channel is empty.
+    Empty = 8,
+    /// AddLink from an agent already informed.
+    Linked = 9,
+    /// No room.
+    Room = 10,
+}
+
+impl Rejection {
+    pub fn number(self) -> u8 {
+        self as u8
+    }
+}

@@ -1,0 +1,92 @@
+// The entries by which `bench/` measures the proved libraries from another language: numbers and byte slices only. Each answer takes in all that was
+// worked out, so that nothing of it can be left out.
+ghost use Prim.Native.Nat.{_<_};
+use network::Ending;
+
+// Decoding alone: one word of an accepted sheet's ban table, or the number of the sheet's fault.
+#[no_mangle]
+pub extern "C" fn bench_entry_decode(sheet: &[u8], word: usize) -> u64 {
+    let d = sheet::decode(sheet);
+    if d.number != 0 {
+        return d.number as u64;
+    }
+    let bans = d.problem.bans;
+    if word < 66 {
+        return bans[word];
+    }
+    0
+}
+
+// Decoding and the start: what waits on one channel, or the number of the sheet's fault.
+#[no_mangle]
+pub extern "C" fn bench_entry_start(sheet: &[u8], channel: usize) -> u64 {
+    let started = opening::start(sheet);
+    if started.number != 0 {
+        return started.number as u64;
+    }
+    let counts = started.network.counts;
+    if channel < 132 {
+        return counts[channel] as u64;
+    }
+    0
+}
+
+// How a run ended, as a number: none, plan, jammed, faulty, open, broken.
+fn number_of(e: Ending) -> u64
+    ensures { λ r. ⌜ r < 6 ⌝ }
+{
+    match e {
+        Ending::None => 0,
+        Ending::Plan => 1,
+        Ending::Jammed => 2,
+        Ending::Faulty => 3,
+        Ending::Open => 4,
+        Ending::Broken => 5,
+    }
+}
+
+// Decoding, the start and a run. The low four bits say how it ended, or 8 and the number of the sheet's fault; 20 bits have the rounds made; then the
+// agents' values modulo 8, three bits each, agent 12 lowest.
+#[no_mangle]
+pub extern "C" fn bench_entry_settle(sheet: &[u8], rounds: u64) -> u64 {
+    let started = opening::start(sheet);
+    if started.number != 0 {
+        return 8 + (started.number % 8) as u64;
+    }
+    let network = started.network;
+    let ran = network::run(network, rounds);
+    let ending = ran.ending;
+    let agents = ran.network.agents;
+    let mut values: u64 = 0;
+    let mut k: usize = 0;
+    while k < 12 {
+        let a = agents[k];
+        values = (values % 8589934592) * 8 + (a.value % 8) as u64;
+        k += 1;
+    }
+    ((values % 68719476736) * 1048576 + ran.rounds % 1048576) * 16 + number_of(ending)
+}
+
+// The start and then deliveries, each through the public entry: sender and receiver stand in `calls`, two bytes for each. The answer is made of their
+// numbers and, at the end, of each agent's value.
+#[no_mangle]
+pub extern "C" fn bench_entry_deliver(sheet: &[u8], calls: &[u8]) -> u64 {
+    let started = opening::start(sheet);
+    let mut network = started.network;
+    let mut sum: u64 = started.number as u64;
+    let n = calls.len() / 2;
+    let mut k: usize = 0;
+    while k < n {
+        let d = network::deliver(network, calls[2 * k], calls[2 * k + 1]);
+        network = d.network;
+        sum = (sum % 4294967296) * 31 + d.number as u64;
+        k += 1;
+    }
+    let mut i: u8 = 0;
+    while i < 13 {
+        let asked = opening::value(network, i);
+        sum = (sum % 4294967296) * 31 + asked.value as u64;
+        i += 1;
+    }
+    sum
+}
