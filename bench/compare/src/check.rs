@@ -18,8 +18,8 @@ pub fn entries(measured: &[(String, Vec<u8>)]) -> Result<usize, String> {
         for word in 0..67 {
             compared.same(name, |side| side.decode(sheet, word))?;
         }
-        for channel in 0..133 {
-            compared.same(name, |side| side.start(sheet, channel))?;
+        for sender in 0..13 {
+            compared.same(name, |side| side.start(sheet, sender))?;
         }
         let calls = sheets::calls(sheet, 500);
         compared.same(name, |side| side.deliver(sheet, &calls))?;
@@ -30,9 +30,9 @@ pub fn entries(measured: &[(String, Vec<u8>)]) -> Result<usize, String> {
     for (number, sheet) in small.iter().chain(&mixed).enumerate() {
         let name = format!("random sheet {number}");
         compared.on(&name, sheet)?;
-        let (word, channel) = (random.below(66), random.below(132));
+        let (word, sender) = (random.below(66), random.below(12));
         compared.same(&name, |side| side.decode(sheet, word))?;
-        compared.same(&name, |side| side.start(sheet, channel))?;
+        compared.same(&name, |side| side.start(sheet, sender))?;
         // Any numbers, so that most calls are refused.
         let calls: Vec<u8> = (0..120).map(|_| random.below(7) as u8).collect();
         compared.same(&name, |side| side.deliver(sheet, &calls))?;

@@ -8,7 +8,7 @@ pub trait Side {
     /// Decoding alone.
     fn decode(&mut self, sheet: &[u8], word: usize) -> u64;
     /// Decoding and the start.
-    fn start(&mut self, sheet: &[u8], channel: usize) -> u64;
+    fn start(&mut self, sheet: &[u8], sender: usize) -> u64;
     /// Decoding, the start and a run.
     fn settle(&mut self, sheet: &[u8], rounds: u64) -> u64;
     /// Decoding, the start and deliveries through the public entry.
@@ -19,7 +19,7 @@ mod entry {
     // A byte slice is passed as its address and its length.
     extern "C" {
         pub fn bench_entry_decode(sheet: *const u8, length: usize, word: usize) -> u64;
-        pub fn bench_entry_start(sheet: *const u8, length: usize, channel: usize) -> u64;
+        pub fn bench_entry_start(sheet: *const u8, length: usize, sender: usize) -> u64;
         pub fn bench_entry_settle(sheet: *const u8, length: usize, rounds: u64) -> u64;
         pub fn bench_entry_deliver(sheet: *const u8, length: usize, calls: *const u8, bytes: usize) -> u64;
     }
@@ -34,8 +34,8 @@ impl Side for Proved {
         unsafe { entry::bench_entry_decode(sheet.as_ptr(), sheet.len(), word) }
     }
 
-    fn start(&mut self, sheet: &[u8], channel: usize) -> u64 {
-        unsafe { entry::bench_entry_start(sheet.as_ptr(), sheet.len(), channel) }
+    fn start(&mut self, sheet: &[u8], sender: usize) -> u64 {
+        unsafe { entry::bench_entry_start(sheet.as_ptr(), sheet.len(), sender) }
     }
 
     fn settle(&mut self, sheet: &[u8], rounds: u64) -> u64 {
@@ -73,14 +73,13 @@ impl Side for Plain {
     }
 
     #[inline(never)]
-    fn start(&mut self, sheet: &[u8], channel: usize) -> u64 {
+    fn start(&mut self, sheet: &[u8], sender: usize) -> u64 {
         if let Err(rejection) = self.problem.decode_over(sheet) {
             return u64::from(rejection.number());
         }
         self.network.restart(&self.problem);
-        if channel < 132 {
-            let (from, to) = (channel / 11, channel % 11);
-            self.network.waiting(from, to + usize::from(to >= from)) as u64
+        if sender < 12 {
+            (0..12).fold(0, |row, to| row | (self.network.waiting(sender, to) as u64) << (4 * to))
         } else {
             0
         }

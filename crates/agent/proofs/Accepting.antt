@@ -1,11 +1,12 @@
 -- The record that takes a Back: it listens to those that the left side names, sees them, and stores the reason.
 -- Agent by agent, upward; the agents beyond are not named.
-use Prim.Native.Nat.{ℕ, zero, suc, _+_, _-_, _^_, _<_, _≤_}
+use Prim.Native.Nat.{ℕ, zero, suc, _+_, _*_, _-_, _%_, _^_, _<_, _≤_}
 use mathlib.Core.Path.{_≡_, refl, sym, ap, ap₂, _∙_, fun-ext}
 use mathlib.Core.Logic.{_≢_}
 use mathlib.Core.Bool.{Bool, true, false, not, _&&_, _||_, cond, and-eq-true-iff, or-true, false≢true}
 use mathlib.Core.Option.{some}
 use native.Mathlib.Omega.{arith}
+use lib.Bits.{bitOr}
 use lib.Dec.{eqb, leb}
 use lib.ListN.{length, set}
 use borrow.Author.Tests.{eqb-true, eqb-false, leb-true, leb-false}
@@ -20,14 +21,21 @@ use Rattle.agent.specs.Packed.{assignment, members}
 use Rattle.agent.specs.Abstract.{assigned, agentOf}
 use Rattle.agent.specs.Parts.{Upward}
 use Rattle.agent.specs.declared.Lhs.{Lhs}
-use Rattle.agent.specs.declared.Nogood.{Nogood}
 use Rattle.agent.specs.declared.Agent.{Agent}
 use Rattle.agent.specs.declared.Own.{Own}
 use Rattle.agent.proofs.Digits.{assignment-above}
-use Rattle.agent.proofs.Records.{nogoodsOf, nogoods-set, nogood-stored}
+use Rattle.agent.proofs.Storing.{nogoodsOf, nogoods-stored}
 
 abbrev listening : Agent → ℕ → Lhs → Agent
-listening a listens view = record { value = a .value; listens = listens; informs = a .informs; view = view; nogoods = a .nogoods }
+listening a listens view =
+    record {
+      value = a .value;
+      stored = a .stored;
+      listens = listens;
+      informs = a .informs;
+      view = view;
+      nogoods = a .nogoods;
+    }
 
 -- agent j is as it was, or as the left side has it
 pub record SameAt (a₀ a : Agent) (j : ℕ) : Type 0 where
@@ -106,7 +114,7 @@ module _ (lhs : Assignment) (a₀ a : Agent) (k : ℕ) (h : Heard lhs a₀ k a) 
 abbrev made : (ℕ → Bool) → (ℕ → Bool) → Assignment → Nogoods → Agent′
 made listens informs view nogoods = record { value = 0; listens = listens; informs = informs; view = view; nogoods = nogoods }
 
-module _ (own : Own) (self a : Agent) (lhs : Lhs) (k v : ℕ) (n : Nogood) (small : lhs .digits < 2 ^ 64) (up : Upward own (assigned lhs))
+module _ (own : Own) (self a : Agent) (lhs : Lhs) (k v : ℕ) (small : lhs .digits < 2 ^ 64) (up : Upward own (assigned lhs))
     (h : Heard (assigned lhs) self k a) (end : own .number ≤ k + 1) where
   -- whoever was not visited is not named
   not-named : (j : ℕ) → 1 ≤ j → k < j → known (assigned lhs j) ≡ false
@@ -131,20 +139,31 @@ module _ (own : Own) (self a : Agent) (lhs : Lhs) (k v : ℕ) (n : Nogood) (smal
       ap (λ (b : Bool). b && not (agentOf self .listens (suc j))) (not-named (suc j) (omega arith) g) in
       same-heard (assigned lhs) self a (suc j) q (h .rest (suc j) g))
 
-  stored : 1 ≤ v → v - 1 < length (a .nogoods) → n .stored ≡ true → n .lhs ≡ lhs
-      → nogoodsOf (set (a .nogoods) (v - 1) n) ≡ at (nogoodsOf (self .nogoods)) v (some (assigned lhs))
-  stored l w st e =
+  stored : 1 ≤ v → v ≤ 8 → v - 1 < length (a .nogoods)
+      → nogoodsOf (bitOr (a .stored) (1 * 2 ^ (v - 1) % 2 ^ 8)) (set (a .nogoods) (v - 1) (lhs .digits))
+      ≡ at (nogoodsOf (self .stored) (self .nogoods)) v (some (assigned lhs))
+  unfolding assigned
+  stored l u w =
       let one : suc (v - 1) ≡ v = omega arith in
       let kept : a .nogoods ≡ self .nogoods = ap (λ (x : Agent). x .nogoods) (h .kept) in
-      nogoods-set (a .nogoods) (v - 1) n w ∙ rw (one, kept, nogood-stored n st, e)
+      let mask : a .stored ≡ self .stored = ap (λ (x : Agent). x .stored) (h .kept) in
+      nogoods-stored (a .stored) (a .nogoods) (v - 1) (lhs .digits) (omega arith) w ∙ rw (one, kept, mask)
 
-  pub accepted : 1 ≤ v → v - 1 < length (a .nogoods) → n .stored ≡ true → n .lhs ≡ lhs
-      → agentOf record { value = 0; listens = a .listens; informs = a .informs; view = a .view; nogoods = set (a .nogoods) (v - 1) n }
+  pub accepted : 1 ≤ v → v ≤ 8 → v - 1 < length (a .nogoods)
+      → agentOf record {
+        value = 0;
+        stored = bitOr (a .stored) (1 * 2 ^ (v - 1) % 2 ^ 8);
+        listens = a .listens;
+        informs = a .informs;
+        view = a .view;
+        nogoods = set (a .nogoods) (v - 1) (lhs .digits);
+      }
       ≡ accepting (agentOf self) (assigned lhs) v
   unfolding agentOf accepting nogoodsOf
-  accepted l w st e =
-      ap₂ (λ (f : ℕ → Bool) (g : Assignment). made f (members (a .informs)) g (nogoodsOf (set (a .nogoods) (v - 1) n)))
+  accepted l u w =
+      ap₂ (λ (f : ℕ → Bool) (g : Assignment). made f (members (a .informs)) g
+      (nogoodsOf (bitOr (a .stored) (1 * 2 ^ (v - 1) % 2 ^ 8)) (set (a .nogoods) (v - 1) (lhs .digits))))
       (fun-ext λ j. heard-all j .listens) (fun-ext λ j. heard-all j .view)
       ∙ ap₂ (λ (f : ℕ → Bool) (g : Nogoods). made (accepting (agentOf self) (assigned lhs) v .listens) f
       (accepting (agentOf self) (assigned lhs) v .view) g)
-      (ap (λ (x : Agent). members (x .informs)) (h .kept)) (stored l w st e)
+      (ap (λ (x : Agent). members (x .informs)) (h .kept)) (stored l u w)

@@ -1,10 +1,9 @@
--- A Back that holds leaves a coherent record, and both ways make the step of the rule.
+-- A Back that holds leaves a coherent record.
 -- A named agent that is listened to has its value in the view by the test; another gets it now.
 use Prim.Native.Nat.{ℕ, pred, _<_, _≤_}
 use mathlib.Core.Path.{_≡_, sym, _∙_}
-use mathlib.Core.Bool.{true, false, and-eq-true-iff, and-false}
+use mathlib.Core.Bool.{true, and-eq-true-iff, and-false}
 use mathlib.Core.Option.{some}
-use mathlib.Core.List.{_++_}
 use native.Mathlib.Omega.{arith}
 use lib.Dec.{eqb}
 use borrow.Author.Tests.{eqb-true, eqb-false}
@@ -13,16 +12,10 @@ use Rattle.base.proofs.Tests.{test, within-true}
 use Rattle.base.proofs.Search.{at-same, at-other, allTo-at}
 use Rattle.problem.specs.Problem.{maxDomain}
 use Rattle.agent_rules.specs.Message.{Assignment, known, Back as Back′}
-use Rattle.agent_rules.specs.Agent.{Self, Bans, Agent as Agent′, above}
-use Rattle.agent_rules.specs.Choosing.{checkView}
-use Rattle.agent_rules.specs.Receiving.{matches, holds, unheard, addLinks, accepting, outdated, onBack}
+use Rattle.agent_rules.specs.Agent.{Self, Agent as Agent′, above}
+use Rattle.agent_rules.specs.Receiving.{matches, holds, unheard, accepting}
 use Rattle.agent_rules.specs.Shape.{maxNamed, EachNamed, RecordFits, MessageFits, anyValue}
-use Rattle.agent.specs.Abstract.{sentOf}
-use Rattle.agent.specs.Parts.{Holding, Makes, Agreed, Coherent}
-use Rattle.agent.specs.declared.Outbox.{Outbox}
-use Rattle.agent.specs.declared.Step.{Step}
-use Rattle.agent.proofs.Steps.{makes-after}
-use Rattle.agent.proofs.LeftSides.{addLinks-few}
+use Rattle.agent.specs.Parts.{Agreed, Coherent}
 
 module _ (s : Self) (a : Agent′) (from : ℕ) (lhs : Assignment) (v : ℕ) (fits : RecordFits anyValue s a)
     (message : MessageFits anyValue s a from (Back′ lhs v)) (held : holds s a lhs v ≡ true) where
@@ -74,19 +67,4 @@ module _ (s : Self) (a : Agent′) (from : ℕ) (lhs : Assignment) (v : ℕ) (fi
 
   pub coherent-accepting : Coherent s (accepting a lhs v)
   unfolding accepting
-  coherent-accepting = record { viewed = viewed; agreed = agreed }
-
--- ---- what the code does
-
-module _ (s : Self) (bans : Bans) (a : Agent′) (from : ℕ) (lhs : Assignment) (v : ℕ) where
-  pub back-holds : (r : Step) (links o : Outbox) → above s ≤ 11 → holds s a lhs v ≡ true → Makes r (checkView s bans (accepting a lhs v)) 11
-      → Holding links (addLinks s a lhs) → Holding o (sentOf links ++ sentOf (r .outbox))
-      → Makes record { agent = r .agent; outbox = o; verdict = r .verdict } (onBack s bans a from lhs v) 22
-  unfolding onBack
-  back-holds r links o few e m h g =
-      rw (e, onBack)
-      (makes-after r (checkView s bans (accepting a lhs v)) links o (addLinks s a lhs) 11 11 m h (omega (arith, addLinks-few s a lhs)) g)
-
-  pub back-outdated : (r : Step) → holds s a lhs v ≡ false → Makes r (outdated a from v) 1 → Makes r (onBack s bans a from lhs v) 22
-  unfolding onBack
-  back-outdated r e m = rw (e, onBack) (record { step = m .step; posts = m .posts; few = omega (arith, m .few) })
+  coherent-accepting = record { viewed = viewed; agreed = agreed; downward = fits .downward }

@@ -1,58 +1,36 @@
 -- On an Info the code drops exactly the nogoods that disagree with the changed view, and chooses where the rule does.
 -- The nogoods agreed with the view before, so they can disagree only at the sender.
-use Prim.Native.Nat.{ℕ, zero, suc, pred, _^_, _<_, _≤_}
+use Prim.Native.Nat.{ℕ, zero, suc, pred, _-_, _^_, _<_, _≤_}
 use mathlib.Core.Path.{_≡_, refl, sym, ap, _∙_, fun-ext}
 use mathlib.Core.Logic.{_≢_}
-use mathlib.Core.Bool.{true, false, not, _||_, false≢true}
+use mathlib.Core.Bool.{Bool, true, false, not, _||_, false≢true}
 use mathlib.Core.Option.{Option, none, some}
-use mathlib.Core.List.{List, []}
+use mathlib.Core.List.{List}
 use native.Mathlib.Omega.{arith}
 use lib.Dec.{eqb, leb}
-use lib.ListN.{length, List·getD-eq-default}
-use Rattle.base.proofs.Bits.{bit-above}
+use lib.ListN.{length, getD}
 use borrow.Author.Tests.{eqb-true, eqb-false, eq-eqb, leb-true, leb-false}
-use Rattle.base.specs.Finite.{at, fromOne, isSome}
-use Rattle.base.proofs.Tests.{test, opt, no-some, within-true}
+use Rattle.base.specs.Finite.{at, fromOne, lowest, isSome}
+use Rattle.base.specs.Bits.{bit}
+use Rattle.base.proofs.Tests.{test, no-some, within-true}
 use Rattle.base.proofs.Search.{at-same, at-other, allTo-at, to-allTo}
 use Rattle.problem.specs.Problem.{maxDomain}
 use Rattle.agent_rules.specs.Message.{Assignment, known, Info as Info′}
 use Rattle.agent_rules.specs.Agent.{Self, Nogoods, Agent as Agent′, above, agrees}
-use Rattle.agent_rules.specs.Choosing.{blame, checkView}
+use Rattle.agent_rules.specs.Choosing.{after}
 use Rattle.agent_rules.specs.Receiving.{agreeing, updated, conflicts, onInfo}
 use Rattle.agent_rules.specs.Shape.{maxNamed, RecordFits, MessageFits, anyValue}
-use Rattle.agent.specs.Packed.{members}
-use Rattle.agent.specs.Abstract.{assigned, noNogood, agentOf, selfOf, bansIn}
-use Rattle.agent.specs.Entries.{Able}
-use Rattle.agent.specs.Parts.{numberOf, Holding, Makes, Agreed, Coherent, keeping, seeing}
+use Rattle.agent.specs.Abstract.{assigned, byteOf, agentOf, selfOf, bansIn}
+use Rattle.agent.specs.Entries.{Able, Barring}
+use Rattle.agent.specs.Parts.{barredAt, Agreed, Coherent, keeping, seeing, takenAs, Takes}
 use Rattle.agent.specs.declared.Agent.{Agent}
 use Rattle.agent.specs.declared.Own.{Own}
-use Rattle.agent.specs.declared.Outbox.{Outbox}
-use Rattle.agent.specs.declared.Step.{Step}
-use Rattle.agent.proofs.Records.{nogood-none}
-use Rattle.agent.proofs.Bars.{number-zero}
+use Rattle.agent.specs.declared.Bars.{Bars}
+use Rattle.agent.proofs.Barrings.{conflicting, seen as seen-bytes, barred-at-bits}
+use Rattle.agent.proofs.Posts.{none-in, links-none, news-none}
+use Rattle.agent.proofs.Fits.{member-range, fits-coherent}
+use Rattle.agent.proofs.Records.{nogoods-beyond}
 use Rattle.agent.proofs.Coherence.{coherent-seeing}
-use Rattle.agent.proofs.Steps.{makes-quiet}
-
--- ---- a record in shape
-
--- a set in sixteen bits names the agents 1 to 16
-member-range : (m k : ℕ) → m < 2 ^ 16 → members m k ≡ true → k ≤ 16
-unfolding members fromOne
-member-range m zero h e = omega arith
-member-range m (suc k) h e =
-    test (leb (suc k) 16)
-    (λ t. leb-true (suc k) 16 t)
-    (λ t. absurd (false≢true (sym (bit-above 16 m k h (omega (arith, leb-false (suc k) 16 t))) ∙ e)))
-
-fits-coherent : (s : Self) (a : Agent′) → RecordFits anyValue s a → Coherent s a
-unfolding anyValue
-fits-coherent s a f =
-    record {
-      viewed = λ k lo hi e.
-          let v = f .viewed k lo hi e in
-          (f .upward k lo hi (v .0), within-true maxDomain (a .view k) (v .1) .1);
-      agreed = λ v lhs lo hi e. f .agreed v lhs lo hi e .1;
-    }
 
 -- ---- the nogoods that disagree
 
@@ -89,13 +67,7 @@ module _ (s : Self) (view : Assignment) (few : above s ≤ 16) (from v : ℕ) (l
   kept none f = refl
   kept (some lhs) f = rw (agrees-there lhs (f lhs refl))
 
--- a record of eight nogoods has none beyond them
-nogoods-beyond : (a : Agent) (w : ℕ) → length (a .nogoods) ≡ 8 → 8 < w → agentOf a .nogoods w ≡ none
-unfolding agentOf fromOne noNogood
-nogoods-beyond a zero h l = refl
-nogoods-beyond a (suc w) h l = rw (List·getD-eq-default (a .nogoods) noNogood {n = w} (omega arith)) (nogood-none noNogood refl)
-
-updated-seeing : (s : Self) (a : Agent) (from v : ℕ) → Coherent s (agentOf a) → length (a .nogoods) ≡ 8 → above s ≤ 16 → 1 ≤ from
+updated-seeing : (s : Self) (a : Agent) (from v : ℕ) → Coherent s (agentOf a) → a .stored < 2 ^ 8 → above s ≤ 16 → 1 ≤ from
     → from ≤ above s
     → seeing from v (agentOf a) ≡ updated s (agentOf a) from v
 unfolding seeing updated maxDomain agentOf fromOne
@@ -133,43 +105,69 @@ module _ (own : Own) (words : List ℕ) (self : Agent) (from v : ℕ) (able : Ab
       let r = within-true 8 v (message .2) in
       (message .0, fits .upward from (message .0) (member-range (self .listens) from small (message .1)) (message .1), r .0, r .1)
 
-  module _ (long : length (self .nogoods) ≡ 8) (a : Agent) (e : agentOf a ≡ seeing from v (agentOf self)) where
-    pub coherent : Coherent (selfOf own) (agentOf a)
+  pub valued : (1 ≤ self .value) × (self .value ≤ 8)
+  unfolding agentOf selfOf
+  valued = let r = within-true (own .domain) (self .value) (fits .valued) in (r .0, omega (arith, r .1, able .sized .few))
+
+  -- the bytes after the change
+  pub barring-info : (b b′ : Bars) (barred : ℕ) → Barring (bansIn words) (assigned (self .view)) b
+      → barred ≡ barredAt (getD words (from - 1) 0) v → ((j : ℕ) → 1 ≤ j → j ≤ 16 → byteOf b′ j ≡ at (byteOf b) from barred j)
+      → Barring (bansIn words) (at (assigned (self .view)) from v) b′
+  unfolding maxDomain
+  barring-info b b′ barred barring e changed =
+      let p : from - 1 ≡ pred from = omega (arith, sender .0) in
+      let near : from ≤ length words = omega (arith, sender .1, able .bans) in
+      seen-bytes (bansIn words) (assigned (self .view)) b b′ from v barred barring changed
+      (λ w lo hi. rw (e, p) (barred-at-bits words from v (sender .0) near (sender .3) w lo hi))
+
+  module _ (mask : self .stored < 2 ^ 8) (a : Agent) (e : agentOf a ≡ seeing from v (agentOf self)) where
+    coherent : Coherent (selfOf own) (agentOf a)
     unfolding maxDomain selfOf
     coherent =
         rw e
         (coherent-seeing (selfOf own) (agentOf self) from v (λ k. (sender .1, sender .3)) (fits-coherent (selfOf own) (agentOf self) fits))
 
-    pub valued : (1 ≤ a .value) × (a .value ≤ 8)
-    unfolding agentOf selfOf seeing
-    valued =
-        let r = within-true (own .domain) (self .value) (fits .valued) in
-        let q : a .value ≡ self .value = ap (λ (x : Agent′). x .value) e in
-        (omega (arith, r .0), omega (arith, r .1, able .few))
-
     seen : agentOf a ≡ updated (selfOf own) (agentOf self) from v
     unfolding selfOf above
     seen =
-        let few : pred (own .number) ≤ 16 = omega (arith, able .last) in
+        let few : pred (own .number) ≤ 16 = omega (arith, able .sized .last) in
         let near : from ≤ pred (own .number) = omega (arith, sender .1) in
-        e ∙ updated-seeing (selfOf own) self from v (fits-coherent (selfOf own) (agentOf self) fits) long few (sender .0) near
+        e ∙ updated-seeing (selfOf own) self from v (fits-coherent (selfOf own) (agentOf self) fits) mask few (sender .0) near
 
     -- the own value is barred, or not
-    barred : conflicts (selfOf own) (bansIn words) (at (agentOf self .view) from v) (agentOf self .value)
-        ≡ isSome (blame (selfOf own) (bansIn words) (assigned (a .view)) (a .value))
-    unfolding conflicts updated agentOf
-    barred = sym (ap (λ (x : Agent′). isSome (blame (selfOf own) (bansIn words) (x .view) (x .value))) seen)
+    taken : (b : Bars) (chooses : Bool)
+        → chooses ≡ conflicts (selfOf own) (bansIn words) (at (agentOf self .view) from v) (agentOf self .value)
+        → takenAs (selfOf own) (bansIn words) record { agent = a; bars = b; chooses = chooses; links = 0; told = 0; value = 0 }
+        ≡ onInfo (selfOf own) (bansIn words) (agentOf self) from v
+    unfolding takenAs onInfo after
+    taken b true q = rw (← q, onInfo, ← seen, links-none)
+    taken b false q = rw (← q, onInfo, ← seen, news-none 0)
 
-    pub info-quiet : (o : Outbox) → numberOf (blame (selfOf own) (bansIn words) (assigned (a .view)) (a .value)) ≡ 0 → Holding o []
-        → Makes record { agent = a; outbox = o; verdict = false } (onInfo (selfOf own) (bansIn words) (agentOf self) from v) 11
-    unfolding onInfo isSome blame
-    info-quiet o z h = rw (barred, number-zero _ _ z, onInfo, ← seen) (makes-quiet a o [] 11 h (omega arith))
+    in-view : assigned (a .view) ≡ at (assigned (self .view)) from v
+    unfolding agentOf seeing
+    in-view = ap (λ (x : Agent′). x .view) e
 
-    pub info-chooses : (r : Step) → (numberOf (blame (selfOf own) (bansIn words) (assigned (a .view)) (a .value)) ≡ 0 → ⊥)
-        → Makes r (checkView (selfOf own) (bansIn words) (agentOf a)) 11
-        → Makes r (onInfo (selfOf own) (bansIn words) (agentOf self) from v) 11
-    unfolding onInfo isSome numberOf
-    info-chooses r z m =
-        opt (blame (selfOf own) (bansIn words) (assigned (a .view)) (a .value))
-        (λ q. absurd (z (rw q)))
-        (λ k q. rw (barred, q, onInfo, ← seen) m)
+    -- the mask of all own values that are barred says whether this one is
+    choosing : (b : Bars) (m : ℕ) → Barring (bansIn words) (at (assigned (self .view)) from v) b
+        → ((w : ℕ) → 1 ≤ w → w ≤ 8 → bit m (pred w) ≡ isSome (lowest maxNamed 1 (λ k. bit (byteOf b k) (pred w))))
+        → bit m (self .value - 1) ≡ conflicts (selfOf own) (bansIn words) (at (agentOf self .view) from v) (agentOf self .value)
+    unfolding agentOf selfOf maxDomain
+    choosing b m barring masks =
+        let p : self .value - 1 ≡ pred (self .value) = omega (arith, valued .0) in
+        rw p
+        (conflicting (selfOf own) (bansIn words) (at (assigned (self .view)) from v) b barring (able .sized .first) (able .sized .last)
+        (rw in-view at (coherent .viewed)) m masks (self .value) (valued .0) (valued .1))
+
+    pub takes-info : (b : Bars) (m : ℕ) → Barring (bansIn words) (at (assigned (self .view)) from v) b
+        → ((w : ℕ) → 1 ≤ w → w ≤ 8 → bit m (pred w) ≡ isSome (lowest maxNamed 1 (λ k. bit (byteOf b k) (pred w))))
+        → Takes own (bansIn words)
+        record { agent = a; bars = b; chooses = bit m (self .value - 1); links = 0; told = 0; value = 0 }
+        (onInfo (selfOf own) (bansIn words) (agentOf self) from v)
+    takes-info b m barring masks =
+        record {
+          taken = taken b (bit m (self .value - 1)) (choosing b m barring masks);
+          coherent = coherent;
+          barring = rw in-view barring;
+          links = none-in _;
+          told = none-in _;
+        }

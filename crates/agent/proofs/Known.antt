@@ -1,9 +1,10 @@
 -- A value is known exactly where it is not 0.
 -- Tests turned into bounds and back.
-use Prim.Native.Nat.{ℕ, suc, _≤_}
-use mathlib.Core.Path.{_≡_}
-use mathlib.Core.Bool.{true, false}
+use Prim.Native.Nat.{ℕ, zero, suc, _≤_}
+use mathlib.Core.Path.{_≡_, refl}
+use mathlib.Core.Bool.{true, false, not}
 use native.Mathlib.Omega.{arith}
+use lib.Dec.{eqb, eqb·suc-zero}
 use borrow.Author.Tests.{lt-ltb, ltb-true, ltb-false}
 use Rattle.agent_rules.specs.Message.{known}
 
@@ -22,3 +23,9 @@ known-true v e = ltb-true 0 v e
 pub known-false : (v : ℕ) → known v ≡ false → v ≡ 0
 unfolding known
 known-false v e = omega (arith, ltb-false 0 v e)
+
+-- as the code tests it
+pub unknown : (u : ℕ) → not (known u) ≡ eqb u 0
+unfolding known
+unknown zero = refl
+unknown (suc u) = rw (known-suc u, eqb·suc-zero u)

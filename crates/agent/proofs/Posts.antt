@@ -1,125 +1,94 @@
--- Whatever a step sends goes to another agent of 1 to 12.
--- Rule by rule: Infos go down, AddLinks and Backs up, an answer to the sender.
-use Prim.Native.Nat.{ℕ, zero, suc, pred, _+_, _-_, _<_, _≤_}
-use mathlib.Core.Path.{sym}
-use mathlib.Core.Logic.{_≢_}
-use mathlib.Core.Bool.{Bool}
-use mathlib.Core.List.{List, [], _∷_, map}
-use native.Mathlib.Nat.{not-suc-le-zero, le-of-suc-le-suc}
+-- The same message to each agent of a set, as the rules send it: to nobody, to one agent, to those below or above that the rule names.
+use Prim.Native.Nat.{ℕ, zero, suc, pred, _+_, _-_, _≤_, _<_}
+use mathlib.Core.Path.{_≡_, refl, sym, ap, _∙_}
+use mathlib.Core.Bool.{Bool, true, false, false≢true}
+use mathlib.Core.List.{[], _∷_}
 use native.Mathlib.Omega.{arith}
-use lib.Dec.{eqb}
-use lib.ListN.{length, getD, take}
-use Rattle.base.specs.Finite.{at, highest, gather}
-use Rattle.base.proofs.Tests.{test, opt}
-use Rattle.base.proofs.Search.{highest-some}
-use Rattle.base.proofs.Lists.{All, All-append}
+use Rattle.base.specs.Finite.{at, fromOne}
+use Rattle.base.proofs.Bits.{bit-of-zero}
+use Rattle.base.proofs.Search.{at-same, at-other}
+use Rattle.base.proofs.Tests.{test, eq-test}
 use Rattle.problem.specs.Problem.{maxAgents}
-use Rattle.agent_rules.specs.Message.{Assignment, known, Message as Message′, Info as Info′, Back as Back′, AddLink as AddLink′, Post as Post′}
-use Rattle.agent_rules.specs.Agent.{Self, Bans, Agent as Agent′, Step as Step′, above}
-use Rattle.agent_rules.specs.Choosing.{choice, infoTo, infos, took, union, failed, refusing, after, settle, checkView}
-use Rattle.agent_rules.specs.Receiving.{quiet, answer, updated, conflicts, onInfo, holds, unheard, addLinkTo, addLinks, accepting, outdated, onBack, onAddLink, receive, fresh, begin}
-use Rattle.agent_rules.specs.Shape.{MessageFits, anyValue}
-use Rattle.agent.specs.Abstract.{postOf, selfOf, sentOf}
-use Rattle.agent.specs.Entries.{Able, Addressed, Answers}
-use Rattle.agent.specs.Parts.{Makes}
-use Rattle.agent.specs.declared.Post.{Post}
-use Rattle.agent.specs.declared.Own.{Own}
-use Rattle.agent.specs.declared.Step.{Step}
+use Rattle.agent_rules.specs.Message.{Assignment, Message as Message′, Info as Info′, AddLink as AddLink′}
+use Rattle.agent_rules.specs.Agent.{Self, Agent as Agent′, above}
+use Rattle.agent_rules.specs.Choosing.{infoTo, infos}
+use Rattle.agent_rules.specs.Receiving.{unheard, addLinkTo, addLinks}
+use Rattle.agent_rules.specs.Shape.{maxNamed, EachIn}
+use Rattle.agent.specs.Packed.{members}
+use Rattle.agent.specs.Abstract.{postIf, postsTo, linksTo, newsTo}
+use Rattle.agent.proofs.Gathers.{gather-same, gather-none, gather-one, gather-low, gather-high}
 
-gather-all : {A : Type 0} (P : A → Type 0) (m k : ℕ) (f : ℕ → List A) → ((j : ℕ) → k ≤ j → j < k + m → All P (f j)) → All P (gather m k f)
-unfolding gather
-gather-all P zero k f h = tt
-gather-all P (suc m) k f h =
-    All-append P (f k) (gather m (suc k) f) (h k (omega arith) (omega arith))
-    (gather-all P m (suc k) f (λ j l u. h j (omega arith) (omega arith)))
+pub no-members : (k : ℕ) → members 0 k ≡ false
+unfolding members fromOne
+no-members zero = refl
+no-members (suc k) = bit-of-zero k
 
--- ---- each rule
+-- no agent of the empty set
+pub none-in : (P : ℕ → Type 0) → EachIn (members 0) P
+none-in P k lo hi e = absurd (false≢true (sym (no-members k) ∙ e))
 
--- `s` is the sender
-abbrev To : Self → Post′ → Type 0
-To s p = (1 ≤ p .to) × (p .to ≤ 12) × (p .to ≢ s .number)
+-- the one agent of a set of one
+pub one-in : (P : ℕ → Type 0) (m k : ℕ) → members m ≡ at (members 0) k true → P k → EachIn (members m) P
+one-in P m k e h j lo hi t =
+    eq-test j k
+    (λ q. rw q h)
+    (λ n. absurd (false≢true (sym (no-members j) ∙ sym (at-other (members 0) k true j n) ∙ ap (λ (f : ℕ → Bool). f j) (sym e) ∙ t)))
 
-module _ (s : Self) (first : 1 ≤ s .number) (last : s .number ≤ 12) where
-  infos-to : (a : Agent′) (v : ℕ) → All (To s) (infos s a v)
-  unfolding infos maxAgents infoTo
-  infos-to a v =
-      gather-all (To s) (12 - s .number) (suc (s .number)) (infoTo a v)
-      (λ j l h. test (a .informs j) (λ e. rw (e, infoTo) ((omega arith, omega arith, λ u. omega arith), tt)) (λ e. rw (e, infoTo) tt))
+-- ---- to nobody, to one
 
-  addLinks-to : (a : Agent′) (lhs : Assignment) → All (To s) (addLinks s a lhs)
-  unfolding addLinks addLinkTo above
-  addLinks-to a lhs =
-      gather-all (To s) (pred (s .number)) 1 (addLinkTo a lhs)
-      (λ j l h. test (unheard a lhs j) (λ e. rw (e, addLinkTo) ((l, omega arith, λ u. omega arith), tt)) (λ e. rw (e, addLinkTo) tt))
+posts-none : (m : Message′) → postsTo m (members 0) ≡ []
+unfolding postsTo postIf
+posts-none m = gather-none maxAgents 1 _ (λ j l u. rw (no-members j))
 
-  settle-to : (times : ℕ) (bans : Bans) (a : Agent′) → All (To s) (settle times s bans a .sent)
-  unfolding settle took failed after refusing above
-  settle-to zero bans a = tt
-  settle-to (suc times) bans a =
-      opt (choice s bans a .value)
-      (λ e.
-      opt (highest (above s) (λ k. known (union (s .domain) (choice s bans a .nogoods) k)))
-      (λ f. rw (e, f, settle) tt)
-      (λ k f.
-      let r = highest-some (above s) _ k f in
-      let near : k ≤ pred (s .number) = r .2 in
-      rw (e, f, settle) ((r .1, omega arith, λ u. omega arith), settle-to times bans _)))
-      (λ v e. rw (e, settle) (infos-to a v))
+pub links-none : linksTo 0 ≡ []
+unfolding linksTo
+links-none = posts-none AddLink′
 
-  answer-to : (a : Agent′) (from : ℕ) → s .number < from → from ≤ 12 → All (To s) (answer a from)
-  unfolding answer
-  answer-to a from l h = ((omega arith, h, λ u. omega arith), tt)
+pub news-none : (v : ℕ) → newsTo v 0 ≡ []
+unfolding newsTo
+news-none v = posts-none (Info′ v)
 
-  -- ---- a message, and the start
+pub news-one : (v m k : ℕ) → 1 ≤ k → k ≤ 12 → members m ≡ at (members 0) k true → newsTo v m ≡ record { to = k; message = Info′ v } ∷ []
+unfolding newsTo postsTo postIf maxAgents
+news-one v m k lo hi e =
+    gather-one maxAgents 1 k (λ j. postIf (members m j) (Info′ v) j) lo (omega arith)
+    (λ j n. rw (e, at-other (members 0) k true j n, no-members j))
+    ∙ rw (e, at-same (members 0) k true)
 
-  outdated-to : (a : Agent′) (from v : ℕ) → s .number < from → from ≤ 12 → All (To s) (outdated a from v .sent)
-  unfolding outdated quiet
-  outdated-to a from v l h = test (eqb v (a .value)) (λ e. rw e (answer-to a from l h)) (λ e. rw e tt)
+-- ---- to those informed
 
-  receive-to : (bans : Bans) (a : Agent′) (from : ℕ) (m : Message′) → MessageFits anyValue s a from m
-      → All (To s) (receive s bans a from m .sent)
-  unfolding receive onInfo onBack onAddLink quiet checkView after maxAgents
-  receive-to bans a from (Info′ v) h =
-      test (conflicts s bans (at (a .view) from v) (a .value))
-      (λ e. rw (e, onInfo) (settle-to (s .number) bans (updated s a from v)))
-      (λ e. rw (e, onInfo) tt)
-  receive-to bans a from (Back′ lhs v) h =
-      test (holds s a lhs v)
-      (λ e. rw (e, onBack) (All-append (To s) (addLinks s a lhs) _ (addLinks-to a lhs) (settle-to (s .number) bans (accepting a lhs v))))
-      (λ e. rw (e, onBack) (outdated-to a from v (h .0) (h .1)))
-  receive-to bans a from AddLink′ h = answer-to a from (h .0) (h .1)
+pub news-infos : (s : Self) (a : Agent′) (v m : ℕ) → s .number ≤ 12 → a .informs ≡ members m
+    → EachIn (members m) (λ k. (s .number < k) × (k ≤ maxAgents)) → newsTo v m ≡ infos s a v
+unfolding newsTo postsTo infos maxAgents maxNamed infoTo postIf
+news-infos s a v m last e below =
+    gather-high (s .number) 12 _ last (λ j lo hi. nothing j lo hi) ∙ gather-same (12 - s .number) (suc (s .number)) _ _ (λ j l u. same j)
+  where
+    nothing : (j : ℕ) → 1 ≤ j → j ≤ s .number → postIf (members m j) (Info′ v) j ≡ []
+    nothing j lo hi =
+        test (members m j)
+        (λ t. absurd (omega (arith, below j lo (omega arith) t .0)))
+        (λ t. rw t)
 
-  pub begin-to : (bans : Bans) (listens informs : ℕ → Bool) → All (To s) (begin s bans listens informs .sent)
-  unfolding begin checkView
-  begin-to bans listens informs = settle-to (s .number) bans (fresh listens informs)
+    same : (j : ℕ) → postIf (members m j) (Info′ v) j ≡ infoTo a v j
+    same j = test (members m j) (λ t. rw (e, t, infoTo)) (λ t. rw (e, t, infoTo))
 
--- ---- place by place
+-- ---- to those not listened to
 
-posts-to : (own : Own) (n : ℕ) (l : List Post) → All (To (selfOf own)) (map postOf (take n l)) → (i : ℕ) (d : Post) → i < n
-    → i < length l
-    → Addressed own (getD l i d .to)
-unfolding selfOf postOf
-posts-to own zero l h i d u w = absurd (not-suc-le-zero u)
-posts-to own (suc n) [] h i d u w = absurd (not-suc-le-zero w)
-posts-to own (suc n) (p ∷ ps) h zero d u w = record { first = h .0 .0; last = h .0 .1; other = h .0 .2 }
-posts-to own (suc n) (p ∷ ps) h (suc i) d u w = posts-to own n ps (h .1) i d (le-of-suc-le-suc u) (le-of-suc-le-suc w)
+pub links-asked : (s : Self) (a : Agent′) (lhs : Assignment) (m : ℕ) → 1 ≤ s .number → s .number ≤ 12
+    → EachIn (members m) (λ k. k < s .number) → ((k : ℕ) → 1 ≤ k → k ≤ 16 → members m k ≡ unheard a lhs k)
+    → linksTo m ≡ addLinks s a lhs
+unfolding linksTo postsTo addLinks addLinkTo maxAgents maxNamed above postIf
+links-asked s a lhs m first last up h =
+    gather-low (pred (s .number)) 12 _ (omega arith) (λ j lo hi. nothing j lo hi)
+    ∙ gather-same (pred (s .number)) 1 _ _ (λ j l u. same j l u)
+  where
+    nothing : (j : ℕ) → pred (s .number) < j → j ≤ 12 → postIf (members m j) AddLink′ j ≡ []
+    nothing j lo hi =
+        test (members m j)
+        (λ t. absurd (omega (arith, up j (omega arith) (omega arith) t)))
+        (λ t. rw t)
 
--- ---- what the entries promise
-
-pub answers : (own : Own) (r : Step) (t : Step′) (m : ℕ) → m ≤ 22 → Makes r t m → All (To (selfOf own)) (t .sent) → Answers own r t
-unfolding sentOf
-answers own r t m l g h =
-    let p = g .posts .places in
-    record {
-      step = g .step;
-      few = omega (arith, g .few);
-      places = p;
-      long = sym (g .posts .count);
-      addressed = λ i d u. posts-to own (r .outbox .count) (r .outbox .posts) (rw (← g .posts .sent) at h) i d u (omega (arith, g .few));
-    }
-
-pub received : (own : Own) (words : List ℕ) (bans : Bans) (a : Agent′) (from : ℕ) (m : Message′) (r : Step) (n : ℕ) → Able own words
-    → MessageFits anyValue (selfOf own) a from m → n ≤ 22 → Makes r (receive (selfOf own) bans a from m) n
-    → Answers own r (receive (selfOf own) bans a from m)
-unfolding selfOf
-received own words bans a from m r n able h l g = answers own r _ n l g (receive-to (selfOf own) (able .first) (able .last) bans a from m h)
+    same : (j : ℕ) → 1 ≤ j → j < 1 + pred (s .number) → postIf (members m j) AddLink′ j ≡ addLinkTo a lhs j
+    same j l u =
+        let e = h j l (omega arith) in
+        test (unheard a lhs j) (λ t. rw (e, t, addLinkTo)) (λ t. rw (e, t, addLinkTo))

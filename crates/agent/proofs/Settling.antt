@@ -1,23 +1,24 @@
 -- Backing up, one turn at a time: what the definition does where a value, nobody or an agent to refuse is found.
 -- Whoever is refused was known in the view, so each turn one agent more is unknown.
-use Prim.Native.Nat.{ℕ, zero, suc, _≤_}
+use Prim.Native.Nat.{ℕ, zero, suc, pred, _<_, _≤_}
 use mathlib.Core.Path.{_≡_, refl, sym, ap, _∙_, fun-ext}
 use mathlib.Core.Logic.{_≢_}
-use mathlib.Core.Bool.{true, false, cond}
+use mathlib.Core.Bool.{Bool, true, false, cond}
 use mathlib.Core.Option.{Option, none, some}
 use mathlib.Core.List.{List, [], _∷_, _++_, append-nil, append-assoc}
 use native.Mathlib.Omega.{arith}
 use lib.Dec.{eqb}
 use borrow.Author.Tests.{eqb-true, eqb-false, ne-eqb}
 use Rattle.base.specs.Finite.{at, highest}
-use Rattle.base.proofs.Tests.{test, opt}
+use Rattle.base.proofs.Tests.{test, eq-test, opt}
 use Rattle.base.proofs.Search.{highest-some, at-same, at-other}
 use Rattle.agent_rules.specs.Message.{Assignment, known, Post}
 use Rattle.agent_rules.specs.Agent.{Self, Bans, Nogoods, Agent, Step, above}
 use Rattle.agent_rules.specs.Choosing.{choice, infoTo, infos, chosen, took, union, failed, refusing, dropIf, without, forget, after, settle}
 use Rattle.agent_rules.specs.Receiving.{keepIf}
 use Rattle.agent_rules.specs.Shape.{maxNamed}
-use Rattle.agent.specs.Parts.{numberOf, Coherent, valueOf, Chose, keeping, seeing}
+use Rattle.agent.specs.Abstract.{numberOf}
+use Rattle.agent.specs.Parts.{Coherent, valueOf, Chose, keeping, seeing}
 use Rattle.agent.proofs.Known.{known-true}
 use Rattle.agent.proofs.Unions.{union-agreed}
 
@@ -41,7 +42,7 @@ module _ (times : ℕ) (s : Self) (bans : Bans) (a : Agent) where
   unfolding settle
   settle-back k e f = rw (e, f, settle)
 
-after-after : (ps qs : List Post) (t : Step) → after ps (after qs t) ≡ after (ps ++ qs) t
+pub after-after : (ps qs : List Post) (t : Step) → after ps (after qs t) ≡ after (ps ++ qs) t
 unfolding after
 after-after ps qs t = rw (append-assoc ps qs (t .sent))
 
@@ -120,14 +121,40 @@ whom-some s r k h e =
     (λ n. absurd (h (rw n at e)))
     (λ j f. let z : k ≡ j = rw f at e in rw (f, z))
 
--- the refused agent is known
-pub refused-known : (s : Self) (r : Agent) (k : ℕ) → s .domain ≤ 8 → above s ≤ 16 → Coherent s r → k ≢ 0 → k ≡ numberOf (whom s r)
-    → (1 ≤ k) × (k ≤ above s) × (known (r .view k) ≡ true)
-unfolding maxNamed
-refused-known s r k h u c n e =
-    let f = highest-some (above s) (λ j. known (union (s .domain) (r .nogoods) j)) k (whom-some s r k n e) in
-    let g = union-agreed s r c (s .domain) h k (f .1) (omega (arith, f .2)) (f .0) in
-    (f .1, f .2, rw (← g) (f .0))
+-- nobody else than the agents above is named, so the search can go on to 16
+highest-to : (m n : ℕ) (p : ℕ → Bool) → m ≤ n → ((j : ℕ) → m < j → j ≤ n → p j ≡ false) → highest n p ≡ highest m p
+unfolding highest
+highest-to m zero p h f = let e : m ≡ 0 = omega arith in rw e
+highest-to m (suc n) p h f =
+    eq-test m (suc n)
+    (λ e. rw e)
+    (λ e. rw (f (suc n) (omega (arith, e)) (omega arith), highest) (highest-to m n p (omega (arith, e)) (λ j l u. f j l (omega arith))))
+
+module _ (s : Self) (r : Agent) (c : Coherent s r) (few : s .domain ≤ 8) (first : 1 ≤ s .number) (last : s .number ≤ 12) where
+  -- whom the union names is known in the view, and above
+  pub named-above : (k : ℕ) → 1 ≤ k → k ≤ 16 → known (union (s .domain) (r .nogoods) k) ≡ true
+      → (known (r .view k) ≡ true) × (k < s .number)
+  unfolding maxNamed
+  named-above k l h e =
+      let g : union (s .domain) (r .nogoods) k ≡ r .view k = union-agreed s r c (s .domain) few k l h e in
+      let n : known (r .view k) ≡ true = rw (← g) e in
+      (n, c .viewed k l h n .0)
+
+  pub whom-to : highest maxNamed (λ k. known (union (s .domain) (r .nogoods) k)) ≡ whom s r
+  unfolding maxNamed above
+  whom-to =
+      highest-to (pred (s .number)) 16 (λ k. known (union (s .domain) (r .nogoods) k)) (omega arith)
+      (λ j l u. test (known (union (s .domain) (r .nogoods) j)) (λ t. absurd (omega (arith, named-above j (omega arith) u t .1))) (λ t. t))
+
+  -- the refused agent
+  pub refused-known : (k : ℕ) → k ≢ 0 → k ≡ numberOf (whom s r)
+      → (1 ≤ k) × (k < s .number) × (known (r .view k) ≡ true) × (known (union (s .domain) (r .nogoods) k) ≡ true)
+  unfolding above
+  refused-known k n e =
+      let f = highest-some (above s) (λ j. known (union (s .domain) (r .nogoods) j)) k (whom-some s r k n e) in
+      let u : k ≤ pred (s .number) = f .2 in
+      let g = named-above k (f .1) (omega arith) (f .0) in
+      (f .1, g .1, g .0, f .0)
 
 module _ (times : ℕ) (s : Self) (bans : Bans) (a r : Agent) (ps : List Post) where
   pub turn-took : (v : ℕ) → v ≢ 0 → Chose s bans a v r

@@ -1,44 +1,97 @@
--- The record that an agent starts with means the fresh agent, and is coherent.
--- It names nobody and stores nothing.
-use Prim.Native.Nat.{ℕ, zero, suc}
-use mathlib.Core.Path.{_≡_, refl, ap₂, fun-ext}
-use mathlib.Core.Bool.{Bool, false≢true}
-use mathlib.Core.Option.{none}
+-- The start: an agent that knows nothing takes the lowest value and tells those below, and nothing is barred.
+use Prim.Native.Nat.{ℕ, zero, suc, pred, _^_, _-_, _≤_}
+use mathlib.Core.Path.{_≡_, refl, sym, ap, ap₂, _∙_, fun-ext}
+use mathlib.Core.Bool.{Bool}
+use mathlib.Core.Option.{none, some}
+use mathlib.Core.List.{List}
+use native.Mathlib.Nat.{zero-div}
+use native.Mathlib.Omega.{arith}
 use lib.Dec.{leb}
-use lib.ListN.{replicate, getD-replicate, List·getD-eq-default}
-use borrow.Author.Tests.{leb-true, leb-false}
-use Rattle.base.specs.Finite.{fromOne}
-use Rattle.base.proofs.Tests.{test, no-some}
-use Rattle.agent_rules.specs.Message.{Assignment, known, nobody}
-use Rattle.agent_rules.specs.Agent.{Self, Nogoods, noNogoods}
-use Rattle.agent_rules.specs.Receiving.{fresh}
+use Rattle.base.specs.Finite.{fromOne, lowest}
+use Rattle.base.proofs.Bits.{bit-of-zero}
+use Rattle.base.proofs.Tests.{test}
+use Rattle.agent_rules.specs.Message.{Assignment, known, nobody, Post as Post′}
+use Rattle.agent_rules.specs.Agent.{Self, Bans, Nogoods, noNogoods, above}
+use Rattle.agent_rules.specs.Choosing.{bars, blame, blaming, reasonOf, reason, choose, choice, chosen, took, settle, checkView}
+use Rattle.agent_rules.specs.Receiving.{quiet, fresh, begin}
 use Rattle.agent.specs.Packed.{members}
-use Rattle.agent.specs.Abstract.{assigned, noNogood, agentOf}
-use Rattle.agent.specs.Parts.{Coherent}
+use Rattle.agent.specs.Abstract.{assigned, nogoodAt, agentOf, selfOf, newsTo, byte, byteOf}
+use Rattle.agent.specs.Entries.{Sized, Below, Barring}
+use Rattle.agent.specs.declared.Agent.{Agent}
+use Rattle.agent.specs.declared.Own.{Own}
 use Rattle.agent.proofs.Digits.{nobody-assigned}
-use Rattle.agent.proofs.Records.{nogoodsOf, nogood-none}
+use Rattle.agent.proofs.Posts.{news-infos}
 
-none-stored : nogoodsOf (replicate 8 noNogood) ≡ noNogoods
-unfolding nogoodsOf fromOne noNogoods noNogood
-none-stored = fun-ext λ v. go v
+-- ---- the rule
+
+nobody-lowest : (m k : ℕ) (bans : Bans) (v : ℕ) → lowest m k (bars bans nobody v) ≡ none
+unfolding lowest bars nobody known
+nobody-lowest zero k bans v = refl
+nobody-lowest (suc m) k bans v = nobody-lowest m (suc k) bans v
+
+free-first : (s : Self) (bans : Bans) → reason s bans nobody noNogoods 1 ≡ none
+unfolding reason reasonOf blame blaming noNogoods
+free-first s bans = rw (nobody-lowest (above s) 1 bans 1)
+
+takes-first : (m : ℕ) (s : Self) (bans : Bans) → choose (suc m) 1 s bans nobody noNogoods ≡ record { value = some 1; nogoods = noNogoods }
+unfolding choose
+takes-first m s bans = rw (free-first s bans, choose)
+
+choice-first : (s : Self) (bans : Bans) (listens informs : ℕ → Bool) → 1 ≤ s .domain
+    → choice s bans (fresh listens informs) ≡ record { value = some 1; nogoods = noNogoods }
+unfolding choice fresh
+choice-first s bans listens informs h =
+    let e : s .domain ≡ suc (pred (s .domain)) = omega arith in
+    ap (λ (d : ℕ). choose d 1 s bans nobody noNogoods) e ∙ takes-first (pred (s .domain)) s bans
+
+settles-first : (n : ℕ) (s : Self) (bans : Bans) (listens informs : ℕ → Bool) → 1 ≤ s .domain
+    → settle (suc n) s bans (fresh listens informs) ≡ took s (fresh listens informs) 1 noNogoods
+unfolding settle
+settles-first n s bans listens informs h =
+    let e = choice-first s bans listens informs h in rw (e, settle, e)
+
+begins : (s : Self) (bans : Bans) (listens informs : ℕ → Bool) → 1 ≤ s .number → 1 ≤ s .domain
+    → begin s bans listens informs ≡ took s (fresh listens informs) 1 noNogoods
+unfolding begin checkView
+begins s bans listens informs l h =
+    let e : s .number ≡ suc (pred (s .number)) = omega arith in
+    ap (λ (n : ℕ). settle n s bans (fresh listens informs)) e ∙ settles-first (pred (s .number)) s bans listens informs h
+
+-- ---- the code's record
+
+none-stored : (l : List ℕ) → fromOne none (nogoodAt 0 l) ≡ noNogoods
+unfolding fromOne noNogoods nogoodAt
+none-stored l = fun-ext λ v. go v
   where
-    go : (v : ℕ) → nogoodsOf (replicate 8 noNogood) v ≡ none
+    go : (v : ℕ) → fromOne none (nogoodAt 0 l) v ≡ none
     go zero = refl
-    go (suc j) =
-        test (leb 8 j)
-        (λ t. rw (List·getD-eq-default (replicate 8 noNogood) noNogood {n = j} (leb-true 8 j t)) (nogood-none noNogood refl))
-        (λ t. rw (getD-replicate 8 j noNogood noNogood (leb-false 8 j t)) (nogood-none noNogood refl))
+    go (suc i) = rw (bit-of-zero i, nogoodAt)
 
-pub fresh-agent : (listens informs : ℕ)
-    → agentOf record { value = 0; listens = listens; informs = informs; view = record { digits = 0 }; nogoods = replicate 8 noNogood }
-    ≡ fresh (members listens) (members informs)
-unfolding agentOf fresh assigned nogoodsOf
-fresh-agent listens informs =
+-- it knows nobody and stores nothing
+abbrev first : ℕ → ℕ → List ℕ → Agent
+first listens informs l =
+    record { value = 1; stored = 0; listens = listens; informs = informs; view = record { digits = 0 }; nogoods = l }
+
+pub begins-told : (own : Own) (bans : Bans) (listens informs : ℕ) (l : List ℕ) → Sized own → Below own informs
+    → quiet (agentOf (first listens informs l)) (newsTo 1 informs) ≡ begin (selfOf own) bans (members listens) (members informs)
+unfolding quiet agentOf took chosen fresh assigned selfOf
+begins-told own bans listens informs l sized below =
     ap₂
-    (λ (f : Assignment) (n : Nogoods). record { value = 0; listens = members listens; informs = members informs; view = f; nogoods = n })
-    nobody-assigned none-stored
+    (λ (f : Assignment) (n : Nogoods).
+    quiet record { value = 1; listens = members listens; informs = members informs; view = f; nogoods = n } (newsTo 1 informs))
+    nobody-assigned (none-stored l)
+    ∙ ap (λ (ps : List Post′). quiet (chosen (fresh (members listens) (members informs)) 1 noNogoods) ps)
+    (news-infos (selfOf own) (fresh (members listens) (members informs)) 1 informs (sized .last) refl below)
+    ∙ sym (begins (selfOf own) bans (members listens) (members informs) (sized .first) (sized .some))
 
-pub coherent-fresh : (s : Self) (listens informs : ℕ → Bool) → Coherent s (fresh listens informs)
-unfolding fresh nobody noNogoods known
-coherent-fresh s listens informs =
-    record { viewed = λ k lo hi e. absurd (false≢true e); agreed = λ v lhs lo hi e. no-some e }
+-- nothing barred, as nothing is known
+no-byte : (k : ℕ) → byteOf record { low = 0; high = 0 } k ≡ 0
+unfolding byteOf byte
+no-byte k =
+    test (leb k 8)
+    (λ e. rw (e, byteOf, zero-div (256 ^ pred k)))
+    (λ e. rw (e, byteOf, zero-div (256 ^ (k - 9))))
+
+pub barring-none : (bans : Bans) → Barring bans (assigned record { digits = 0 }) record { low = 0; high = 0 }
+unfolding bars assigned nobody known
+barring-none bans k w lo hi l h = rw (no-byte k, nobody-assigned) (bit-of-zero (pred w))

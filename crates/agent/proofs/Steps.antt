@@ -1,72 +1,83 @@
--- Steps that send what they are given to send, and steps with something sent before.
--- The posts of the one outbox follow those of the other.
-use Prim.Native.Nat.{ℕ, _+_, _≤_}
-use mathlib.Core.Path.{_≡_, ap, _∙_}
+-- Steps that do not choose: what a record that tells a set of agents sends, and what it leaves to do.
+use Prim.Native.Nat.{ℕ, _<_, _≤_}
+use mathlib.Core.Path.{_≡_, ap}
 use mathlib.Core.Bool.{true, false}
-use mathlib.Core.List.{List, [], _∷_, _++_}
+use mathlib.Core.List.{List, _++_}
+use native.Mathlib.Nat.{not-suc-le-zero}
 use native.Mathlib.Omega.{arith}
-use lib.ListN.{length, length-append}
-use lib.Dec.{eqb}
+use lib.ListN.{length}
 use Rattle.base.specs.Finite.{at}
+use Rattle.problem.specs.Problem.{maxAgents}
 use Rattle.agent_rules.specs.Message.{Post as Post′}
-use Rattle.agent_rules.specs.Agent.{Step as Step′}
-use Rattle.agent_rules.specs.Choosing.{after}
-use Rattle.agent_rules.specs.Receiving.{quiet, answer, outdated, informing, onAddLink}
+use Rattle.agent_rules.specs.Agent.{Self, Bans}
+use Rattle.agent_rules.specs.Choosing.{after, checkView}
+use Rattle.agent_rules.specs.Receiving.{quiet, answer}
 use Rattle.agent.specs.Packed.{members}
-use Rattle.agent.specs.Abstract.{messageOf, agentOf, sentOf, stepOf}
-use Rattle.agent.specs.Parts.{postTo, Holding, Makes}
-use Rattle.agent.specs.declared.Message.the-variants.{Info}
+use Rattle.agent.specs.Abstract.{assigned, linksTo, newsTo, backsOf, agentOf, selfOf, sentOf, stepOf}
+use Rattle.agent.specs.Entries.{Below, Barring, Answers}
+use Rattle.agent.specs.Parts.{Coherent, takenAs, Takes}
 use Rattle.agent.specs.declared.Agent.{Agent}
-use Rattle.agent.specs.declared.Outbox.{Outbox}
-use Rattle.agent.specs.declared.Step.{Step}
-use Rattle.agent.proofs.Records.{withInforms}
+use Rattle.agent.specs.declared.Bars.{Bars}
+use Rattle.agent.specs.declared.Own.{Own}
+use Rattle.agent.specs.declared.Taken.{Taken}
+use Rattle.agent.proofs.Posts.{none-in, one-in, links-none, news-one}
 
-pub makes-quiet : (a : Agent) (o : Outbox) (ps : List Post′) (m : ℕ) → Holding o ps → length ps ≤ m
-    → Makes record { agent = a; outbox = o; verdict = false } (quiet (agentOf a) ps) m
-unfolding quiet stepOf
-makes-quiet a o ps m h l =
+pub answers-quiet : (own : Own) (bans : Bans) (a : Agent) (b : Bars) (backs : List ℕ) (told value : ℕ) → length backs ≡ 11
+    → Below own told → Barring bans (assigned (a .view)) b
+    → Answers own bans
     record {
-      step = ap (λ (x : List Post′). record { agent = agentOf a; sent = x; verdict = false }) (h .sent);
-      posts = h;
-      few = omega (arith, h .count);
+      agent = a;
+      bars = b;
+      outbox = record { backs = backs; links = 0; told = told; value = value; count = 0 };
+      verdict = false;
+    }
+    (quiet (agentOf a) (newsTo value told))
+unfolding quiet stepOf sentOf backsOf
+answers-quiet own bans a b backs told value long below barring =
+    record {
+      step = ap (λ (l : List Post′). record { agent = agentOf a; sent = l ++ backsOf 0 backs ++ newsTo value told; verdict = false }) links-none;
+      addressed =
+          record {
+            links = none-in _;
+            told = below;
+            few = omega arith;
+            places = long;
+            backs = λ i h. absurd (not-suc-le-zero h);
+          };
+      barring = barring;
     }
 
--- the own value, told to one agent
-pub holds-answer : (a : Agent) (o r : Outbox) (to : ℕ) → Holding o [] → Holding r (sentOf o ++ (postTo to (Info (a .value)) ∷ []))
-    → Holding r (answer (agentOf a) to)
-unfolding answer agentOf postTo messageOf
-holds-answer a o r to h g = rw (h .sent) at g
-
-pub outdated-own : (a : Agent) (o : Outbox) (from v : ℕ) → eqb v (a .value) ≡ true → Holding o (answer (agentOf a) from)
-    → Makes record { agent = a; outbox = o; verdict = false } (outdated (agentOf a) from v) 1
-unfolding outdated agentOf answer
-outdated-own a o from v e h = rw e (makes-quiet a o (answer (agentOf a) from) 1 h (omega arith))
-
-pub outdated-other : (a : Agent) (o : Outbox) (from v : ℕ) → eqb v (a .value) ≡ false → Holding o []
-    → Makes record { agent = a; outbox = o; verdict = false } (outdated (agentOf a) from v) 1
-unfolding outdated agentOf
-outdated-other a o from v e h = rw e (makes-quiet a o [] 1 h (omega arith))
-
--- what is sent before the rest
-pub makes-after : (r : Step) (t : Step′) (before o : Outbox) (ps : List Post′) (m n : ℕ) → Makes r t m → Holding before ps → length ps ≤ n
-    → Holding o (sentOf before ++ sentOf (r .outbox))
-    → Makes record { agent = r .agent; outbox = o; verdict = r .verdict } (after ps t) (n + m)
-unfolding after stepOf
-makes-after r t before o ps m n g h l f =
-    let k : Holding o (ps ++ t .sent) = rw (h .sent, g .posts .sent) at f in
+-- the same, left to do
+pub takes-quiet : (own : Own) (bans : Bans) (a : Agent) (b : Bars) (told : ℕ) (ps : List Post′) → Coherent (selfOf own) (agentOf a)
+    → Barring bans (assigned (a .view)) b → Below own told → newsTo (a .value) told ≡ ps
+    → Takes own bans record { agent = a; bars = b; chooses = false; links = 0; told = told; value = a .value } (quiet (agentOf a) ps)
+unfolding takenAs
+takes-quiet own bans a b told ps coherent barring below e =
     record {
-      step =
-          ap (λ (x : List Post′). record { agent = agentOf (r .agent); sent = x; verdict = r .verdict }) (k .sent)
-          ∙ ap (λ (x : Step′). record { agent = x .agent; sent = ps ++ t .sent; verdict = x .verdict }) (g .step);
-      posts = k;
-      few = omega (arith, k .count, length-append ps (t .sent), g .posts .count, g .few);
+      taken = ap (λ (l : List Post′). quiet (agentOf a) l) e;
+      coherent = coherent;
+      barring = barring;
+      links = none-in _;
+      told = below;
     }
 
--- one agent more is informed
-pub linked : (a : Agent) (m from : ℕ) (o : Outbox) → members m ≡ at (members (a .informs)) from true → Holding o (answer (agentOf a) from)
-    → Makes record { agent = withInforms a m; outbox = o; verdict = false }
-    (onAddLink (agentOf a) from) 1
-unfolding onAddLink informing agentOf answer
-linked a m from o e h =
-    rw (← e) (makes-quiet (withInforms a m) o
-    (answer (agentOf a) from) 1 h (omega arith))
+-- the own value, told to one agent below
+pub takes-answer : (own : Own) (bans : Bans) (a : Agent) (b : Bars) (told from : ℕ) → own .number < from → from ≤ maxAgents
+    → members told ≡ at (members 0) from true → Coherent (selfOf own) (agentOf a) → Barring bans (assigned (a .view)) b
+    → Takes own bans record { agent = a; bars = b; chooses = false; links = 0; told = told; value = a .value }
+    (quiet (agentOf a) (answer (agentOf a) from))
+unfolding answer agentOf maxAgents
+takes-answer own bans a b told from l h e coherent barring =
+    takes-quiet own bans a b told _ coherent barring (one-in _ told from e (l, h)) (news-one (a .value) told from (omega arith) h e)
+
+-- ---- what is left to do, done
+
+pub chooses-step : (s : Self) (bans : Bans) (t : Taken) → t .chooses ≡ true
+    → takenAs s bans t ≡ after (linksTo (t .links)) (checkView s bans (agentOf (t .agent)))
+unfolding takenAs
+chooses-step s bans t e = rw (e, takenAs)
+
+pub quiet-step : (s : Self) (bans : Bans) (t : Taken) → t .chooses ≡ false
+    → takenAs s bans t ≡ quiet (agentOf (t .agent)) (newsTo (t .value) (t .told))
+unfolding takenAs
+quiet-step s bans t e = rw (e, takenAs)

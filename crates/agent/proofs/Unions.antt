@@ -1,19 +1,22 @@
 -- The join of left sides that agree with the view agrees with it too, value by value as the loop joins them.
 -- Two left sides that agree with one view are compatible, so `|` joins them.
-use Prim.Native.Nat.{ℕ, zero, suc, _+_, _<_, _≤_}
+use Prim.Native.Nat.{ℕ, zero, suc, _+_, _/_, _%_, _^_, _<_, _≤_}
 use mathlib.Core.Path.{_≡_, refl, sym, _∙_, fun-ext}
-use mathlib.Core.Bool.{true, false, false≢true}
+use mathlib.Core.Bool.{false, false≢true}
 use mathlib.Core.Option.{Option, none, some}
 use native.Mathlib.Numerals.{add-one}
 use native.Mathlib.Omega.{arith}
 use lib.ListN.{getD}
+use borrow.Author.Tests.{eq-eqb, ne-eqb}
+use Rattle.base.specs.Bits.{bit}
 use Rattle.base.specs.Finite.{fromOne}
 use Rattle.base.proofs.Tests.{test}
 use Rattle.problem.specs.Problem.{maxDomain}
 use Rattle.agent_rules.specs.Message.{Assignment, known, nobody}
 use Rattle.agent_rules.specs.Agent.{Self, Agent as Agent′}
 use Rattle.agent_rules.specs.Choosing.{join, lhsOf, union}
-use Rattle.agent.specs.Abstract.{assigned, noNogood, agentOf}
+use Rattle.agent.specs.Packed.{assignment}
+use Rattle.agent.specs.Abstract.{assigned, agentOf}
 use Rattle.agent.specs.Parts.{Compatible, Agreed, Coherent}
 use Rattle.agent.specs.declared.Agent.{Agent}
 use Rattle.agent.proofs.Known.{known-false}
@@ -48,17 +51,16 @@ join-nobody l = fun-ext λ k. test (known (l k)) (λ t. rw t) (λ t. rw t (sym (
 
 module _ (s : Self) (a : Agent) (c : Coherent s (agentOf a)) (i : ℕ) (h : i < 8) (whole : Assignment)
     (e : whole ≡ union i (agentOf a .nogoods)) where
-  pub compatible : getD (a .nogoods) i noNogood .stored ≡ true → Compatible whole (assigned (getD (a .nogoods) i noNogood .lhs))
-  unfolding agentOf fromOne maxDomain
+  pub compatible : a .stored / 2 ^ i % 2 ≡ 1 → Compatible whole (assignment (getD (a .nogoods) i 0))
+  unfolding agentOf fromOne maxDomain bit
   compatible t k lo hi p q =
       let one : whole k ≡ assigned (a .view) k = rw e (union-agreed s (agentOf a) c i (omega arith) k lo hi (rw e at p)) in
-      one ∙ sym (c .agreed (suc i) (assigned (getD (a .nogoods) i noNogood .lhs)) (omega arith) h (nogood-stored _ t) k lo hi q)
+      one ∙ sym (c .agreed (suc i) (assignment (getD (a .nogoods) i 0)) (omega arith) h (nogood-stored _ _ i (eq-eqb _ _ t)) k lo hi q)
 
-  pub joined : getD (a .nogoods) i noNogood .stored ≡ true
-      → join whole (assigned (getD (a .nogoods) i noNogood .lhs)) ≡ union (i + 1) (agentOf a .nogoods)
-  unfolding union agentOf fromOne lhsOf
-  joined t = rw (add-one i, e, nogood-stored (getD (a .nogoods) i noNogood) t)
+  pub joined : a .stored / 2 ^ i % 2 ≡ 1 → join whole (assignment (getD (a .nogoods) i 0)) ≡ union (i + 1) (agentOf a .nogoods)
+  unfolding union agentOf fromOne lhsOf bit
+  joined t = rw (add-one i, e, nogood-stored (a .stored) (a .nogoods) i (eq-eqb _ _ t))
 
-  pub passed : getD (a .nogoods) i noNogood .stored ≡ false → whole ≡ union (i + 1) (agentOf a .nogoods)
-  unfolding union agentOf fromOne lhsOf
-  passed t = rw (add-one i, e, nogood-none (getD (a .nogoods) i noNogood) t) (sym (join-nobody _))
+  pub passed : (a .stored / 2 ^ i % 2 ≡ 1 → ⊥) → whole ≡ union (i + 1) (agentOf a .nogoods)
+  unfolding union agentOf fromOne lhsOf bit
+  passed t = rw (add-one i, e, nogood-none (a .stored) (a .nogoods) i (ne-eqb _ _ t)) (sym (join-nobody _))

@@ -3,28 +3,21 @@ use Prim.Native.Nat.{ℕ, zero, suc, pred, _+_, _*_, _-_, _/_, _%_, _^_, _≤_, 
 use mathlib.Core.Path.{_≡_}
 use mathlib.Core.Bool.{Bool, true, false, not, cond, _||_}
 use mathlib.Core.Option.{Option, none, some}
-use mathlib.Core.List.{List}
-use lib.ListN.{length}
 use lib.Dec.{eqb}
-use Rattle.base.specs.Finite.{at, isSome}
+use Rattle.base.specs.Finite.{at, isSome, lowest}
 use Rattle.base.specs.Bits.{bit}
-use Rattle.problem.specs.Problem.{maxDomain}
-use Rattle.agent_rules.specs.Message.{Assignment, known, Post as Post′}
+use Rattle.problem.specs.Problem.{maxAgents, maxDomain}
+use Rattle.agent_rules.specs.Message.{Assignment, known}
 use Rattle.agent_rules.specs.Agent.{Self, Bans, Agent as Agent′, Step as Step′}
-use Rattle.agent_rules.specs.Choosing.{reason, choose, choice, chosen}
-use Rattle.agent_rules.specs.Receiving.{keepIf, conflicts}
-use Rattle.agent_rules.specs.Shape.{maxNamed, EachNamed}
+use Rattle.agent_rules.specs.Choosing.{choose, choice, chosen, after, checkView}
+use Rattle.agent_rules.specs.Receiving.{keepIf, quiet}
+use Rattle.agent_rules.specs.Shape.{maxNamed, EachNamed, EachIn}
 use Rattle.agent.specs.Packed.{members}
-use Rattle.agent.specs.Abstract.{messageOf, sentOf, stepOf}
-use Rattle.agent.specs.declared.Message.{Message}
+use Rattle.agent.specs.Abstract.{assigned, agentOf, selfOf, byteOf, linksTo, newsTo}
+use Rattle.agent.specs.Entries.{Barring, Above, Below}
 use Rattle.agent.specs.declared.Own.{Own}
-use Rattle.agent.specs.declared.Outbox.{Outbox}
-use Rattle.agent.specs.declared.Step.{Step}
-
--- an agent's number, 0 for none
-unfoldable pub numberOf : Option ℕ → ℕ
-numberOf none = 0
-numberOf (some k) = k
+use Rattle.agent.specs.declared.Bars.{Bars}
+use Rattle.agent.specs.declared.Taken.{Taken}
 
 -- two partial assignments have no agent at two values
 abbrev pub Compatible : Assignment → Assignment → Type 0
@@ -34,33 +27,9 @@ Compatible l r = (k : ℕ) → 1 ≤ k → k ≤ maxNamed → known (l k) ≡ tr
 abbrev pub Ranged : ℕ → Assignment → Type 0
 Ranged m view = (k : ℕ) → 1 ≤ k → k ≤ m → view k ≤ maxDomain
 
--- a mask of own values, bit w - 1 for value w, has those that the view bars
-abbrev pub MasksBarred : Self → Bans → Assignment → ℕ → Type 0
-MasksBarred s bans view mask = (w : ℕ) → 1 ≤ w → w ≤ maxDomain → bit mask (pred w) ≡ conflicts s bans view w
-
 -- the own values that an agent with this word of bans bars at value v: one byte of the word. "Unknown scanners ban nothing."
 unfoldable pub barredAt : ℕ → ℕ → ℕ
 barredAt word v = cond (known v) (word / 2 ^ (8 * (v - 1)) % 256) 0
-
--- ---- what is sent
-
-abbrev pub outboxSize : ℕ
-outboxSize = 22
-
-unfoldable pub postTo : ℕ → Message → Post′
-postTo to m = record { to = to; message = messageOf m }
-
--- the outbox holds these posts and no other
-pub record Holding (o : Outbox) (posts : List Post′) : Type 0 where
-  pub sent : sentOf o ≡ posts
-  pub count : o .count ≡ length posts
-  pub places : length (o .posts) ≡ outboxSize
-
--- the code's step is this one, of at most m posts
-pub record Makes (r : Step) (t : Step′) (m : ℕ) : Type 0 where
-  pub step : stepOf r ≡ t
-  pub posts : Holding (r .outbox) (t .sent)
-  pub few : r .outbox .count ≤ m
 
 -- ---- what a step may count on
 
@@ -68,10 +37,11 @@ pub record Makes (r : Step) (t : Step′) (m : ℕ) : Type 0 where
 abbrev pub Agreed : Assignment → Assignment → Type 0
 Agreed view lhs = EachNamed lhs (λ k u. u ≡ view k)
 
--- the view names agents above, at values that there are, and the nogoods agree with it
+-- the view names agents above, at values that there are, the nogoods agree with it, and those informed are below
 pub record Coherent (s : Self) (a : Agent′) : Type 0 where
   pub viewed : EachNamed (a .view) (λ k v. (k < s .number) × (v ≤ maxDomain))
   pub agreed : (v : ℕ) (lhs : Assignment) → 1 ≤ v → v ≤ maxDomain → a .nogoods v ≡ some lhs → Agreed (a .view) lhs
+  pub downward : EachIn (a .informs) (λ k. (s .number < k) × (k ≤ maxAgents))
 
 -- ---- choosing
 
@@ -80,13 +50,18 @@ unfoldable pub maskFrom : (ℕ → Bool) → ℕ → ℕ → ℕ
 maskFrom p v zero = 0
 maskFrom p v (suc n) = maskFrom p (suc v) n * 2 + cond (p v) 1 0
 
--- own value v is left free by bans and nogoods
-unfoldable pub freeOf : Self → Bans → Agent′ → ℕ → Bool
-freeOf s bans a v = not (isSome (reason s bans (a .view) (a .nogoods) v))
+-- own value v has no stored reason, and no byte bars it
+unfoldable pub leftFree : ℕ → Bars → ℕ → Bool
+leftFree stored b v = not (bit stored (pred v) || isSome (lowest maxNamed 1 (λ k. bit (byteOf b k) (pred v))))
 
--- none of the values 1 to m is free
-abbrev pub Tried : Self → Bans → Agent′ → ℕ → Type 0
-Tried s bans a m = (m ≤ s .domain) × ((v : ℕ) → 1 ≤ v → v ≤ m → freeOf s bans a v ≡ false)
+-- none of the values 1 to m is left free
+abbrev pub Barred : ℕ → Bars → ℕ → Type 0
+Barred stored b m = (v : ℕ) → 1 ≤ v → v ≤ m → leftFree stored b v ≡ false
+
+-- r is a with other reasons, all of which agree with the view
+pub record Given (s : Self) (a r : Agent′) : Type 0 where
+  pub rest : r ≡ chosen a (a .value) (r .nogoods)
+  pub coherent : Coherent s r
 
 -- a with the reasons of the values 1 to m is r: from there, choosing has only the values above m left to try
 pub record Reasoned (s : Self) (bans : Bans) (m : ℕ) (a r : Agent′) : Type 0 where
@@ -130,3 +105,20 @@ matching lhs listens view k = not (known (lhs k)) || not (members listens k) || 
 -- a left side names only agents above
 abbrev pub Upward : Own → Assignment → Type 0
 Upward own lhs = EachNamed lhs (λ k u. k < own .number)
+
+-- ---- a message taken in
+
+unfoldable pub takenAs : Self → Bans → Taken → Step′
+takenAs s bans t =
+    elim (t .chooses) [
+      | true ↦ after (linksTo (t .links)) (checkView s bans (agentOf (t .agent)))
+      | false ↦ quiet (agentOf (t .agent)) (newsTo (t .value) (t .told))
+    ]
+
+-- the step that the rules give is what is left to do
+pub record Takes (own : Own) (bans : Bans) (t : Taken) (step : Step′) : Type 0 where
+  pub taken : takenAs (selfOf own) bans t ≡ step
+  pub coherent : Coherent (selfOf own) (agentOf (t .agent))
+  pub barring : Barring bans (assigned (t .agent .view)) (t .bars)
+  pub links : Above own (t .links)
+  pub told : Below own (t .told)

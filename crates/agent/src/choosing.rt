@@ -1,22 +1,22 @@
 // Document 01's rules 'Choosing' and 'Backing up'.
 ghost use mathlib.Core.Path.{_≡_};
-ghost use mathlib.Core.Bool.{true};
-ghost use mathlib.Core.List.{[], _∷_, _++_};
-ghost use Prim.Native.Nat.{_+_, _-_, _≤_, _<_};
-ghost use Rattle.agent_rules.specs.Choosing.{union, infos, checkView};
-ghost use Rattle.agent.specs.Packed.{members};
-ghost use Rattle.agent.specs.Abstract.{assigned, agentOf, selfOf, bansIn, sentOf};
-ghost use Rattle.agent.specs.Entries.{Able};
-ghost use Rattle.agent.specs.Parts.{outboxSize, Coherent, maskFrom, freeOf, Tried, Reasoned, Chose, seeing, Holding, Makes};
+ghost use mathlib.Core.Bool.{not};
+ghost use Prim.Native.Nat.{pred, _+_, _-_, _≤_, _<_};
+ghost use lib.ListN.{getD};
+ghost use Rattle.agent_rules.specs.Agent.{Bans};
+ghost use Rattle.agent_rules.specs.Message.{known};
+ghost use Rattle.agent_rules.specs.Choosing.{union, after, checkView};
+ghost use Rattle.agent.specs.Packed.{assignment};
+ghost use Rattle.agent.specs.Abstract.{assigned, linksTo, agentOf, selfOf};
+ghost use Rattle.agent.specs.Entries.{Sized, Above, Barring, Answers};
+ghost use Rattle.agent.specs.Parts.{Coherent, maskFrom, leftFree, Barred, Given, Reasoned, Chose, seeing};
 use crate::Agent;
+use crate::Bars;
 use crate::Lhs;
-use crate::Message;
-use crate::Nogood;
 use crate::Outbox;
 use crate::Own;
-use crate::Post;
 use crate::Step;
-use crate::packed::has;
+use crate::packed::last_digit;
 
 // What choosing comes to: the value taken, 0 where none is free, and the agent with the reasons given on the way.
 struct Chosen {
@@ -24,82 +24,51 @@ struct Chosen {
     pub agent: Agent,
 }
 
-// Agent k is told of value v where the value was `old`: "news goes to all it informs, even if the slot is the old one".
-fn tells(informs: u16, k: u8, old: u8, v: u8) -> bool
-    requires { ⌜ (1 ≤ k) × (k ≤ 16) ⌝ }
-    ensures { λ r. ⌜ r ≡ members informs k ⌝ }
-{
-    has(informs, k)
-}
-
-impl Nogood {
-    // A stored reason, whatever its left side.
-    pub(crate) fn new(lhs: Lhs) -> Nogood
-        ensures { λ r. ⌜ (r .stored ≡ true) × (r .lhs ≡ lhs) ⌝ }
-    {
-        Nogood {
-            stored: true,
-            lhs: lhs,
-        }
-    }
-}
-
 impl Agent {
     // The mask of the own values left free by bans and nogoods; bit v - 1 is value v.
-    fn free(self, own: Own, bans: &[u64]) -> u8
-        requires { ⌜ Able own (now bans) ⌝ }
-        requires { ⌜ Coherent (selfOf own) (agentOf self) ⌝ }
-        ensures { λ r. ⌜ r ≡ maskFrom (freeOf (selfOf own) (bansIn (now (bans .entry))) (agentOf self)) 1 (own .domain) ⌝ }
+    fn free(self, own: Own, bars: Bars) -> u8
+        requires { ⌜ Sized own ⌝ }
+        ensures { λ r. ⌜ r ≡ maskFrom (leftFree (self .stored) bars) 1 (own .domain) ⌝ }
     {
-        let barred = self.view.barred(own, bans);
-        let mut mask: u8 = 0;
-        let mut i = own.domain as usize;
-        while 0 < i {
-            i -= 1;
-            let g = self.nogoods[i];
-            let taken = g.stored | ((barred >> i) % 2 == 1);
-            mask = mask * 2 + (!taken) as u8;
-        }
-        mask
+        let values = 255u8 >> (8 - own.domain);
+        values & !(self.stored | bars.all())
     }
 
     // The reasons of the own values 1 to `tried`, none of which is free, given upward.
-    fn reasoned(self, own: Own, bans: &[u64], tried: u8) -> Agent
-        requires { ⌜ Able own (now bans) ⌝ }
+    fn reasoned(self, own: Own, bars: Bars, tried: u8) -> Agent
+        requires { ⌜ Sized own ⌝ }
         requires { ⌜ Coherent (selfOf own) (agentOf self) ⌝ }
-        requires { ⌜ Tried (selfOf own) (bansIn (now bans)) (agentOf self) tried ⌝ }
-        ensures { λ r. ⌜ Reasoned (selfOf own) (bansIn (now (bans .entry))) tried (agentOf self) (agentOf r) ⌝ }
+        requires { ⌜ (tried ≤ own .domain) × Barred (self .stored) bars tried ⌝ }
+        ensures { λ r. ⌜ Given (selfOf own) (agentOf self) (agentOf r) × ((bans : Bans) → Barring bans (assigned (self .view)) bars → Reasoned (selfOf own) bans tried (agentOf self) (agentOf r)) ⌝ }
     {
+        let view = self.view;
         let mut a = self;
-        let mut i: usize = 0;
-        while i < tried as usize {
-            let g = a.nogoods[i];
-            if !g.stored {
-                let k = self.view.blame(own, bans, i as u8 + 1);
-                a.nogoods[i] = Nogood::new(self.view.only(k));
-            }
-            i += 1;
+        let mut rest = ((1u16 << tried) - 1) as u8 & !self.stored;
+        a.stored = self.stored | rest;
+        while rest != 0 {
+            let i = u8::trailing_zeros(rest) as u8;
+            a.nogoods[i as usize] = view.only(bars.first(i + 1)).digits;
+            rest = rest - (1u8 << i);
         }
         a
     }
 
     // "The lowest slot still free is taken, those above it are not tried and get no reason."
-    fn choose(self, own: Own, bans: &[u64]) -> Chosen
-        requires { ⌜ Able own (now bans) ⌝ }
+    fn choose(self, own: Own, bars: Bars) -> Chosen
+        requires { ⌜ Sized own ⌝ }
         requires { ⌜ Coherent (selfOf own) (agentOf self) ⌝ }
-        ensures { λ r. ⌜ Chose (selfOf own) (bansIn (now (bans .entry))) (agentOf self) (r .value) (agentOf (r .agent)) ⌝ }
+        ensures { λ r. ⌜ Given (selfOf own) (agentOf self) (agentOf (r .agent)) × ((bans : Bans) → Barring bans (assigned (self .view)) bars → Chose (selfOf own) bans (agentOf self) (r .value) (agentOf (r .agent))) ⌝ }
     {
-        let mask = self.free(own, bans);
-        if mask == 0 {
-            return Chosen {
-                value: 0,
-                agent: self.reasoned(own, bans, own.domain),
-            };
+        let mask = self.free(own, bars);
+        let mut value: u8 = 0;
+        let mut tried = own.domain;
+        if mask != 0 {
+            tried = u8::trailing_zeros(mask) as u8;
+            value = tried + 1;
         }
-        let lowest = u8::trailing_zeros(mask) as u8;
         Chosen {
-            value: lowest + 1,
-            agent: self.reasoned(own, bans, lowest),
+            value: value,
+            agent: self.reasoned(own, bars, tried),
         }
     }
 
@@ -110,92 +79,107 @@ impl Agent {
         ensures { λ r. ⌜ assigned r ≡ union (own .domain) (agentOf self .nogoods) ⌝ }
     {
         let mut whole = Lhs { digits: 0 };
-        let mut i: usize = 0;
-        while i < own.domain as usize {
-            let g = self.nogoods[i];
-            if g.stored {
-                whole = whole.join(g.lhs);
+        let mut i: u8 = 0;
+        while i < own.domain {
+            if (self.stored >> i) % 2 == 1 {
+                let lhs = Lhs {
+                    digits: self.nogoods[i as usize],
+                };
+                whole = whole.join(lhs);
             }
             i += 1;
         }
         whole
     }
 
-    // The view with value v for agent k, 0 for unknown, less the nogoods that name k at another value.
-    pub(crate) fn seeing(self, k: u8, v: u8) -> Agent
+    // The mask of the own values whose nogood does not name agent k; bit v - 1 is value v.
+    fn sparing(self, k: u8) -> u8
+        requires { ⌜ (1 ≤ k) × (k ≤ 16) ⌝ }
+        ensures { λ r. ⌜ r ≡ maskFrom (λ v. not (known (assignment (getD (self .nogoods) (pred v) 0) k))) 1 8 ⌝ }
+    {
+        let mut mask: u8 = 0;
+        let mut i: usize = 8;
+        while 0 < i {
+            i -= 1;
+            let lhs = Lhs {
+                digits: self.nogoods[i],
+            };
+            mask = mask * 2 + (lhs.value_of(k) == 0) as u8;
+        }
+        mask
+    }
+
+    // The view with value v for agent k, 0 for unknown, less the nogoods that name k at another value. What nogoods name has its value in the
+    // view: they can be left alone where that value stays, and where there was none.
+    pub(crate) fn seeing(self, own: Own, k: u8, v: u8) -> Agent
         requires { ⌜ (1 ≤ k) × (k ≤ 16) × (v < 16) ⌝ }
+        requires { ⌜ Coherent (selfOf own) (agentOf self) ⌝ }
         ensures { λ r. ⌜ agentOf r ≡ seeing k v (agentOf self) ⌝ }
     {
+        let old = self.view.value_of(k);
+        if old == v {
+            return self;
+        }
         let mut a = self;
         a.view = self.view.with(k, v);
-        let mut i: usize = 0;
-        while i < 8 {
-            let g = a.nogoods[i];
-            let u = g.lhs.value_of(k);
-            if (u != 0) & (u != v) {
-                a.nogoods[i] = Nogood {
-                    stored: false,
-                    lhs: Lhs { digits: 0 },
-                };
-            }
-            i += 1;
+        if old != 0 {
+            a.stored = self.stored & self.sparing(k);
         }
         a
     }
 
-    // An Info of value v to each agent that it informs, upward.
-    fn inform(self, own: Own, v: u8, out: Outbox) -> Outbox
-        requires { ⌜ (own .number ≤ 12) × (out .count + (12 - own .number) ≤ outboxSize) ⌝ }
-        ensures { λ r. ⌜ Holding r (sentOf out ++ infos (selfOf own) (agentOf self) v) ⌝ }
-    {
-        let mut o = out;
-        let mut k = own.number;
-        while k < 12 {
-            k += 1;
-            if tells(self.informs, k, self.value, v) {
-                let at = o.count;
-                o.posts[at] = Post {
-                    to: k,
-                    message: Message::Info(v),
-                };
-                o.count = at + 1;
-            }
-        }
-        o
-    }
-
-    // Choosing, with backing up: "This repeats until a slot is taken."
-    pub(crate) fn settle(self, own: Own, bans: &[u64]) -> Step
-        requires { ⌜ Able own (now bans) ⌝ }
+    // Choosing, with backing up: "This repeats until a slot is taken." Link requests to the agents of the set `links` are sent before.
+    pub(crate) fn settle(self, own: Own, bars: Bars, links: u16) -> Step
+        requires { ⌜ Sized own ⌝ }
         requires { ⌜ Coherent (selfOf own) (agentOf self) ⌝ }
-        ensures { λ r. ⌜ Makes r (checkView (selfOf own) (bansIn (now (bans .entry))) (agentOf self)) 11 ⌝ }
+        requires { ⌜ Above own links ⌝ }
+        ensures { λ r. ⌜ ((bans : Bans) → Barring bans (assigned (self .view)) bars → Answers own bans r (after (linksTo links) (checkView (selfOf own) bans (agentOf self)))) ⌝ }
     {
         let mut a = self;
-        let mut out = Outbox::new();
+        let mut seen = bars;
+        let mut backs = [0u64; 11];
+        let mut count: u8 = 0;
         loop {
-            let c = a.choose(own, bans);
+            let c = a.choose(own, seen);
             let mut b = c.agent;
             if c.value != 0 {
-                let told = b.inform(own, c.value, out);
                 b.value = c.value;
+                let outbox = Outbox {
+                    backs: backs,
+                    links: links,
+                    told: b.informs,
+                    value: c.value,
+                    count: count,
+                };
                 return Step {
                     agent: b,
-                    outbox: told,
+                    bars: seen,
+                    outbox: outbox,
                     verdict: false,
                 };
             }
             let whole = b.union(own);
-            let k = whole.highest(own.number - 1);
+            let k = last_digit(whole.digits);
             if k == 0 {
                 b.value = 0;
+                let outbox = Outbox {
+                    backs: backs,
+                    links: links,
+                    told: 0,
+                    value: 0,
+                    count: count,
+                };
                 return Step {
                     agent: b,
-                    outbox: out,
+                    bars: seen,
+                    outbox: outbox,
                     verdict: true,
                 };
             }
-            out = out.with(k, Message::Back(whole.with(k, 0), whole.value_of(k)));
-            a = b.seeing(k, 0);
+            backs[count as usize] = whole.digits;
+            count += 1;
+            a = b.seeing(own, k, 0);
+            seen = seen.with(k, 0);
         }
     }
 }

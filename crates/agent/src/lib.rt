@@ -1,15 +1,16 @@
 // An agent (scanner): its record by value, and the three messages.
+ghost use mathlib.Core.Path.{_≡_};
+ghost use Rattle.agent_rules.specs.Agent.{Bans};
 ghost use Rattle.agent_rules.specs.Receiving.{receive, begin};
 ghost use Rattle.agent_rules.specs.Shape.{RecordFits, MessageFits, anyValue};
 ghost use Rattle.agent.specs.Packed.{members};
-ghost use Rattle.agent.specs.Abstract.{messageOf, agentOf, selfOf, bansIn};
-ghost use Rattle.agent.specs.Entries.{Able, Answers};
+ghost use Rattle.agent.specs.Abstract.{assigned, messageOf, agentOf, selfOf, bansIn};
+ghost use Rattle.agent.specs.Entries.{Sized, Able, Below, Barring, Answers};
 
-mod bans;
+mod barring;
 mod choosing;
 pub mod packed;
 mod receiving;
-mod sending;
 
 // A packed partial assignment: digit k - 1 in base 16 is the value of agent k, 0 where it is unknown or not named. A view, or the left side of
 // a nogood.
@@ -17,32 +18,29 @@ pub struct Lhs {
     pub digits: u64,
 }
 
-// A message is exactly one of three: news, refusal, link request.
+// A left side as a message carries it: its twelve digits, four to a word, agents 1 to 4 in `low`.
+pub struct Carried {
+    pub low: u16,
+    pub middle: u16,
+    pub high: u16,
+}
+
+// A message is exactly one of three: news, refusal (the refused value and the left side), link request.
 pub enum Message {
     Info(u8),
-    Back(Lhs, u8),
+    Back(u8, Carried),
     AddLink,
 }
 
-// A message on its way to agent `to`.
-pub struct Post {
-    pub to: u8,
-    pub message: Message,
-}
-
-// The stored reason of one own value. An empty left side is a reason too.
-pub struct Nogood {
-    pub stored: bool,
-    pub lhs: Lhs,
-}
-
-// Bit k - 1 of `listens` and `informs` is agent k; place v - 1 of `nogoods` is own value v.
+// Bit k - 1 of `listens` and `informs` is agent k. Bit v - 1 of `stored` says whether own value v has a stored reason (nogood): the left side
+// whose digits stand at place v - 1 of `nogoods`. An empty left side is a reason too.
 pub struct Agent {
     pub value: u8,
+    pub stored: u8,
     pub listens: u16,
     pub informs: u16,
     pub view: Lhs,
-    pub nogoods: [Nogood; 8],
+    pub nogoods: [u64; 8],
 }
 
 // An agent's number and domain (slot count).
@@ -51,51 +49,79 @@ pub struct Own {
     pub domain: u8,
 }
 
-// What a step sends, in order: the first `count` places.
-pub struct Outbox {
-    pub count: usize,
-    pub posts: [Post; 22],
+// What an agent's view bars, worked out from the view and the bans: bit w - 1 of byte k - 1 says that agent k has a known value that bans own
+// value w. Agents 1 to 8 stand in `low`, 9 to 16 in `high`.
+pub struct Bars {
+    pub low: u64,
+    pub high: u64,
 }
 
-// The agent handed back changed, with what it sends, and whether the verdict "none" fell.
+// What a step sends, in order: link requests to the agents of the set `links`, upward; the Backs; an Info of `value` to the agents of the set
+// `told`, upward. A Back is the whole nogood, packed: it goes to the highest-numbered agent that it names. `count` of them stand in `backs`.
+pub struct Outbox {
+    pub backs: [u64; 11],
+    pub links: u16,
+    pub told: u16,
+    pub value: u8,
+    pub count: u8,
+}
+
+// The agent handed back changed, with what its view bars now, what it sends, and whether the verdict "none" fell.
 pub struct Step {
     pub agent: Agent,
+    pub bars: Bars,
     pub outbox: Outbox,
     pub verdict: bool,
 }
 
+// The agent with a message taken in. Either it has to choose, after link requests to the agents of the set `links`; or it is done, with an Info of
+// `value` to the agents of the set `told`.
+struct Taken {
+    pub agent: Agent,
+    pub bars: Bars,
+    pub chooses: bool,
+    pub links: u16,
+    pub told: u16,
+    pub value: u8,
+}
+
 impl Agent {
     // A message is handed over.
-    pub fn receive(self, own: Own, bans: &[u64], from: u8, m: Message) -> Step
+    pub fn receive(self, own: Own, bans: &[u64], bars: Bars, from: u8, m: Message) -> Step
         requires { ⌜ Able own (now bans) ⌝ }
         requires { ⌜ RecordFits anyValue (selfOf own) (agentOf self) ⌝ }
         requires { ⌜ MessageFits anyValue (selfOf own) (agentOf self) from (messageOf m) ⌝ }
-        ensures { λ r. ⌜ Answers own r (receive (selfOf own) (bansIn (now (bans .entry))) (agentOf self) from (messageOf m)) ⌝ }
+        requires { ⌜ Barring (bansIn (now bans)) (assigned (self .view)) bars ⌝ }
+        ensures { λ r. ⌜ Answers own (bansIn (now (bans .entry))) r (receive (selfOf own) (bansIn (now (bans .entry))) (agentOf self) from (messageOf m)) ⌝ }
     {
-        match m {
-            Message::Info(v) => self.on_info(own, bans, from, v),
-            Message::Back(lhs, v) => self.on_back(own, bans, from, lhs, v),
-            Message::AddLink => self.on_add_link(from),
+        let t = match m {
+            Message::Info(v) => self.on_info(own, bans, bars, from, v),
+            Message::Back(v, lhs) => self.on_back(own, bans, bars, from, lhs.unpack(), v),
+            Message::AddLink => self.on_add_link(own, bars, from),
+        };
+        let a = t.agent;
+        let seen = t.bars;
+        if t.chooses {
+            return a.settle(own, seen, t.links);
         }
+        a.telling(seen, t.told, t.value)
     }
 
-    // The start: "All views are unknown, each scanner chooses."
-    pub fn begin(own: Own, bans: &[u64], listens: u16, informs: u16) -> Step
-        requires { ⌜ Able own (now bans) ⌝ }
-        ensures { λ r. ⌜ Answers own r (begin (selfOf own) (bansIn (now (bans .entry))) (members listens) (members informs)) ⌝ }
+    // The start: "All views are unknown, each scanner chooses." Nothing is known, so nothing is barred and the lowest value is free.
+    pub fn begin(own: Own, listens: u16, informs: u16) -> Step
+        requires { ⌜ Sized own ⌝ }
+        requires { ⌜ Below own informs ⌝ }
+        ensures { λ r. ⌜ ((bans : Bans) → Answers own bans r (begin (selfOf own) bans (members listens) (members informs))) ⌝ }
+        ensures { λ r. ⌜ (r .outbox .links ≡ 0) × (r .outbox .count ≡ 0) ⌝ }
     {
-        let unknown = Lhs { digits: 0 };
-        let none = Nogood {
-            stored: false,
-            lhs: unknown,
-        };
         let a = Agent {
-            value: 0,
+            value: 1,
+            stored: 0,
             listens: listens,
             informs: informs,
-            view: unknown,
-            nogoods: [none; 8],
+            view: Lhs { digits: 0 },
+            nogoods: [0; 8],
         };
-        a.settle(own, bans)
+        a.telling(Bars { low: 0, high: 0 }, informs, 1)
     }
 }

@@ -17,16 +17,16 @@ pub extern "C" fn bench_entry_decode(sheet: &[u8], word: usize) -> u64 {
     0
 }
 
-// Decoding and the start: what waits on one channel, or the number of the sheet's fault.
+// Decoding and the start: what waits on one sender's channels, a digit for each receiver, or the number of the sheet's fault.
 #[no_mangle]
-pub extern "C" fn bench_entry_start(sheet: &[u8], channel: usize) -> u64 {
+pub extern "C" fn bench_entry_start(sheet: &[u8], sender: usize) -> u64 {
     let started = opening::start(sheet);
     if started.number != 0 {
         return started.number as u64;
     }
     let counts = started.network.counts;
-    if channel < 132 {
-        return counts[channel] as u64;
+    if sender < 12 {
+        return counts[sender];
     }
     0
 }

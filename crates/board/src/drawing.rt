@@ -1,12 +1,18 @@
 // The text of the board: each scanner with its view, whom it informs and its reasons; then the lines that hold something.
+ghost use mathlib.Core.Path.{_≡_};
+ghost use mathlib.Core.Bool.{true};
 ghost use Prim.Native.Nat.{_<_};
+ghost use Rattle.shape.specs.Abstract.{isChannel};
 use crate::put;
 use crate::put_line;
 use crate::put_number;
 use agent::Agent;
 use agent::Lhs;
 use agent::Message;
+use agent::packed::digit;
 use shape::Network;
+use shape::places::channel_at;
+use shape::places::place_at;
 
 // ---- left sides and sets
 
@@ -71,12 +77,14 @@ fn put_informs(informs: u16) {
 
 fn put_reasons(a: Agent) {
     for v in 0..8 {
-        let g = a.nogoods[v];
-        if g.stored {
+        if (a.stored >> v) % 2 == 1 {
             put(b"  reason ");
             put_number(v as u64 + 1);
             put(b":");
-            put_lhs(g.lhs);
+            let lhs = Lhs {
+                digits: a.nogoods[v],
+            };
+            put_lhs(lhs);
             put(b"\n");
         }
     }
@@ -103,45 +111,45 @@ fn put_message(m: Message) {
             put(b"news ");
             put_number(value as u64);
         }
-        Message::Back(lhs, value) => {
+        Message::Back(value, lhs) => {
             put(b"refusal ");
             put_number(value as u64);
             put(b":");
-            put_lhs(lhs);
+            put_lhs(lhs.unpack());
         }
         Message::AddLink => put(b"link"),
     }
 }
 
-// The message that stands k places behind the head of line l.
-fn put_waiting(r: Network, l: usize, k: usize)
-    requires { ⌜ (l < 132) × (k < 8) ⌝ }
+// The message that stands k places behind the head of a line.
+fn put_waiting(r: Network, from: u8, to: u8, k: u8)
+    requires { ⌜ (isChannel from to ≡ true) × (k < 8) ⌝ }
 {
     if 0 < k {
         put(b", ");
     }
-    let head = (r.heads[l] % 8) as usize;
-    let p = r.places[8 * l + (head + k) % 8];
+    let head = digit(r.heads[from as usize - 1], to);
+    let p = r.places[place_at(channel_at(from, to), head, k)];
     let m = p.message;
     put_message(m);
 }
 
-// The line that has this number, by sender, then receiver: its messages from the head on.
-fn put_channel(r: Network, l: usize)
-    requires { ⌜ l < 132 ⌝ }
+// A line that holds so many messages, from the head on; an empty one is not drawn.
+fn put_channel(r: Network, from: u8, to: u8)
+    requires { ⌜ isChannel from to ≡ true ⌝ }
 {
-    let from = l / 11 + 1;
-    let other = l % 11 + 1;
-    let to = if other < from { other } else { other + 1 };
+    let count = digit(r.counts[from as usize - 1], to);
+    if count == 0 {
+        return;
+    }
     put(b"line ");
     put_number(from as u64);
     put(b" to ");
     put_number(to as u64);
     put(b": ");
-    let count = r.counts[l];
     for k in 0..8 {
         if k < count {
-            put_waiting(r, l, k as usize);
+            put_waiting(r, from, to, k);
         }
     }
     put(b"\n");
@@ -159,10 +167,11 @@ fn put_agents(r: Network) {
 }
 
 fn put_channels(r: Network) {
-    for l in 0..132 {
-        let count = r.counts[l];
-        if 0 < count {
-            put_channel(r, l);
+    for from in 1..=12 {
+        for to in 1..=12 {
+            if from != to {
+                put_channel(r, from, to);
+            }
         }
     }
 }

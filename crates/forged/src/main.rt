@@ -1,10 +1,11 @@
 // Forged networks, each one change away from a network in shape, and what the test of the shape says of each: a line for each case, with its
 // name and yes or no. A case that is not as it must be says so.
-ghost use Prim.Native.Nat.{_<_};
+ghost use Prim.Native.Nat.{_≤_, _<_};
 use agent::Agent;
+use agent::Carried;
 use agent::Lhs;
 use agent::Message;
-use agent::Nogood;
+use agent::packed::with_digit;
 use shape::Network;
 use shape::Place;
 
@@ -81,33 +82,34 @@ fn viewing(r: Network, i: usize, digits: u64) -> Network
 }
 
 // What agent i + 1 has beside its value k + 1.
-fn keeping(r: Network, i: usize, k: usize, stored: bool, digits: u64) -> Network
+fn keeping(r: Network, i: usize, k: u8, stored: bool, digits: u64) -> Network
     requires { ⌜ (i < 12) × (k < 8) ⌝ }
 {
     let mut a = r.agents[i];
-    let lhs = Lhs { digits: digits };
-    a.nogoods[k] = Nogood {
-        stored: stored,
-        lhs: lhs,
-    };
+    a.nogoods[k as usize] = digits;
+    a.stored = (a.stored & !(1u8 << k)) | ((stored as u8) << k);
     let mut o = r;
     o.agents[i] = a;
     o
 }
 
-fn headed(r: Network, l: usize, head: u8) -> Network
-    requires { ⌜ l < 132 ⌝ }
+// The head of a line.
+fn headed(r: Network, from: u8, to: u8, head: u8) -> Network
+    requires { ⌜ (1 ≤ from) × (from ≤ 12) × (1 ≤ to) × (to ≤ 16) × (head < 16) ⌝ }
 {
+    let at = from as usize - 1;
     let mut o = r;
-    o.heads[l] = head;
+    o.heads[at] = with_digit(r.heads[at], to, head);
     o
 }
 
-fn waiting(r: Network, l: usize, n: u8) -> Network
-    requires { ⌜ l < 132 ⌝ }
+// How many messages a line holds.
+fn waiting(r: Network, from: u8, to: u8, n: u8) -> Network
+    requires { ⌜ (1 ≤ from) × (from ≤ 12) × (1 ≤ to) × (to ≤ 16) × (n < 16) ⌝ }
 {
+    let at = from as usize - 1;
     let mut o = r;
-    o.counts[l] = n;
+    o.counts[at] = with_digit(r.counts[at], to, n);
     o
 }
 
@@ -119,9 +121,14 @@ fn with_message(r: Network, at: usize, m: Message) -> Network
     o
 }
 
-fn back(digits: u64, value: u8) -> Message {
-    let lhs = Lhs { digits: digits };
-    Message::Back(lhs, value)
+// A Back; the left side's digits are those of agents 1 to 4.
+fn back(digits: u16, value: u8) -> Message {
+    let lhs = Carried {
+        low: digits,
+        middle: 0,
+        high: 0,
+    };
+    Message::Back(value, lhs)
 }
 
 // ---- a network in shape
@@ -141,14 +148,14 @@ fn good() -> Network {
     r = informing(holding(r, 1, 1), 1, 0b100);
     r = viewing(listening(holding(r, 2, 2), 2, 0b11), 2, 0x11);
     r = keeping(r, 2, 0, true, 0x1);
-    r = waiting(headed(r, 1, 3), 1, 8);
+    r = waiting(headed(r, 1, 3, 3), 1, 3, 8);
     r = with_message(with_message(r, 8, Message::Info(1)), 9, Message::Info(2));
     r = with_message(with_message(r, 10, Message::Info(1)), 11, Message::Info(2));
     r = with_message(with_message(r, 12, Message::Info(1)), 13, Message::Info(2));
     r = with_message(with_message(r, 14, Message::Info(1)), 15, Message::Info(2));
-    r = with_message(waiting(r, 12, 1), 96, Message::Info(1));
-    r = with_message(waiting(r, 23, 2), 184, back(0x1, 1));
-    waiting(r, 22, 1)
+    r = with_message(waiting(r, 2, 3, 1), 96, Message::Info(1));
+    r = with_message(waiting(r, 3, 2, 2), 184, back(0x1, 1));
+    waiting(r, 3, 1, 1)
 }
 
 // ---- the cases
@@ -196,7 +203,9 @@ fn free(right: u32, g: Network) -> u32 {
         true,
         with_message(g, 0, back(0x270f, 9)),
     );
-    let n = case(n, b"a head beyond the ring", true, headed(g, 1, 11));
+    let n = case(n, b"a head beyond the ring", true, headed(g, 1, 3, 11));
+    let n = case(n, b"a count of no line", true, waiting(g, 2, 2, 9));
+    let n = case(n, b"a count beyond agent 12", true, waiting(g, 2, 13, 9));
     n
 }
 
@@ -314,13 +323,13 @@ fn beyond(right: u32, g: Network) -> u32 {
     let n = case(n, b"agent 4 informs", false, informing(g, 3, 0b10000));
     let n = case(n, b"a view beyond n", false, viewing(g, 3, 0x1));
     let n = case(n, b"a nogood beyond n", false, keeping(g, 3, 0, true, 0x0));
-    let n = case(n, b"a message from beyond n", false, waiting(g, 33, 1));
+    let n = case(n, b"a message from beyond n", false, waiting(g, 4, 1, 1));
     n
 }
 
 // Full channels, and Info.
 fn news(right: u32, g: Network) -> u32 {
-    let n = case(right, b"nine messages", false, waiting(g, 1, 9));
+    let n = case(right, b"nine messages", false, waiting(g, 1, 3, 9));
     let n = case(
         n,
         b"Info upward",
@@ -343,7 +352,7 @@ fn news(right: u32, g: Network) -> u32 {
         n,
         b"Info to one not listening",
         false,
-        waiting(with_message(g, 0, Message::Info(1)), 0, 1),
+        waiting(with_message(g, 0, Message::Info(1)), 1, 2, 1),
     );
     n
 }
@@ -372,7 +381,7 @@ fn refusals(right: u32, g: Network) -> u32 {
         n,
         b"Back from one not listening",
         false,
-        waiting(with_message(g, 88, back(0x0, 1)), 11, 1),
+        waiting(with_message(g, 88, back(0x0, 1)), 2, 1, 1),
     );
     let n = case(
         n,
@@ -388,9 +397,9 @@ fn refusals(right: u32, g: Network) -> u32 {
     );
     let n = case(
         n,
-        b"Back that names agent 13",
+        b"Back that names agent 4, beyond n",
         false,
-        with_message(g, 184, back(0x1000000000001, 1)),
+        with_message(g, 184, back(0x1001, 1)),
     );
     let n = case(
         n,
@@ -402,7 +411,7 @@ fn refusals(right: u32, g: Network) -> u32 {
         n,
         b"AddLink from one not listening",
         false,
-        waiting(g, 11, 1),
+        waiting(g, 2, 1, 1),
     );
     n
 }
@@ -418,5 +427,5 @@ fn main() {
     let n = news(n, g);
     let n = refusals(n, g);
     io::print_decimal(1, n as u64);
-    io::write_all(1, b" of 52 as they must be\n");
+    io::write_all(1, b" of 54 as they must be\n");
 }

@@ -1,7 +1,7 @@
 // The dock's host keeps one network and has it altered where it stands.
 ghost use Rattle.protocol.specs.Delivery.{deliver};
 ghost use Rattle.shape.specs.Abstract.{networkOf};
-ghost use Rattle.network.specs.Abstract.{Answers};
+ghost use Rattle.delivery.specs.Abstract.{Answers};
 use shape::Network;
 
 // The delivery where the network stands: what the delivery by value hands back is left in its place, and the number is handed back.

@@ -1,76 +1,83 @@
--- What waits between two agents, by the table of counts: laws of `heldAt`, where the table is changed at one channel.
-use Prim.Native.Nat.{ℕ, suc, _+_, _-_, _≤_, _<_}
-use mathlib.Core.Bool.{false, _&&_, and-false}
-use mathlib.Core.Path.{_≡_, refl, _∙_}
+-- A sender's row of counts as the code reads it, less the digits that are no channel's, is what it holds for each receiver; nothing waits where it is 0.
+use Prim.Native.Nat.{ℕ, _+_, _-_, _^_, _≤_, _<_}
+use mathlib.Core.Bool.{Bool, true, false, not}
+use mathlib.Core.Path.{_≡_, refl, sym, ap, _∙_}
+use mathlib.Core.Logic.{_≢_}
 use mathlib.Core.List.{List}
 use native.Mathlib.Omega.{arith}
 use native.Mathlib.Numerals.{add-one}
-use native.Mathlib.Nat.{zero-add}
-use lib.ListN.{length, getD, set}
-use lib.Seq.{getD-set-same, getD-set-other}
-use borrow.Author.Tests.{eq-eqb}
-use Rattle.base.specs.Finite.{within}
-use Rattle.base.proofs.Tests.{test}
+use lib.Dec.{eqb, leb}
+use lib.ListN.{getD}
+use borrow.Author.Tests.{eqb-true, eq-eqb, leb-true, leb-false}
+use Rattle.base.specs.Finite.{allTo}
+use Rattle.base.proofs.Tests.{test, eq-test, to-both}
+use Rattle.base.proofs.Peeling.{same-test}
+use Rattle.base.proofs.Search.{allTo-at, to-allTo}
 use Rattle.problem.specs.Problem.{maxAgents}
-use Rattle.shape.specs.Abstract.{isChannel, channelAt}
-use Rattle.network.specs.Parts.{Between, heldAt, sumFrom, heldIn}
-use Rattle.network.proofs.Numbering.{is-channel, between, channel-one}
+use Rattle.agent_rules.specs.Message.{known, nobody}
+use Rattle.agent.specs.Packed.{assignment}
+use Rattle.agent.proofs.Known.{known-true}
+use Rattle.agent.proofs.Digits.{nobody-assigned}
+use Rattle.shape.specs.Abstract.{isChannel}
+use Rattle.shape.proofs.Numbering.{ends}
+use Rattle.delivery.specs.Parts.{heldAt}
+use Rattle.delivery.proofs.Named.{highest-named}
+use Rattle.delivery.proofs.Changes.{row-is}
 
-pub no-channel : (i : ℕ) → isChannel i i ≡ false
-unfolding isChannel
-no-channel i = rw (eq-eqb i i refl) (and-false (within maxAgents i && within maxAgents i))
-
-pub held-none : (counts : List ℕ) (i j : ℕ) → i ≡ j → heldAt counts i j ≡ 0
+-- what `lines_of` ensures of its answer r
+pub lines-held : (counts : List ℕ) (i k r : ℕ) → 1 ≤ i → k ≡ i - 1
+    → ((j : ℕ) → assignment r j ≡ (elim (isChannel i j) [ true ↦ assignment (getD counts k 0) j | false ↦ 0 ]))
+    → (j : ℕ) → assignment r j ≡ heldAt counts i j
 unfolding heldAt
-held-none counts i j e = rw (e, no-channel j, heldAt)
+lines-held counts i k r l e f j =
+    f j
+    ∙ ap {B = ℕ} (λ (g : ℕ → ℕ). elim (isChannel i j) [ true ↦ g j | false ↦ 0 ])
+    (ap (λ (m : ℕ). assignment (getD counts m 0)) e ∙ sym (row-is counts i l))
 
-pub held-between : (counts : List ℕ) (i j : ℕ) → Between i j → heldAt counts i j ≡ getD counts (channelAt i j) 0
+-- nobody is beyond 12
+held-few : (counts : List ℕ) (i j : ℕ) → 12 < j → heldAt counts i j ≡ 0
 unfolding heldAt
-held-between counts i j b = rw (is-channel i j b, heldAt)
+held-few counts i j h = test (isChannel i j) (λ t. absurd (omega (arith, ends i j t .to-high))) (λ t. rw (t, heldAt))
 
-module _ (counts : List ℕ) (i j v : ℕ) (b : Between i j) where
-  pub held-set : channelAt i j < length counts → heldAt (set counts (channelAt i j) v) i j ≡ v
-  held-set h = held-between (set counts (channelAt i j) v) i j b ∙ getD-set-same counts (channelAt i j) v 0 h
+-- nothing waits in a row exactly if its word is 0
+row-idle : (counts : List ℕ) (i r : ℕ) → r < 2 ^ 64 → ((j : ℕ) → assignment r j ≡ heldAt counts i j)
+    → allTo maxAgents (λ j. eqb (heldAt counts i j) 0) ≡ eqb r 0
+unfolding maxAgents nobody
+row-idle counts i r h f =
+    same-test _ _
+    (λ a.
+    eq-test r 0
+    (λ z. eq-eqb r 0 z)
+    (λ z. let k = highest-named r (omega arith) h in absurd (never a _ (k .0) (k .2))))
+    (λ e. to-allTo 12 _ (λ j l u. eq-eqb _ 0 (sym (f j) ∙ rw (eqb-true r 0 e, nobody-assigned))))
+  where
+    none : allTo 12 (λ j. eqb (heldAt counts i j) 0) ≡ true → (j : ℕ) → 1 ≤ j → heldAt counts i j ≡ 0
+    none a j l =
+        test (leb j 12)
+        (λ t. eqb-true _ 0 (allTo-at 12 _ a j l (leb-true j 12 t)))
+        (λ t. held-few counts i j (leb-false j 12 t))
 
-  pub held-elsewhere : (x y : ℕ) → ((x ≡ i) → (y ≡ j) → ⊥) → heldAt (set counts (channelAt i j) v) x y ≡ heldAt counts x y
-  unfolding heldAt
-  held-elsewhere x y n =
-      test (isChannel x y)
-      (λ t. rw (t, heldAt) (getD-set-other counts (channelAt i j) (channelAt x y) v 0
-      (λ e. let s = channel-one x y i j (between x y t) b e in n (s .0) (s .1))))
-      (λ t. rw (t, heldAt))
+    never : allTo 12 (λ j. eqb (heldAt counts i j) 0) ≡ true → (k : ℕ) → 1 ≤ k → known (assignment r k) ≡ true → ⊥
+    never a k l e = omega (arith, known-true (assignment r k) e, f k ∙ none a k l)
 
--- ---- sums, as they are counted up
+-- row by row
+abbrev pub idleRow : List ℕ → ℕ → Bool
+idleRow counts i = allTo maxAgents (λ j. eqb (heldAt counts i j) 0)
 
-sum-next : (m k l : ℕ) (f : ℕ → ℕ) → m ≡ suc l → sumFrom m k f ≡ f k + sumFrom l (k + 1) f
-unfolding sumFrom
-sum-next m k l f e = rw (e, add-one)
+module _ (counts : List ℕ) (m r : ℕ) (h : r < 2 ^ 64)
+    (f : (j : ℕ) → assignment r j ≡ (elim (isChannel (m + 1) j) [ true ↦ assignment (getD counts (m + 1 - 1) 0) j | false ↦ 0 ])) where
+  this-row : idleRow counts (m + 1) ≡ eqb r 0
+  this-row = row-idle counts (m + 1) r h (lines-held counts (m + 1) (m + 1 - 1) r (omega arith) refl f)
 
-sum-none : (m k : ℕ) (f : ℕ → ℕ) → m ≡ 0 → sumFrom m k f ≡ 0
-unfolding sumFrom
-sum-none m k f e = rw e
+  pub row-waits : (n : ℕ) → m < n → r ≢ 0 → true ≡ not (allTo n (idleRow counts))
+  row-waits n l k =
+      test (allTo n (idleRow counts))
+      (λ t. absurd (k (eqb-true r 0 (sym this-row ∙ allTo-at n (idleRow counts) t (m + 1) (omega arith) (omega arith)))))
+      (λ t. rw t)
 
--- the counts of one sender's channels
-abbrev pub heldFrom : List ℕ → ℕ → ℕ → ℕ
-heldFrom counts n i = sumFrom n 1 (heldAt counts i)
+  pub row-passes : r ≡ 0 → allTo m (idleRow counts) ≡ true → allTo (m + 1) (idleRow counts) ≡ true
+  unfolding allTo
+  row-passes e a = let b : idleRow counts (m + 1) ≡ true = this-row ∙ eq-eqb r 0 e in rw (add-one m) (to-both _ _ (rw (add-one m) at b) a)
 
-module _ (counts : List ℕ) (n sum total : ℕ) where
-  pub counting : sum ≡ 0 → sum + sumFrom (n + 1 - 1) 1 (heldFrom counts n) ≡ heldIn counts n
-  unfolding heldIn
-  counting z = let e : n + 1 - 1 ≡ n = omega arith in rw (z, e) (zero-add (sumFrom n 1 (heldFrom counts n)))
-
-  pub row-begins : (i : ℕ) → i ≤ n → sum + sumFrom (n + 1 - i) i (heldFrom counts n) ≡ total
-      → sum + (sumFrom (n + 1 - 1) 1 (heldAt counts i) + sumFrom (n + 1 - (i + 1)) (i + 1) (heldFrom counts n)) ≡ total
-  row-begins i h e =
-      let d : n + 1 - 1 ≡ n = omega arith in
-      rw d (omega (arith, sum-next (n + 1 - i) i (n + 1 - (i + 1)) (heldFrom counts n) (omega arith)))
-
-  pub row-counts : (j v rest : ℕ) (f : ℕ → ℕ) → j ≤ n → v ≡ f j → sum + (sumFrom (n + 1 - j) j f + rest) ≡ total
-      → sum + v + (sumFrom (n + 1 - (j + 1)) (j + 1) f + rest) ≡ total
-  row-counts j v rest f h d e = omega (arith, sum-next (n + 1 - j) j (n + 1 - (j + 1)) f (omega arith))
-
-  pub counted : (j rest : ℕ) (f : ℕ → ℕ) → n < j → sum + (sumFrom (n + 1 - j) j f + rest) ≡ total → sum + rest ≡ total
-  counted j rest f h e = omega (arith, sum-none (n + 1 - j) j f (omega arith))
-
-  pub all-counted : (j : ℕ) (f : ℕ → ℕ) → n < j → sum + sumFrom (n + 1 - j) j f ≡ total → sum ≡ total
-  all-counted j f h e = omega (arith, sum-none (n + 1 - j) j f (omega arith))
+pub rows-idle : (counts : List ℕ) (n i : ℕ) → n ≤ i → i ≤ n → allTo i (idleRow counts) ≡ true → false ≡ not (allTo n (idleRow counts))
+rows-idle counts n i l h a = let e : n ≡ i = omega arith in rw (e, a)

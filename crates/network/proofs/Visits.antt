@@ -1,131 +1,82 @@
--- The visits of a round: which are still ahead at a channel with so many deliveries left on it, and how many they are in all.
-use Prim.Native.Nat.{ℕ, zero, suc, _+_, _-_, _≤_, _<_}
-use mathlib.Core.Path.{_≡_, refl, sym, ap, _∙_, fun-ext}
-use mathlib.Core.List.{List, [], _∷_, _++_, append-assoc}
+-- The visits of a network in shape, and whether nothing waits, by the rows of counts: channels to agents beyond n hold nothing.
+use Prim.Native.Nat.{ℕ, _≤_, _<_}
+use mathlib.Core.Bool.{true}
+use mathlib.Core.Path.{_≡_, refl, sym, ap, _∙_}
+use mathlib.Core.List.{List, [], _∷_}
 use native.Mathlib.Omega.{arith}
-use native.Mathlib.Numerals.{add-one}
-use lib.Dec.{eqb}
-use lib.ListN.{length, replicate, length-append, length-replicate}
-use Rattle.base.proofs.Peeling.{same-test}
-use borrow.Author.Tests.{eqb-true, eqb-false, eq-eqb, ne-eqb}
-use Rattle.base.specs.Finite.{allTo, gather}
+use lib.Dec.{eqb, leb}
+use lib.ListN.{length, replicate}
+use borrow.Author.Tests.{eq-eqb, ne-eqb, leb-true, leb-false}
+use Rattle.base.specs.Finite.{allTo}
 use Rattle.base.proofs.Tests.{test}
+use Rattle.base.proofs.Lists.{All}
+use Rattle.base.proofs.Peeling.{same-test}
 use Rattle.base.proofs.Search.{allTo-at, to-allTo}
-use Rattle.agent_rules.specs.Message.{Message as Message′}
-use Rattle.protocol.specs.Run.{Line, isEmpty, idle, visits}
+use Rattle.problem.specs.Problem.{maxAgents}
+use Rattle.agent_rules.specs.Message.{Message as Message′, Info as Info′, Back as Back′, AddLink as AddLink′}
+use Rattle.agent_rules.specs.Shape.{maxNamed}
+use Rattle.protocol.specs.Network.{Network as Network′}
+use Rattle.protocol.specs.Shape.{inShape}
+use Rattle.protocol.specs.Run.{isEmpty, idle, visits}
+use Rattle.shape_laws.proofs.ShapeClauses.{MessageShaped, Shaped, shaped}
+use Rattle.agent.proofs.Gathers.{gather-same, gather-low}
 use Rattle.shape.specs.declared.Network.{Network}
-use Rattle.shape.specs.Abstract.{problemOf, networkOf}
-use Rattle.network.specs.Parts.{heldAt, sumFrom, heldIn}
-use Rattle.network.proofs.Held.{held-none, heldFrom}
-use Rattle.network.proofs.Changes.{channel-held}
+use Rattle.shape.specs.Abstract.{isChannel, problemOf, networkOf}
+use Rattle.shape.proofs.Numbering.{ends}
+use Rattle.delivery.specs.Parts.{heldAt}
+use Rattle.delivery.proofs.Changes.{channel-held}
+use Rattle.network.proofs.Lines.{line, cell, row, rows}
 
--- the visits of one channel, and of one sender's
-abbrev pub line : ℕ → ℕ → Line
-line i j = record { from = i; to = j }
+-- an agent beyond n listens to nobody
+empty-beyond : (w : Network′) → Shaped w → (i j : ℕ) → 1 ≤ i → i ≤ w .problem .count → w .problem .count < j → j ≤ 12 → w .channel i j ≡ []
+unfolding maxAgents maxNamed
+empty-beyond w s i j li hi lj hj =
+    none (w .channel i j) (s .channels i j li (omega (arith, s .range .high)) (omega arith) hj .messages)
+  where
+    never : (m : Message′) → MessageShaped w i j m → ⊥
+    never (Info′ v) h = s .beyond j lj hj .deaf i li (omega (arith, s .range .high)) (h .2)
+    never (Back′ lhs v) h = omega (arith, h .0)
+    never AddLink′ h = omega (arith, h .0)
 
-abbrev pub cell : List ℕ → ℕ → ℕ → List Line
-cell quota i j = replicate (heldAt quota i j) (line i j)
+    none : (ms : List Message′) → All (MessageShaped w i j) ms → ms ≡ []
+    none [] h = refl
+    none (m ∷ ms) h = absurd (never m (h .0))
 
-abbrev pub row : List ℕ → ℕ → ℕ → List Line
-row quota n i = gather n 1 (cell quota i)
+module _ (o : Network) (s : inShape (networkOf o) ≡ true) where
+  few : o .count ≤ 12
+  unfolding networkOf problemOf maxAgents
+  few = shaped (networkOf o) s .range .high
 
--- q more on the channel from i to j, then the channels after it
-abbrev pub ahead : List ℕ → ℕ → ℕ → ℕ → ℕ → List Line
-ahead quota n i j q = replicate q (line i j) ++ (gather (n - j) (j + 1) (cell quota i) ++ gather (n - i) (i + 1) (row quota n))
+  held-beyond : (i j : ℕ) → 1 ≤ i → i ≤ o .count → o .count < j → heldAt (o .counts) i j ≡ 0
+  unfolding heldAt networkOf problemOf
+  held-beyond i j li hi lj =
+      test (isChannel i j)
+      (λ t. sym (channel-held o i j) ∙ ap length (empty-beyond (networkOf o) (shaped (networkOf o) s) i j li hi lj (ends i j t .to-high)))
+      (λ t. rw (t, heldAt))
 
-gather-next : (m k l : ℕ) (f : ℕ → List Line) → m ≡ suc l → gather m k f ≡ f k ++ gather l (k + 1) f
-unfolding gather
-gather-next m k l f e = rw (e, add-one)
+  pub visits-are : visits (networkOf o) ≡ rows (o .counts) (o .count) 1
+  unfolding visits networkOf problemOf maxNamed
+  visits-are =
+      gather-same (o .count) 1 _ (λ i. row (heldAt (o .counts) i) i) (λ i li hi.
+      gather-same (o .count) 1 _ (cell (heldAt (o .counts) i) i) (λ j lj hj. ap (λ (k : ℕ). replicate k (line i j)) (channel-held o i j))
+      ∙ sym (gather-low (o .count) 16 (cell (heldAt (o .counts) i) i) (omega (arith, few))
+      (λ j lj hj. ap (λ (k : ℕ). replicate k (line i j)) (held-beyond i j li (omega arith) lj))))
 
-gather-none : (m k : ℕ) (f : ℕ → List Line) → m ≡ 0 → gather m k f ≡ []
-unfolding gather
-gather-none m k f e = rw e
+  empty-is : (ms : List Message′) → isEmpty ms ≡ eqb (length ms) 0
+  unfolding isEmpty
+  empty-is [] = refl
+  empty-is (m ∷ ms) = sym (ne-eqb (length (m ∷ ms)) 0 (λ e. absurd (omega arith)))
 
-module _ (quota : List ℕ) (n : ℕ) where
-  pub ahead-one : (i j q k : ℕ) → q ≡ suc k → ahead quota n i j q ≡ line i j ∷ ahead quota n i j k
-  ahead-one i j q k e = rw e
-
-  -- the next receiver
-  pub ahead-next : (i j : ℕ) → j < n → ahead quota n i j 0 ≡ ahead quota n i (j + 1) (heldAt quota i (j + 1))
-  ahead-next i j h =
-      rw (gather-next (n - j) (j + 1) (n - (j + 1)) (cell quota i) (omega arith))
-      (append-assoc (cell quota i (j + 1)) (gather (n - (j + 1)) (j + 1 + 1) (cell quota i)) (gather (n - i) (i + 1) (row quota n)))
-
-  row-begins : (i : ℕ) → 1 ≤ n → row quota n i ≡ cell quota i 1 ++ gather (n - 1) (1 + 1) (cell quota i)
-  row-begins i h = gather-next n 1 (n - 1) (cell quota i) (omega arith)
-
-  rows-begin : (m i : ℕ) → 1 ≤ m → 1 ≤ n → gather m i (row quota n)
-      ≡ cell quota i 1 ++ (gather (n - 1) (1 + 1) (cell quota i) ++ gather (m - 1) (i + 1) (row quota n))
-  rows-begin m i h l =
-      gather-next m i (m - 1) (row quota n) (omega arith)
-      ∙ ap (λ (ls : List Line). ls ++ gather (m - 1) (i + 1) (row quota n)) (row-begins i l)
-      ∙ append-assoc (cell quota i 1) (gather (n - 1) (1 + 1) (cell quota i)) (gather (m - 1) (i + 1) (row quota n))
-
-  -- the next sender
-  pub ahead-down : (i j : ℕ) → n ≤ j → i < n → ahead quota n i j 0 ≡ ahead quota n (i + 1) 1 (heldAt quota (i + 1) 1)
-  ahead-down i j h l =
-      let d : n - i - 1 ≡ n - (i + 1) = omega arith in
-      rw (gather-none (n - j) (j + 1) (cell quota i) (omega arith))
-      (rows-begin (n - i) (i + 1) (omega arith) (omega arith)
-      ∙ ap (λ (m : ℕ). cell quota (i + 1) 1 ++ (gather (n - 1) (1 + 1) (cell quota (i + 1)) ++ gather m (i + 1 + 1) (row quota n))) d)
-
-  pub ahead-none : (i j : ℕ) → n ≤ j → n ≤ i → ahead quota n i j 0 ≡ []
-  ahead-none i j h l =
-      rw (gather-none (n - j) (j + 1) (cell quota i) (omega arith)) (gather-none (n - i) (i + 1) (row quota n) (omega arith))
-
-  pub ahead-all : 1 ≤ n → gather n 1 (row quota n) ≡ ahead quota n 1 1 0
-  ahead-all h = rows-begin n 1 h h ∙ ap (λ (q : ℕ). ahead quota n 1 1 q) (held-none quota 1 1 refl)
-
--- ---- the visits of a network
-
-pub visits-are : (o : Network) → visits (networkOf o) ≡ gather (o .count) 1 (row (o .counts) (o .count))
-unfolding visits networkOf problemOf
-visits-are o =
-    ap (gather (o .count) 1) (fun-ext (λ i. ap (gather (o .count) 1) (fun-ext (λ j. ap (λ (k : ℕ). replicate k (line i j)) (channel-held o i j)))))
-
-length-gather : (m k : ℕ) (f : ℕ → List Line) → length (gather m k f) ≡ sumFrom m k (λ i. length (f i))
-unfolding gather sumFrom
-length-gather zero k f = refl
-length-gather (suc m) k f = length-append (f k) (gather m (suc k) f) ∙ ap (λ (l : ℕ). length (f k) + l) (length-gather m (suc k) f)
-
-pub visits-held : (o : Network) → length (visits (networkOf o)) ≡ heldIn (o .counts) (o .count)
-unfolding heldIn
-visits-held o =
-    ap length (visits-are o)
-    ∙ length-gather (o .count) 1 (row (o .counts) (o .count))
-    ∙ ap (sumFrom (o .count) 1) (fun-ext (λ i. length-gather (o .count) 1 (cell (o .counts) i)
-    ∙ ap (sumFrom (o .count) 1) (fun-ext (λ j. length-replicate (heldAt (o .counts) i j) (line i j)))))
-
--- ---- nothing waits
-
-sum-zero : (m k : ℕ) (f : ℕ → ℕ) → sumFrom m k f ≡ 0 → (j : ℕ) → k ≤ j → j < k + m → f j ≡ 0
-unfolding sumFrom
-sum-zero zero k f e j l h = absurd (omega arith)
-sum-zero (suc m) k f e j l h =
-    test (eqb j k)
-    (λ t. rw (eqb-true j k t) (omega arith))
-    (λ t. sum-zero m (suc k) f (omega arith) j (omega (arith, eqb-false j k t)) (omega arith))
-
-zero-sum : (m k : ℕ) (f : ℕ → ℕ) → ((j : ℕ) → k ≤ j → j < k + m → f j ≡ 0) → sumFrom m k f ≡ 0
-unfolding sumFrom
-zero-sum zero k f h = refl
-zero-sum (suc m) k f h = omega (arith, h k (omega arith) (omega arith), zero-sum m (suc k) f (λ j l u. h j (omega arith) (omega arith)))
-
-all-zero : (m : ℕ) (f : ℕ → ℕ) → allTo m (λ j. eqb (f j) 0) ≡ eqb (sumFrom m 1 f) 0
-all-zero m f =
-    same-test _ _
-    (λ a. eq-eqb (sumFrom m 1 f) 0 (zero-sum m 1 f (λ j l h. eqb-true (f j) 0 (allTo-at m _ a j l (omega arith)))))
-    (λ a. to-allTo m _ (λ j l h. eq-eqb (f j) 0 (sum-zero m 1 f (eqb-true (sumFrom m 1 f) 0 a) j l (omega arith))))
-
-empty-is : (ms : List Message′) → isEmpty ms ≡ eqb (length ms) 0
-unfolding isEmpty
-empty-is [] = refl
-empty-is (m ∷ ms) = sym (ne-eqb (length (m ∷ ms)) 0 (λ e. absurd (omega arith)))
-
-pub idle-is : (o : Network) → idle (networkOf o) ≡ eqb (heldIn (o .counts) (o .count)) 0
-unfolding idle networkOf problemOf heldIn
-idle-is o =
-    ap (allTo (o .count)) (fun-ext (λ i. ap (allTo (o .count))
-    (fun-ext (λ j. empty-is (networkOf o .channel i j) ∙ ap (λ (k : ℕ). eqb k 0) (channel-held o i j)))
-    ∙ all-zero (o .count) (heldAt (o .counts) i)))
-    ∙ all-zero (o .count) (heldFrom (o .counts) (o .count))
+  pub idle-is : idle (networkOf o) ≡ allTo (o .count) (λ i. allTo maxAgents (λ j. eqb (heldAt (o .counts) i j) 0))
+  unfolding idle networkOf problemOf maxAgents
+  idle-is =
+      same-test _ _
+      (λ a. to-allTo (o .count) _ (λ i li hi. to-allTo 12 _ (λ j lj hj.
+      test (leb j (o .count))
+      (λ t. rw (← empty-at i j) (allTo-at (o .count) _ (allTo-at (o .count) _ a i li hi) j lj (leb-true j (o .count) t)))
+      (λ t. eq-eqb _ 0 (held-beyond i j li hi (leb-false j (o .count) t))))))
+      (λ a. to-allTo (o .count) _ (λ i li hi. to-allTo (o .count) _ (λ j lj hj.
+      rw (empty-at i j) (allTo-at 12 _ (allTo-at (o .count) _ a i li hi) j lj (omega (arith, few))))))
+    where
+      empty-at : (i j : ℕ) → isEmpty (networkOf o .channel i j) ≡ eqb (heldAt (o .counts) i j) 0
+      empty-at i j = empty-is (networkOf o .channel i j) ∙ ap (λ (k : ℕ). eqb k 0) (channel-held o i j)

@@ -1,6 +1,5 @@
--- What the network's answers mean: each as the value of the definitions that it stands for. A primed name is the definitions'.
+-- What a run's answer means: each part as the value of the definitions that it stands for. A primed name is the definitions'.
 use mathlib.Core.Path.{_≡_}
-use Rattle.protocol.specs.Delivery.{Delivery, answerNumber}
 use Rattle.protocol.specs.Run.{
   Ending as Ending′,
   None as None′,
@@ -13,16 +12,9 @@ use Rattle.protocol.specs.Run.{
 }
 use Rattle.shape.specs.declared.Network.{Network}
 use Rattle.shape.specs.Abstract.{networkOf}
-use Rattle.network.specs.declared.Delivered.{Delivered}
 use Rattle.network.specs.declared.Ending.{Ending}
 use Rattle.network.specs.declared.Ending.the-variants.{None, Plan, Jammed, Faulty, Open, Broken}
 use Rattle.network.specs.declared.Ran.{Ran}
-
--- a delivery on r is answered as the definitions' delivery d. A rejected one hands back the very network given, unused places and all.
-pub record Answers (r : Network) (d : Delivery) (answer : Delivered) : Type 0 where
-  pub network : networkOf (answer .network) ≡ d .network
-  pub number : answer .number ≡ answerNumber (d .answer)
-  pub untouched : (answer .number ≡ 0 → ⊥) → answer .network ≡ r
 
 unfoldable pub endingOf : Ending → Ending′
 endingOf None = None′

@@ -7,23 +7,16 @@ ghost use Prim.Native.Nat.{_≤_};
 ghost use Rattle.protocol.specs.Delivery.{deliver as deliverBy};
 ghost use Rattle.protocol.specs.Run.{allowed as allowedBy, run as runBy};
 ghost use Rattle.shape.specs.Abstract.{networkOf};
-ghost use Rattle.network.specs.Abstract.{Answers, RunsAs};
+ghost use Rattle.delivery.specs.Abstract.{Answers};
+ghost use Rattle.network.specs.Abstract.{RunsAs};
 
-mod channels;
-mod delivery;
-mod room;
 mod running;
 mod waiting;
 
-use crate::delivery::deliver_in_shape;
 use crate::running::run_in_shape;
+use delivery::Delivered;
+use delivery::deliver_in_shape;
 use shape::Network;
-
-// What a delivery hands back: the number of its rejection, 0 where it is accepted, and the network.
-pub struct Delivered {
-    pub number: u8,
-    pub network: Network,
-}
 
 // How a run ends.
 pub enum Ending {

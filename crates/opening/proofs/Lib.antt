@@ -1,10 +1,13 @@
-mod Channels
 mod Words
 mod Masks
-mod Rings
+mod Channels
+mod News
+mod Rows
 mod Posting
-mod Storing
+mod Telling
+mod Told
 mod Beginning
 mod Opened
+mod Turns
 mod Sheets
 mod Asking

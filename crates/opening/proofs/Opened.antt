@@ -16,8 +16,9 @@ use Rattle.agent_rules.specs.Message.{Message, sentTo}
 use Rattle.agent_rules.specs.Agent.{Agent, noAgent}
 use Rattle.protocol.specs.Network.{Network as Network′, emptyNetwork, posted, withStep, begun, startAgent, startChannel, start}
 use Rattle.shape.specs.declared.Network.{Network}
-use Rattle.shape.specs.Abstract.{problemOf, channelOf, networkOf}
-use Rattle.opening.specs.Posting.{Silent}
+use Rattle.shape.specs.Abstract.{isChannel, ring, problemOf, channelOf, networkOf}
+use Rattle.opening.proofs.Posting.{Silent}
+use Rattle.opening.proofs.Rows.{none-counted}
 
 -- the first m agents have begun
 openedAgent : Problem → ℕ → ℕ → Agent
@@ -50,31 +51,39 @@ waits-channel p m i j e = rw (e, openedChannel)
 
 -- ---- nobody has begun
 
--- the empty network with a problem put into it
-abbrev pub withProblem : Network → ℕ → List ℕ → List ℕ → Network
-withProblem o count domains bans =
+-- the empty network with a problem put into it, and heads, which do not count where nothing waits
+abbrev pub withProblem : Network → ℕ → List ℕ → List ℕ → List ℕ → Network
+withProblem o count domains bans heads =
     record {
       count = count;
       domains = domains;
       bans = bans;
       verdict = o .verdict;
       agents = o .agents;
-      heads = o .heads;
+      heads = heads;
       counts = o .counts;
       places = o .places;
     }
 
-pub none-opened : (p : Problem) (o : Network) → networkOf o ≡ emptyNetwork
-    → networkOf (withProblem o (p .count) (p .domains) (p .bans)) ≡ opened p 0
-unfolding networkOf emptyNetwork problemOf channelOf opened allTo
-none-opened p o e =
-    ap (λ (w : Network′). record { problem = p; verdict = w .verdict; agents = w .agents; channel = w .channel }) e
-    ∙ sym (λ i. record {
-      problem = p;
-      verdict = false;
-      agents = fun-ext (λ k. waits-agent p 0 k (not-within 0 k (λ l h. omega arith))) i;
-      channel = fun-ext (λ k. fun-ext (λ j. waits-channel p 0 k j (not-within 0 k (λ l h. omega arith)))) i;
-    })
+module _ (p : Problem) (o : Network) (heads : List ℕ) (e : networkOf o ≡ emptyNetwork) where
+  abbrev empty : Network
+  empty = withProblem o (p .count) (p .domains) (p .bans) heads
+
+  none-waits : (i j : ℕ) → networkOf empty .channel i j ≡ []
+  unfolding networkOf channelOf ring emptyNetwork
+  none-waits i j =
+      test (isChannel i j)
+      (λ t. rw (t, networkOf, none-counted o i j t (ap (λ (w : Network′). w .channel i j) e)))
+      (λ t. rw (t, networkOf))
+
+  pub none-opened : networkOf empty ≡ opened p 0
+  unfolding networkOf emptyNetwork problemOf opened allTo
+  none-opened = λ k. record {
+    problem = p;
+    verdict = ap (λ (w : Network′). w .verdict) e k;
+    agents = (ap (λ (w : Network′). w .agents) e ∙ sym (fun-ext (λ i. waits-agent p 0 i (not-within 0 i (λ l h. omega arith))))) k;
+    channel = fun-ext (λ i. fun-ext (λ j. none-waits i j ∙ sym (waits-channel p 0 i j (not-within 0 i (λ l h. omega arith))))) k;
+  }
 
 -- ---- one more
 

@@ -1,21 +1,24 @@
 // The start: each agent begins, and what it sends waits on its channels. And asking an agent's value.
 ghost use mathlib.Core.Path.{_≡_};
 ghost use mathlib.Core.Bool.{true};
-ghost use Prim.Native.Nat.{ℕ, pred, _+_, _≤_, _<_};
-ghost use lib.ListN.{length};
-ghost use Rattle.problem.specs.Problem.{pairsBefore, linked, inRange};
-ghost use Rattle.protocol.specs.Network.{begun, start, startSheet, withStep};
+ghost use Prim.Native.Nat.{_≤_};
+ghost use Rattle.problem.specs.Problem.{Problem as Problem′, linked, inRange};
+ghost use Rattle.protocol.specs.Network.{start, startSheet};
 ghost use Rattle.protocol.specs.Delivery.{answerNumber, askValue};
 ghost use Rattle.agent.specs.Packed.{members};
-ghost use Rattle.agent.specs.Abstract.{sentOf};
 ghost use Rattle.sheet.specs.Abstract.{problemOf};
-ghost use Rattle.shape.specs.Abstract.{isChannel, channelAt, networkOf};
-ghost use Rattle.opening.specs.Posting.{withPosts, Alone, Silent};
+ghost use Rattle.shape.specs.Abstract.{networkOf};
 use agent::Agent;
-use agent::Outbox;
+use agent::Message;
 use agent::Own;
+use agent::packed::first;
+use agent::packed::with_digit;
+use agent::packed::without;
 use shape::Network;
 use shape::Place;
+use shape::places::channel_at;
+use shape::places::place_at;
+use shape::places::words_before;
 use sheet::Problem;
 
 // Number 0 and the network, or a fault's number, 1 to 4, and the empty network.
@@ -32,130 +35,75 @@ pub struct Asked {
 
 // ---- links
 
-// Where the words of agent j's bans begin in the ban table.
-fn first_word(j: u8) -> usize
-    requires { ⌜ (1 ≤ j) × (j ≤ 12) ⌝ }
-    ensures { λ r. ⌜ (r ≡ pairsBefore (pred j)) × (r ≤ 55) ⌝ }
-{
-    let m = j as usize - 1;
-    m * (m + 1) / 2 - m
-}
-
-// Lower agent i and higher agent j are linked: a ban names both.
-fn linked(p: Problem, i: u8, j: u8) -> bool
-    ensures { λ b. ⌜ b ≡ linked (problemOf p) i j ⌝ }
-{
-    if i == 0 {
-        return false;
-    }
-    if j <= i {
-        return false;
-    }
-    if 12 < j {
-        return false;
-    }
-    let word = first_word(j) + (i as usize - 1);
-    0 < p.bans[word]
-}
-
 // The set of the agents above i that it is linked with.
-fn listens(p: Problem, i: u8) -> u16
-    ensures { λ m. ⌜ members m ≡ (λ k. linked (problemOf p) k i) ⌝ }
+fn listens(bans: &[u64; 66], i: u8) -> u16
+    requires { ⌜ (1 ≤ i) × (i ≤ 12) ⌝ }
+    ensures { λ m. ⌜ ((p : Problem′) → p .bans ≡ now (bans .entry) → members m ≡ (λ k. linked p k i)) ⌝ }
 {
+    let words = words_before(i);
     let mut mask: u16 = 0;
-    let mut k: u8 = 12;
+    let mut k = i as usize - 1;
     while 0 < k {
-        mask = mask * 2 + linked(p, k, i) as u16;
         k -= 1;
+        mask = mask * 2 + (bans[words + k] != 0) as u16;
     }
     mask
 }
 
 // The set of the agents below i that it is linked with.
-fn informs(p: Problem, i: u8) -> u16
-    ensures { λ m. ⌜ members m ≡ (λ k. linked (problemOf p) i k) ⌝ }
+fn informs(bans: &[u64; 66], i: u8) -> u16
+    requires { ⌜ (1 ≤ i) × (i ≤ 12) ⌝ }
+    ensures { λ m. ⌜ ((p : Problem′) → p .bans ≡ now (bans .entry) → members m ≡ (λ k. linked p i k)) ⌝ }
 {
     let mut mask: u16 = 0;
     let mut k: u8 = 12;
-    while 0 < k {
-        mask = mask * 2 + linked(p, i, k) as u16;
+    while i < k {
+        let word = words_before(k) + i as usize - 1;
+        mask = mask * 2 + (bans[word] != 0) as u16;
         k -= 1;
     }
-    mask
-}
-
-// ---- the first messages
-
-// The number of the channel from i to j.
-fn channel_at(i: u8, j: u8) -> usize
-    requires { ⌜ isChannel i j ≡ true ⌝ }
-    ensures { λ r. ⌜ (r ≡ channelAt i j) × (r < 132) ⌝ }
-{
-    let row = 11 * (i as usize - 1);
-    if j < i {
-        return row + (j as usize - 1);
-    }
-    row + (j as usize - 2)
-}
-
-// What agent i sends, each message alone on its channel.
-fn post(r: Network, i: u8, out: Outbox) -> Network
-    requires { ⌜ (out .count ≤ 22) × Alone (networkOf r) i (sentOf out) ⌝ }
-    ensures { λ o. ⌜ networkOf o ≡ withPosts (networkOf r) i (sentOf out) ⌝ }
-{
-    let mut o = r;
-    let n = out.count;
-    let mut k: usize = 0;
-    while k < n {
-        let s = out.posts[k];
-        let l = channel_at(i, s.to);
-        let head = o.heads[l];
-        let m = s.message;
-        o.places[8 * l + (head % 8) as usize] = Place { message: m };
-        o.counts[l] = 1;
-        k += 1;
-    }
-    o
+    mask << i
 }
 
 // ---- the start
 
-// Agent i begins.
-fn begun(r: Network, p: Problem, i: u8) -> Network
-    requires { ⌜ (inRange (problemOf p) ≡ true) × (1 ≤ i) × (i ≤ p .count) × Silent (networkOf r) i ⌝ }
-    ensures { λ o. ⌜ networkOf o ≡ withStep (networkOf r) i (begun (problemOf p) i) ⌝ }
-{
-    let at = i as usize - 1;
-    let own = Own {
-        number: i,
-        domain: p.domains[at],
-    };
-    let bans = p.bans;
-    let first = first_word(i);
-    let end = first + at;
-    let step = Agent::begin(own, &bans[first..end], listens(p, i), informs(p, i));
-    let agent = step.agent;
-    let mut o = r;
-    o.agents[at] = agent;
-    o.verdict = o.verdict | step.verdict;
-    post(o, i, step.outbox)
-}
-
-// Every agent of a problem begins.
+// Every agent of a problem begins, and what it sends waits, each message alone on its channel.
 fn start_problem(p: Problem) -> Network
     requires { ⌜ inRange (problemOf p) ≡ true ⌝ }
     ensures { λ r. ⌜ networkOf r ≡ start (problemOf p) ⌝ }
 {
+    let n = p.count;
     let domains = p.domains;
     let bans = p.bans;
     let mut r = shape::empty();
-    r.count = p.count;
+    r.count = n;
     r.domains = domains;
     r.bans = bans;
+    r.heads = [0; 12];
     let mut i: u8 = 0;
-    while i < p.count {
+    while i < n {
+        let at = i as usize;
         i += 1;
-        r = begun(r, p, i);
+        let own = Own {
+            number: i,
+            domain: domains[at],
+        };
+        let step = Agent::begin(own, listens(&bans, i), informs(&bans, i));
+        let agent = step.agent;
+        let out = step.outbox;
+        r.agents[at] = agent;
+        r.verdict = r.verdict | step.verdict;
+        let mut row: u64 = 0;
+        let mut told = out.told;
+        while told != 0 {
+            let k = first(told);
+            r.places[place_at(channel_at(i, k), 0, 0)] = Place {
+                message: Message::Info(out.value),
+            };
+            row = with_digit(row, k, 1);
+            told = without(told, k);
+        }
+        r.counts[at] = row;
     }
     r
 }

@@ -1,8 +1,11 @@
 // Rails tried: a run, and a list of deliveries in random order.
+ghost use mathlib.Core.Path.{_≡_};
+ghost use mathlib.Core.Bool.{true};
 ghost use Prim.Native.Nat.{_≤_, _<_};
 use crate::choices::Choice;
 use crate::draws::next;
 use crate::draws::pick;
+use agent::packed::digit;
 use shape::Network;
 
 // ---- the slots taken
@@ -31,33 +34,16 @@ pub fn taken(rail: Network) -> Choice {
 
 // ---- lines
 
-// The first line that holds something, from line `from` on and round; 132 where nothing waits.
-fn waiting_line(counts: [u8; 132], from: usize) -> usize
-    ensures { λ c. ⌜ c ≤ 132 ⌝ }
-{
-    for k in 0..132 {
-        let c = (from % 132 + k) % 132;
-        if 0 < counts[c] {
-            return c;
-        }
-    }
-    132
-}
-
-// Nothing waits on any line.
-pub fn at_rest(rail: Network) -> bool {
-    let counts = rail.counts;
-    waiting_line(counts, 0) == 132
-}
-
 // Sender and receiver of a line.
 struct Ends {
     from: u8,
     to: u8,
 }
 
+// The line that has this number, by sender, then receiver.
 fn ends_of(line: usize) -> Ends
-    requires { ⌜ line ≤ 132 ⌝ }
+    requires { ⌜ line < 132 ⌝ }
+    ensures { λ e. ⌜ (1 ≤ e .from) × (e .from ≤ 12) × (1 ≤ e .to) × (e .to ≤ 12) ⌝ }
 {
     let from = (line / 11 + 1) as u8;
     let other = (line % 11 + 1) as u8;
@@ -70,28 +56,43 @@ fn ends_of(line: usize) -> Ends
     }
 }
 
-// The number of the line between two scanners; 132 where there is none.
-fn line_between(n: u8, from: u8, to: u8) -> usize {
-    if from == 0 {
-        return 132;
-    }
-    if n < from {
-        return 132;
-    }
-    if to == 0 {
-        return 132;
-    }
-    if n < to {
-        return 132;
-    }
-    let row = 11 * (from as usize - 1);
-    if to < from {
-        return row + (to as usize - 1);
-    }
-    if from < to {
-        return row + (to as usize - 2);
+// The first line that holds something, from line `from` on and round; 132 where nothing waits.
+fn waiting_line(counts: [u64; 12], from: usize) -> usize
+    ensures { λ c. ⌜ c ≤ 132 ⌝ }
+{
+    for k in 0..132 {
+        let c = (from % 132 + k) % 132;
+        let e = ends_of(c);
+        if digit(counts[e.from as usize - 1], e.to) != 0 {
+            return c;
+        }
     }
     132
+}
+
+// Nothing waits on any line.
+pub fn at_rest(rail: Network) -> bool {
+    let counts = rail.counts;
+    waiting_line(counts, 0) == 132
+}
+
+// There is a line between two of n scanners.
+fn is_line(n: u8, from: u8, to: u8) -> bool
+    ensures { λ b. ⌜ (b ≡ true → (1 ≤ from) × (1 ≤ to) × (from ≤ n) × (to ≤ n)) ⌝ }
+{
+    if from == 0 {
+        return false;
+    }
+    if n < from {
+        return false;
+    }
+    if to == 0 {
+        return false;
+    }
+    if n < to {
+        return false;
+    }
+    from != to
 }
 
 // ---- deliveries
@@ -106,7 +107,7 @@ pub struct List {
 }
 
 // Some line that holds something; one time in eight any two numbers from 0 to 13.
-fn chosen(counts: [u8; 132], state: u64) -> Ends {
+fn chosen(counts: [u64; 12], state: u64) -> Ends {
     let second = next(state);
     let third = next(second);
     if pick(second, 8) == 0 {
@@ -115,19 +116,28 @@ fn chosen(counts: [u8; 132], state: u64) -> Ends {
             to: pick(third, 14) as u8,
         };
     }
-    ends_of(waiting_line(counts, pick(state, 132)))
+    let line = waiting_line(counts, pick(state, 132));
+    if line == 132 {
+        return Ends { from: 1, to: 1 };
+    }
+    ends_of(line)
 }
 
 // The number that a delivery must give: 6, 7 or 8, or else 0 or 10.
 fn number_right(rail: Network, e: Ends, number: u8) -> bool {
-    let line = line_between(rail.count, e.from, e.to);
-    if 132 <= line {
+    if !is_line(rail.count, e.from, e.to) {
         return number == 6;
     }
     if rail.verdict {
         return number == 7;
     }
-    if rail.counts[line] == 0 {
+    if 12 < e.from {
+        return false;
+    }
+    if 12 < e.to {
+        return false;
+    }
+    if digit(rail.counts[e.from as usize - 1], e.to) == 0 {
         return number == 8;
     }
     number == 0 || number == 10

@@ -1,7 +1,10 @@
+pub mod Numbering
+pub mod Pairs
+mod Lines
 mod Words
 mod Ranges
 mod Clauses
-mod Zeros
-mod Numbering
 mod Rings
+mod Sweeping
 mod Whole
+mod Zeros

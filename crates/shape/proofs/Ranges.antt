@@ -1,9 +1,9 @@
 -- The parts of `inRange` as the code tests them: who owns what, where a ban word stands, and a ban word taken apart byte by byte.
 use Prim.Native.Nat.{ℕ, zero, suc, pred, _+_, _*_, _-_, _/_, _%_, _^_, _≤_, _<_}
 use mathlib.Core.Path.{_≡_, refl, sym, ap, _∙_}
-use mathlib.Core.Bool.{Bool, true, false, not, _&&_, _||_, and-false}
+use mathlib.Core.Bool.{Bool, true, false, not, _&&_, _||_, or-true, and-false}
 use mathlib.Core.List.{List}
-use native.Mathlib.Nat.{not-suc-le-zero, div-one, zero-div, mul-le-mul, div-eq-of-lt, lt-of-lt-of-le}
+use native.Mathlib.Nat.{not-suc-le-zero, div-one, zero-div, div-eq-of-lt, lt-of-lt-of-le}
 use native.Mathlib.Omega.{arith}
 use lib.Dec.{eqb, leb}
 use lib.ListN.{length, getD, List·getD-eq-default}
@@ -15,7 +15,7 @@ use Rattle.base.proofs.Tests.{to-within}
 use Rattle.base.proofs.Search.{to-allTo}
 use Rattle.base.proofs.Bits.{bit-of-zero, bit-field}
 use Rattle.base.proofs.Peeling.{allTo-same, walk-next, below-test}
-use Rattle.problem.specs.Problem.{Problem, maxAgents, maxDomain, domain, owns, pairsBefore, wordAt, bitAt, countInRange, domainInRange, wordOwned, bansOwned, sized, inRange}
+use Rattle.problem.specs.Problem.{Problem, maxAgents, maxDomain, domain, owns, wordAt, bitAt, countInRange, domainInRange, wordOwned, bansOwned, sized, inRange}
 use Rattle.shape.specs.Parts.{rowOwned}
 
 -- ---- who owns what
@@ -38,14 +38,14 @@ unfolding domain
 domain-at p domains zero e h = absurd (not-suc-le-zero h)
 domain-at p domains (suc k) e h = let d : suc k - 1 ≡ k = omega arith in rw (d, e)
 
--- there is no agent 0, and none above 12
+-- there is no agent 0, and none beyond the last domain
 pub owns-nobody : (p : Problem) (k v : ℕ) → k ≡ 0 → owns p k v ≡ false
 unfolding owns domain
 owns-nobody p k v e = rw e (within-none v)
 
-pub owns-beyond : (p : Problem) (domains : List ℕ) (k v : ℕ) → p .domains ≡ domains → length domains ≡ 12 → 12 < k → owns p k v ≡ false
+pub owns-beyond : (p : Problem) (domains : List ℕ) (k v : ℕ) → p .domains ≡ domains → length domains < k → owns p k v ≡ false
 unfolding owns
-owns-beyond p domains k v e l h =
+owns-beyond p domains k v e h =
     rw (domain-at p domains k e (omega arith), List·getD-eq-default domains 0 {n = k - 1} (omega arith)) (within-none v)
 
 -- and no value 0
@@ -82,31 +82,19 @@ pub in-range : (p : Problem) (count : ℕ) → sized p ≡ true → p .count ≡
 unfolding inRange countInRange maxAgents
 in-range p count s e h l = rw (s, e, to-within maxAgents count h l)
 
--- ---- where a ban word stands
-
-pairs : (m : ℕ) → 2 * pairsBefore m ≡ m * (m - 1)
-unfolding pairsBefore
-pairs zero = refl
-pairs (suc m) = let e : suc m - 1 ≡ m = omega arith in rw e (let h = pairs m in go m h)
-  where
-    go : (m : ℕ) → 2 * pairsBefore m ≡ m * (m - 1) → 2 * (m + pairsBefore m) ≡ suc m * m
-    go zero h = refl
-    go (suc m) h = let e : suc m - 1 ≡ m = omega arith in let g : 2 * pairsBefore (suc m) ≡ suc m * m = rw e at h in omega arith
-
-pub word-place : (i j : ℕ) → 1 ≤ i → i < j → j ≤ 12
-    → (((j - 1) * (j - 1 - 1) ≤ 110) × ((j - 1) * (j - 1 - 1) / 2 + i - 1 ≡ wordAt i j))
-unfolding wordAt
-word-place i j h l u =
-    let f : j - 1 ≤ 11 = omega arith in
-    let g : j - 1 - 1 ≤ 10 = omega arith in
-    let b : (j - 1) * (j - 1 - 1) ≤ 11 * 10 = mul-le-mul f g in
-    let e : pred j ≡ j - 1 = omega arith in
-    (b, rw e (omega (arith, pairs (j - 1))))
+-- ---- one ban word
 
 pub word-is : (p : Problem) (domains bans : List ℕ) (i j at : ℕ) → p .domains ≡ domains → p .bans ≡ bans → 1 ≤ i → 1 ≤ j → at ≡ wordAt i j
     → wordOwned (domain p i) (domain p j) (getD (p .bans) (wordAt i j) 0)
     ≡ wordOwned (getD domains (i - 1) 0) (getD domains (j - 1) 0) (getD bans at 0)
 word-is p domains bans i j at e f h l g = rw (domain-at p domains i e h, domain-at p domains j e l, f, g)
+
+-- every bit of a word of two agents that own all values is owned
+pub word-wide : (d e word : ℕ) → word < 2 ^ 64 → 8 ≤ d → 8 ≤ e → wordOwned d e word ≡ true
+unfolding wordOwned maxDomain
+word-wide d e word h k l =
+    rw (lt-ltb word (2 ^ 64) h)
+    (to-allTo 8 _ (λ v a b. to-allTo 8 _ (λ w f g. rw (to-within d v a (omega arith), to-within e w f (omega arith), or-true))))
 
 -- ---- a ban word, byte by byte
 

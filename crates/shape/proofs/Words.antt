@@ -1,7 +1,7 @@
 -- A packed word or a mask is taken apart from its lowest digit up: what is asked of each agent that it names is asked of the lowest digit and
 -- of the word without it. A mask that is tested whole: its bits from some place on, or up to it, are 0.
 use Prim.Native.Nat.{ℕ, zero, suc, pred, _+_, _*_, _-_, _/_, _%_, _^_, _≤_, _<_}
-use mathlib.Core.Path.{_≡_, refl, sym, ap, _∙_}
+use mathlib.Core.Path.{_≡_, refl, sym, ap, fun-ext, _∙_}
 use mathlib.Core.Bool.{Bool, true, false, not, _&&_, _||_, or-true, or-false}
 use mathlib.Core.List.{List}
 use native.Mathlib.Nat.{not-suc-le-zero, pow-suc, div-one}
@@ -179,7 +179,7 @@ pub none-in : (m : ℕ) → m < 2 ^ 16 → eachIn (members m) (λ k. false) ≡ 
 none-in m h =
     in-same m (λ k. false) (λ k. leb k 0) (λ k l u. sym (lt-leb k 0 l)) ∙ in-to m 0 h ∙ ap (λ (n : ℕ). eqb n 0) (div-one m)
 
--- ---- the masks of agents 1 to 12
+-- ---- the masks of all agents
 
 pub no-member : (k : ℕ) → members 0 k ≡ false
 unfolding members fromOne
@@ -195,6 +195,10 @@ unfolding setOf fromOne
 set-at masks zero j h = absurd (not-suc-le-zero h)
 set-at masks (suc k) j h = let e : suc k - 1 ≡ k = omega arith in rw e
 
-pub set-beyond : (masks : List ℕ) (k j : ℕ) → length masks ≡ 12 → 12 < k → setOf masks k j ≡ false
-set-beyond masks k j l h =
+-- a set that has the same agents as that of agent k
+pub set-is : (set : ℕ → Bool) (masks : List ℕ) (k : ℕ) → 1 ≤ k → ((j : ℕ) → set j ≡ setOf masks k j) → set ≡ members (getD masks (k - 1) 0)
+set-is set masks k h e = fun-ext (λ j. e j ∙ set-at masks k j h)
+
+pub set-beyond : (masks : List ℕ) (k j : ℕ) → length masks < k → setOf masks k j ≡ false
+set-beyond masks k j h =
     rw (set-at masks k j (omega arith), List·getD-eq-default masks 0 {n = k - 1} (omega arith)) (no-member j)

@@ -8,24 +8,26 @@ use lib.ListN.{getD, replicate}
 use Rattle.base.specs.Finite.{fromOne}
 use Rattle.base.proofs.Tests.{test}
 use Rattle.base.proofs.Arrays.{getD-same, map-replicate}
+use Rattle.base.proofs.Bits.{bit-of-zero}
 use Rattle.problem.specs.Problem.{maxAgents, maxPairs, noBans, emptyProblem}
+use Rattle.agent_rules.specs.Message.{nobody}
 use Rattle.agent_rules.specs.Agent.{Agent as Agent′, noAgent, noNogoods}
 use Rattle.protocol.specs.Network.{emptyNetwork}
 use Rattle.agent.specs.Packed.{members}
-use Rattle.agent.specs.Abstract.{assigned, nogoodOf, noNogood, agentOf}
+use Rattle.agent.specs.Abstract.{assigned, nogoodAt, agentOf}
 use Rattle.agent.specs.declared.Agent.{Agent}
 use Rattle.agent.proofs.Digits.{nobody-assigned}
-use Rattle.shape.specs.Abstract.{isChannel, channelAt, ring, channelOf, problemOf, agentsOf, networkOf}
+use Rattle.shape.specs.Abstract.{isChannel, ring, rowOf, channelOf, problemOf, agentsOf, networkOf}
 use Rattle.shape.specs.declared.Network.{Network}
 use Rattle.shape.proofs.Words.{no-member}
 
 abbrev pub zeroAgent : Agent
-zeroAgent = record { value = 0; listens = 0; informs = 0; view = record { digits = 0 }; nogoods = replicate 8 noNogood }
+zeroAgent = record { value = 0; stored = 0; listens = 0; informs = 0; view = record { digits = 0 }; nogoods = replicate 8 0 }
 
-no-nogoods : (v : ℕ) → fromOne none (λ k. nogoodOf (getD (replicate 8 noNogood) k noNogood)) v ≡ none
-unfolding fromOne nogoodOf noNogood
+no-nogoods : (v : ℕ) → fromOne none (nogoodAt 0 (replicate 8 0)) v ≡ none
+unfolding fromOne nogoodAt
 no-nogoods zero = refl
-no-nogoods (suc v) = rw (getD-same 8 noNogood v)
+no-nogoods (suc v) = rw (bit-of-zero v, nogoodAt)
 
 zero-agent : agentOf zeroAgent ≡ noAgent
 unfolding agentOf noAgent noNogoods assigned
@@ -47,19 +49,24 @@ zero-agents (suc k) =
     ∙ ap (λ (a : Agent′). getD (replicate 12 a) k noAgent) zero-agent
     ∙ getD-same 12 noAgent k
 
-zero-channel : (r : Network) → r .counts ≡ replicate 132 0 → (l : ℕ) → channelOf r l ≡ []
-unfolding channelOf ring
-zero-channel r e l = rw (e, getD-same {A = ℕ} 132 0 l)
+zero-row : (i j : ℕ) → rowOf (replicate 12 0) i j ≡ 0
+unfolding rowOf fromOne nobody
+zero-row zero j = rw nobody-assigned
+zero-row (suc i) j = rw (getD-same {A = ℕ} 12 0 i, nobody-assigned)
 
-zero-channels : (r : Network) → r .counts ≡ replicate 132 0 → (i j : ℕ) → networkOf r .channel i j ≡ []
+zero-channel : (r : Network) → r .counts ≡ replicate 12 0 → (i j : ℕ) → channelOf r i j ≡ []
+unfolding channelOf ring
+zero-channel r e i j = rw (e, zero-row i j)
+
+zero-channels : (r : Network) → r .counts ≡ replicate 12 0 → (i j : ℕ) → networkOf r .channel i j ≡ []
 unfolding networkOf
 zero-channels r e i j =
     test (isChannel i j)
-    (λ t. rw (t, networkOf) (zero-channel r e (channelAt i j)))
+    (λ t. rw (t, networkOf) (zero-channel r e i j))
     (λ t. rw (t, networkOf))
 
 pub zeros : (r : Network) → r .count ≡ 0 → r .domains ≡ replicate 12 0 → r .bans ≡ replicate 66 0 → r .verdict ≡ false
-    → r .agents ≡ replicate 12 zeroAgent → r .counts ≡ replicate 132 0 → networkOf r ≡ emptyNetwork
+    → r .agents ≡ replicate 12 zeroAgent → r .counts ≡ replicate 12 0 → networkOf r ≡ emptyNetwork
 unfolding networkOf problemOf emptyNetwork emptyProblem noBans maxAgents maxPairs
 zeros r n d b v a c =
     λ i.

@@ -9,6 +9,7 @@ use Rattle.problem.specs.Problem.{Problem, maxAgents}
 use Rattle.agent_rules.specs.Message.{Message as Message′}
 use Rattle.agent_rules.specs.Agent.{Agent as Agent′, noAgent}
 use Rattle.protocol.specs.Network.{Network as Network′}
+use Rattle.agent.specs.Packed.{assignment}
 use Rattle.agent.specs.declared.Message.the-variants.{AddLink}
 use Rattle.agent.specs.Abstract.{messageOf, agentOf}
 use Rattle.shape.specs.declared.Place.{Place}
@@ -33,8 +34,12 @@ unfoldable pub ring : List Place → ℕ → ℕ → ℕ → List Message′
 ring places base head zero = []
 ring places base head (suc count) = placeOf (getD places (base + head % 8) noPlace) ∷ ring places base (suc head) count
 
-unfoldable pub channelOf : Network → ℕ → List Message′
-channelOf r l = ring (r .places) (8 * l) (getD (r .heads) l 0) (getD (r .counts) l 0)
+-- the row of sender i, digit k for receiver k
+unfoldable pub rowOf : List ℕ → ℕ → ℕ → ℕ
+rowOf rows i = assignment (fromOne 0 (λ k. getD rows k 0) i)
+
+unfoldable pub channelOf : Network → ℕ → ℕ → List Message′
+channelOf r i j = ring (r .places) (8 * channelAt i j) (rowOf (r .heads) i j) (rowOf (r .counts) i j)
 
 unfoldable pub problemOf : Network → Problem
 problemOf r = record { count = r .count; domains = r .domains; bans = r .bans }
@@ -49,5 +54,5 @@ networkOf r =
       problem = problemOf r;
       verdict = r .verdict;
       agents = agentsOf (map agentOf (r .agents));
-      channel = λ i j. elim (isChannel i j) [ true ↦ channelOf r (channelAt i j) | false ↦ [] ];
+      channel = λ i j. elim (isChannel i j) [ true ↦ channelOf r i j | false ↦ [] ];
     }

@@ -6,19 +6,23 @@ ghost use Rattle.shape.specs.Abstract.{networkOf};
 use agent::Agent;
 use agent::Lhs;
 use agent::Message;
-use agent::Nogood;
+use agent::packed::digit;
+use agent::packed::first_digit;
+use agent::packed::with_digit;
 
 mod agents;
 mod channels;
+pub mod places;
 mod range;
 mod sets;
 
-use agents::agents_in_shape;
-use agents::outline;
+use agents::holds_in_shape;
+use agents::links_in_shape;
+use agents::unused;
 use channels::message_fits;
-use channels::place_at;
-use channels::receiver;
-use channels::sender;
+use places::channel_at;
+use places::lines_of;
+use places::place_at;
 use range::in_range;
 
 // One place of a channel.
@@ -26,25 +30,17 @@ pub struct Place {
     pub message: Message,
 }
 
-// 132 channels (lines) of eight places, by sender, then receiver. A channel is a ring: its messages stand from `heads` on, `counts` of them.
+// 132 channels (lines) of eight places, by sender, then receiver. A channel is a ring: its messages stand from its head on, so many as its count.
+// Heads and counts are rows of digits in base 16, one row for each sender, digit k for receiver k.
 pub struct Network {
     pub count: u8,
     pub domains: [u8; 12],
     pub bans: [u64; 66],
     pub verdict: bool,
     pub agents: [Agent; 12],
-    pub heads: [u8; 132],
-    pub counts: [u8; 132],
+    pub heads: [u64; 12],
+    pub counts: [u64; 12],
     pub places: [Place; 1056],
-}
-
-// What the test of one agent or of one message reads of the rest of the network, beside the ban table.
-pub struct Outline {
-    pub count: u8,
-    pub verdict: bool,
-    pub domains: [u8; 12],
-    pub listens: [u16; 12],
-    pub informs: [u16; 12],
 }
 
 // The empty rail: n = 0, all else zero.
@@ -52,17 +48,13 @@ pub fn empty() -> Network
     ensures { λ r. ⌜ networkOf r ≡ emptyNetwork ⌝ }
 {
     let nobody = Lhs { digits: 0 };
-    let none = Nogood {
-        stored: false,
-        lhs: nobody,
-    };
-    let nogoods = [none; 8];
     let agent = Agent {
         value: 0,
+        stored: 0,
         listens: 0,
         informs: 0,
         view: nobody,
-        nogoods: nogoods,
+        nogoods: [0; 8],
     };
     let agents = [agent; 12];
     let place = Place {
@@ -75,8 +67,8 @@ pub fn empty() -> Network
         bans: [0; 66],
         verdict: false,
         agents: agents,
-        heads: [0; 132],
-        counts: [0; 132],
+        heads: [0; 12],
+        counts: [0; 12],
         places: places,
     }
 }
@@ -85,35 +77,62 @@ pub fn empty() -> Network
 pub fn in_shape(r: Network) -> bool
     ensures { λ b. ⌜ b ≡ inShape (networkOf r) ⌝ }
 {
-    let domains = r.domains;
-    if !in_range(r.count, domains, &r.bans) {
+    let n = r.count;
+    if !in_range(n, &r.domains, &r.bans) {
         return false;
     }
-    let agents = r.agents;
-    let o = outline(r.count, r.verdict, domains, agents);
-    if !agents_in_shape(o, &r.bans, agents) {
-        return false;
+    let mut listens = [0u16; 12];
+    let mut informs = [0u16; 12];
+    let mut k: usize = 0;
+    while k < 12 {
+        let a = r.agents[k];
+        listens[k] = a.listens;
+        informs[k] = a.informs;
+        k += 1;
     }
-    // channel l - 1 is looked at; the first t of its messages fit
-    let mut l: usize = 132;
-    let mut t: u8 = 0;
-    while 0 < l {
-        let c = l - 1;
-        let waiting = r.counts[c];
-        if 8 < waiting {
-            return false;
-        }
-        if t < waiting {
-            let place = r.places[place_at(c, r.heads[c], t)];
-            let m = place.message;
-            if !message_fits(o, sender(c), receiver(c), m) {
+    let mut i: u8 = 0;
+    while i < 12 {
+        let a = r.agents[i as usize];
+        i += 1;
+        if n < i {
+            if !unused(a) {
                 return false;
             }
-            t += 1;
         } else {
-            l = c;
-            t = 0;
+            if !links_in_shape(n, &listens, &informs, &r.bans, i) {
+                return false;
+            }
+            if !holds_in_shape(r.verdict, &r.domains, i, a) {
+                return false;
+            }
         }
     }
-    true
+    // the channels from i are looked at: those to the digits of `rest` are left, and of the one to j all messages but `left` fit
+    i = 0;
+    let mut rest: u64 = 0;
+    let mut j: u8 = 1;
+    let mut left: u8 = 0;
+    loop {
+        if left != 0 {
+            left -= 1;
+            let head = digit(r.heads[i as usize - 1], j);
+            let place = r.places[place_at(channel_at(i, j), head, left)];
+            let m = place.message;
+            if !message_fits(&r.domains, &listens, i, j, m) {
+                return false;
+            }
+        } else if rest != 0 {
+            j = first_digit(rest);
+            left = digit(rest, j);
+            if 8 < left {
+                return false;
+            }
+            rest = with_digit(rest, j, 0);
+        } else if i < 12 {
+            rest = lines_of(r.counts[i as usize], i + 1);
+            i += 1;
+        } else {
+            return true;
+        }
+    }
 }

@@ -6,15 +6,16 @@ ghost use lib.ListN.{getD};
 ghost use Rattle.base.specs.Finite.{allTo};
 ghost use Rattle.shape.specs.Parts.{rowOwned};
 ghost use Rattle.problem.specs.Problem.{Problem, maxAgents, domain, owns, wordAt, domainInRange, wordOwned, bansOwned, sized, inRange};
+use crate::places::words_before;
 
 // Agent k owns value v.
-pub fn owned(domains: [u8; 12], k: u8, v: u8) -> bool
-    ensures { λ b. ⌜ ((p : Problem) → p .domains ≡ domains → b ≡ owns p k v) ⌝ }
+pub fn owned(domains: &[u8], k: u8, v: u8) -> bool
+    ensures { λ b. ⌜ ((p : Problem) → p .domains ≡ now (domains .entry) → b ≡ owns p k v) ⌝ }
 {
     if k == 0 {
         return false;
     }
-    if 12 < k {
+    if domains.len() < k as usize {
         return false;
     }
     if v == 0 {
@@ -31,8 +32,8 @@ fn domain_in_range(count: u8, i: u8, d: u8) -> bool
     if i <= count { 0 < d && d <= 8 } else { d == 0 }
 }
 
-fn domains_in_range(count: u8, domains: [u8; 12]) -> bool
-    ensures { λ b. ⌜ ((p : Problem) → p .count ≡ count → p .domains ≡ domains → b ≡ allTo maxAgents (domainInRange p)) ⌝ }
+fn domains_in_range(count: u8, domains: &[u8; 12]) -> bool
+    ensures { λ b. ⌜ ((p : Problem) → p .count ≡ count → p .domains ≡ now (domains .entry) → b ≡ allTo maxAgents (domainInRange p)) ⌝ }
 {
     let mut i: u8 = 12;
     while 0 < i {
@@ -49,8 +50,7 @@ pub fn word_at(i: u8, j: u8) -> usize
     requires { ⌜ (1 ≤ i) × (i < j) × (j ≤ 12) ⌝ }
     ensures { λ r. ⌜ (r ≡ wordAt i j) × (r < 66) ⌝ }
 {
-    let m = j as usize - 1;
-    m * (m - 1) / 2 + i as usize - 1
+    words_before(j) + i as usize - 1
 }
 
 // The bans of the lower agent's value v: one byte of the word, a bit for each value of the higher agent.
@@ -74,6 +74,9 @@ fn row_owned(d: u8, e: u8, v: u8, row: u64) -> bool
 fn word_owned(d: u8, e: u8, word: u64) -> bool
     ensures { λ b. ⌜ b ≡ wordOwned d e word ⌝ }
 {
+    if 8 <= d && 8 <= e {
+        return true;
+    }
     let mut rest = word;
     let mut v: u8 = 0;
     while rest != 0 {
@@ -87,9 +90,9 @@ fn word_owned(d: u8, e: u8, word: u64) -> bool
 }
 
 // The ban words of higher agent j.
-fn bans_of_owned(domains: [u8; 12], bans: &[u64; 66], j: u8) -> bool
+fn bans_of_owned(domains: &[u8; 12], bans: &[u64; 66], j: u8) -> bool
     requires { ⌜ (1 ≤ j) × (j ≤ 12) ⌝ }
-    ensures { λ b. ⌜ ((p : Problem) → p .domains ≡ domains → p .bans ≡ now (bans .entry) → b ≡ allTo (pred j) (λ i. wordOwned (domain p i) (domain p j) (getD (p .bans) (wordAt i j) 0))) ⌝ }
+    ensures { λ b. ⌜ ((p : Problem) → p .domains ≡ now (domains .entry) → p .bans ≡ now (bans .entry) → b ≡ allTo (pred j) (λ i. wordOwned (domain p i) (domain p j) (getD (p .bans) (wordAt i j) 0))) ⌝ }
 {
     let e = domains[j as usize - 1];
     let mut i = j - 1;
@@ -102,8 +105,8 @@ fn bans_of_owned(domains: [u8; 12], bans: &[u64; 66], j: u8) -> bool
     true
 }
 
-fn bans_owned(domains: [u8; 12], bans: &[u64; 66]) -> bool
-    ensures { λ b. ⌜ ((p : Problem) → p .domains ≡ domains → p .bans ≡ now (bans .entry) → b ≡ bansOwned p) ⌝ }
+fn bans_owned(domains: &[u8; 12], bans: &[u64; 66]) -> bool
+    ensures { λ b. ⌜ ((p : Problem) → p .domains ≡ now (domains .entry) → p .bans ≡ now (bans .entry) → b ≡ bansOwned p) ⌝ }
 {
     let mut j: u8 = 12;
     while 0 < j {
@@ -116,8 +119,8 @@ fn bans_owned(domains: [u8; 12], bans: &[u64; 66]) -> bool
 }
 
 // The whole problem, but for the arrays' lengths, which the types give.
-pub fn in_range(count: u8, domains: [u8; 12], bans: &[u64; 66]) -> bool
-    ensures { λ b. ⌜ ((p : Problem) → sized p ≡ true → p .count ≡ count → p .domains ≡ domains → p .bans ≡ now (bans .entry) → b ≡ inRange p) ⌝ }
+pub fn in_range<'a>(count: u8, domains: &'a [u8; 12], bans: &'a [u64; 66]) -> bool
+    ensures { λ b. ⌜ ((p : Problem) → sized p ≡ true → p .count ≡ count → p .domains ≡ now (domains .entry) → p .bans ≡ now (bans .entry) → b ≡ inRange p) ⌝ }
 {
     if count == 0 {
         return false;

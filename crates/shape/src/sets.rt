@@ -5,24 +5,17 @@ ghost use lib.Dec.{ltb, leb};
 ghost use Rattle.protocol.specs.Shape.{eachIn};
 ghost use Rattle.agent.specs.Packed.{members};
 ghost use Rattle.shape.specs.Parts.{setOf};
+use agent::packed::has;
 
-// Agent k is in the set.
-pub fn has(set: u16, k: u8) -> bool
-    requires { ⌜ (1 ≤ k) × (k ≤ 16) ⌝ }
-    ensures { λ b. ⌜ b ≡ members set k ⌝ }
-{
-    (set >> (k - 1)) % 2 == 1
-}
-
-// Agent j is in the set of agent k, where the masks of agents 1 to 12 stand in a row; there is no other agent.
-pub fn has_at(masks: [u16; 12], k: u8, j: u8) -> bool
+// Agent j is in the set of agent k, where the masks of all agents stand in a row; there is no other agent.
+pub fn has_at(masks: &[u16], k: u8, j: u8) -> bool
     requires { ⌜ (1 ≤ j) × (j ≤ 16) ⌝ }
-    ensures { λ b. ⌜ b ≡ setOf masks k j ⌝ }
+    ensures { λ b. ⌜ b ≡ setOf (now (masks .entry)) k j ⌝ }
 {
     if k == 0 {
         return false;
     }
-    if 12 < k {
+    if masks.len() < k as usize {
         return false;
     }
     has(masks[k as usize - 1], j)

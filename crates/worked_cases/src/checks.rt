@@ -13,6 +13,7 @@ use crate::printing::put;
 use crate::printing::put_ending;
 use crate::rails::same_rail;
 use crate::sheets::Sheet;
+use agent::packed::digit;
 use network::Ending;
 use opening::Started;
 use shape::Network;
@@ -130,37 +131,29 @@ fn first_wrong(rail: Network, n: Numbers) -> u64 {
     0
 }
 
-// The number of the line between two scanners; 132 where there is none.
-fn line_between(from: u8, to: u8) -> usize {
+// How many messages wait on the line between two scanners; none where there is no such line.
+fn held(rail: Network, from: u8, to: u8) -> u64 {
     if from == 0 {
-        return 132;
+        return 0;
     }
     if 12 < from {
-        return 132;
+        return 0;
     }
     if to == 0 {
-        return 132;
+        return 0;
     }
     if 12 < to {
-        return 132;
+        return 0;
     }
-    let row = 11 * (from as usize - 1);
-    if to < from {
-        return row + (to as usize - 1);
+    if from == to {
+        return 0;
     }
-    if from < to {
-        return row + (to as usize - 2);
-    }
-    132
+    digit(rail.counts[from as usize - 1], to) as u64
 }
 
 // How many messages wait on the line that a line of the text names.
 fn waiting(rail: Network, n: Numbers) -> u64 {
-    let c = line_between(small(n, 0), small(n, 1));
-    if c < 132 {
-        return rail.counts[c] as u64;
-    }
-    0
+    held(rail, small(n, 0), small(n, 1))
 }
 
 fn looked(rail: Network, kept: Network, kind: usize, n: Numbers) -> u64 {

@@ -1,9 +1,14 @@
 // Whether two rails are the same: n, slot counts, verdict, bans, scanner records and the messages that wait on each line, in order.
+ghost use mathlib.Core.Path.{_≡_};
+ghost use mathlib.Core.Bool.{true};
 ghost use Prim.Native.Nat.{_<_};
+ghost use Rattle.shape.specs.Abstract.{isChannel};
 use agent::Agent;
 use agent::Message;
-use agent::Nogood;
+use agent::packed::digit;
 use shape::Network;
+use shape::places::channel_at;
+use shape::places::place_at;
 
 fn same_bans(a: [u64; 66], b: [u64; 66]) -> bool {
     for k in 0..66 {
@@ -14,16 +19,22 @@ fn same_bans(a: [u64; 66], b: [u64; 66]) -> bool {
     true
 }
 
-fn same_reason(a: Nogood, b: Nogood) -> bool {
-    if a.stored && b.stored {
-        return a.lhs.digits == b.lhs.digits;
+// The stored reasons of value k + 1 are the same, or there is none.
+fn same_reason(a: Agent, b: Agent, k: u8) -> bool
+    requires { ⌜ k < 8 ⌝ }
+{
+    if (a.stored >> k) % 2 == 0 {
+        return true;
     }
-    a.stored == b.stored
+    a.nogoods[k as usize] == b.nogoods[k as usize]
 }
 
-fn same_reasons(a: [Nogood; 8], b: [Nogood; 8]) -> bool {
+fn same_reasons(a: Agent, b: Agent) -> bool {
+    if a.stored != b.stored {
+        return false;
+    }
     for k in 0..8 {
-        if !same_reason(a[k], b[k]) {
+        if !same_reason(a, b, k) {
             return false;
         }
     }
@@ -43,9 +54,7 @@ fn same_agent(a: Agent, b: Agent) -> bool {
     if a.view.digits != b.view.digits {
         return false;
     }
-    let reasons = a.nogoods;
-    let others = b.nogoods;
-    same_reasons(reasons, others)
+    same_reasons(a, b)
 }
 
 fn same_agents(a: [Agent; 12], b: [Agent; 12]) -> bool {
@@ -64,8 +73,8 @@ fn same_message(a: Message, b: Message) -> bool {
             Message::Back(_, _) => false,
             Message::AddLink => false,
         },
-        Message::Back(lhs, v) => match b {
-            Message::Back(other, w) => v == w && lhs.digits == other.digits,
+        Message::Back(v, lhs) => match b {
+            Message::Back(w, other) => v == w && lhs.unpack().digits == other.unpack().digits,
             Message::Info(_) => false,
             Message::AddLink => false,
         },
@@ -77,50 +86,41 @@ fn same_message(a: Message, b: Message) -> bool {
     }
 }
 
-// Where the message t places behind the head of a line stands in its ring.
-fn place_behind(head: u8, t: usize) -> usize
-    ensures { λ r. ⌜ r < 8 ⌝ }
+// Message t of a line, from the head on.
+fn waiting(r: Network, from: u8, to: u8, t: u8) -> Message
+    requires { ⌜ (isChannel from to ≡ true) × (t < 8) ⌝ }
 {
-    (head as usize + t % 8) % 8
-}
-
-// Message t of line c, from the head on.
-fn waiting(r: Network, c: usize, t: usize) -> Message
-    requires { ⌜ c < 132 ⌝ }
-{
-    let head = r.heads[c];
-    let place = r.places[8 * c + place_behind(head, t)];
+    let head = digit(r.heads[from as usize - 1], to);
+    let place = r.places[place_at(channel_at(from, to), head, t)];
     place.message
 }
 
-// Message t of line c is the same, or there is none.
-fn same_waiting(a: Network, b: Network, c: usize, t: usize) -> bool
-    requires { ⌜ c < 132 ⌝ }
+// A line holds as many messages on both rails, the same in the same order.
+fn same_line(a: Network, b: Network, from: u8, to: u8) -> bool
+    requires { ⌜ isChannel from to ≡ true ⌝ }
 {
-    if a.counts[c] as usize <= t {
-        return true;
-    }
-    same_message(waiting(a, c, t), waiting(b, c, t))
-}
-
-fn same_line(a: Network, b: Network, c: usize) -> bool
-    requires { ⌜ c < 132 ⌝ }
-{
-    if a.counts[c] != b.counts[c] {
+    let count = digit(a.counts[from as usize - 1], to);
+    if count != digit(b.counts[from as usize - 1], to) {
         return false;
     }
     for t in 0..8 {
-        if !same_waiting(a, b, c, t) {
-            return false;
+        if t < count {
+            if !same_message(waiting(a, from, to, t), waiting(b, from, to, t)) {
+                return false;
+            }
         }
     }
     true
 }
 
 fn same_lines(a: Network, b: Network) -> bool {
-    for c in 0..132 {
-        if !same_line(a, b, c) {
-            return false;
+    for from in 1..=12 {
+        for to in 1..=12 {
+            if from != to {
+                if !same_line(a, b, from, to) {
+                    return false;
+                }
+            }
         }
     }
     true

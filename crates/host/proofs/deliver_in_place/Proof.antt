@@ -40,13 +40,13 @@ use denote.Triple.Walked.{says, Stays, stay-ref, stay-none, walkOf, AllGo, goes-
 use denote.Exit.{yes}
 use Rattle.protocol.specs.Delivery.{deliver as deliverBy}
 use Rattle.shape.specs.Abstract.{networkOf}
-use Rattle.network.specs.Abstract.{Answers}
+use Rattle.delivery.specs.Abstract.{Answers}
 use Rattle.shape.specs.declared.Network.{Network}
-use Rattle.network.specs.declared.Delivered.{Delivered}
+use Rattle.delivery.specs.declared.Delivered.{Delivered}
 use Rattle.shape.proofs.Network as N
 use Rattle.shape.proofs.Network.Laws as N′
-use Rattle.network.proofs.Delivered as D
-use Rattle.network.proofs.Delivered.Laws as D′
+use Rattle.delivery.proofs.Delivered as D
+use Rattle.delivery.proofs.Delivered.Laws as D′
 use Rattle.network.proofs.deliver as deliver
 use Rattle.network.proofs.deliver.Symbol as deliver-def
 use Rattle.network.proofs.deliver.Symbol.{name as #deliver}

@@ -4,7 +4,7 @@ use borrow.Author.Needs.{needs}
 use borrow.Author.Tests.{not-true, not-false}
 use Rattle.protocol.specs.Delivery.{BadShape, BadNumbers, rejectionNumber, numbersGood}
 use Rattle.shape.specs.Abstract.{problemOf, networkOf}
-use Rattle.network.proofs.Rejecting.{bad-shape, bad-numbers, rejected}
+use Rattle.delivery.proofs.Rejecting.{bad-shape, bad-numbers, rejected}
 use Rattle.network.proofs.deliver.Statement.{statement}
 use Rattle.network.proofs.deliver.Tie as tie
 

@@ -1,46 +1,73 @@
--- The mask of the linked agents above, from agent 12 down. Assumes nothing.
-use mathlib.Core.Bool.{false}
+-- The mask of the linked agents above, from the agent next to i down. Assumes nothing.
+use mathlib.Core.Path.{fun-ext, _∙_}
+use mathlib.Core.Bool.{false, not}
+use Prim.Native.Nat.{_+_, _-_, _≤_}
 use native.Mathlib.Omega.{arith}
+use lib.Dec.{eqb}
+use lib.ListN.{getD}
 use borrow.Author.Needs.{needs}
-use Rattle.opening.proofs.Words.{not-linked}
-use Rattle.opening.proofs.Masks.{Masked, mask-begins, mask-fits, mask-goes, mask-ends}
 use Rattle.problem.specs.Problem.{linked}
-use Rattle.sheet.specs.Abstract.{problemOf}
+use Rattle.opening.proofs.Words.{table, table-linked, not-linked, is-linked, word-from}
+use Rattle.opening.proofs.Masks.{Masked, mask-begins, mask-fits, mask-goes, mask-ends}
 use Rattle.opening.proofs.listens.Statement.{statement}
 use Rattle.opening.proofs.listens.Tie as tie
 
 abbrev Inv-loop : tie.InvT-loop
-Inv-loop p i mask₀ k₀ mask k = Masked (λ j. linked (problemOf p) j i) mask k
+Inv-loop bans i words mask₀ k₀ mask k = (k + 1 ≤ i) × Masked (λ j. linked (table bans) j i) mask k
 
 abbrev μ-loop : tie.MeasureT-loop
-μ-loop p i mask₀ k₀ mask k = k
+μ-loop bans i words mask₀ k₀ mask k = k
+
+words-before-requires : tie.Need-words-before-requires Inv-loop μ-loop
+words-before-requires c κs = c .pre
+
+sub-k : tie.Need-sub-k Inv-loop μ-loop
+sub-k c = search needs
 
 loop-holds : tie.Need-loop-holds Inv-loop μ-loop
-loop-holds c = mask-begins _ (λ k h. not-linked _ _ _ (λ l b u. omega arith))
+loop-holds c = (omega arith, mask-begins _ _ (omega arith) (λ k h. not-linked _ _ _ (λ l b u. omega arith)))
+
+sub-k-2 : tie.Need-sub-k-2 Inv-loop μ-loop
+sub-k-2 c = search needs
 
 mul-mask : tie.Need-mul-mask Inv-loop μ-loop
-mul-mask c = omega (arith, mask-fits _ _ _ false (c .before .loop .inv) (c .loop-test .taken))
+mul-mask c = omega (arith, mask-fits _ _ _ false (c .before .loop .inv .1) (c .loop-test .taken))
 
-linked-requires : tie.Need-linked-requires Inv-loop μ-loop
-linked-requires c κs = tt
+add-mask : tie.Need-add-mask Inv-loop μ-loop
+add-mask c = search needs
+
+mul-mask-2 : tie.Need-mul-mask-2 Inv-loop μ-loop
+mul-mask-2 c = search needs
+
+element-copy-out-mask : tie.Need-element-copy-out-mask Inv-loop μ-loop
+element-copy-out-mask c = search needs
 
 cast-mask : tie.Need-cast-mask Inv-loop μ-loop
 cast-mask c = tt
 
-add-mask : tie.Need-add-mask Inv-loop μ-loop
-add-mask c = omega (arith, mask-fits _ _ _ (c .linked .result) (c .before .before .loop .inv) (c .before .loop-test .taken))
-
-sub-k : tie.Need-sub-k Inv-loop μ-loop
-sub-k c = search needs
+add-mask-2 : tie.Need-add-mask-2 Inv-loop μ-loop
+add-mask-2 c =
+    let h = c .before .before .loop in
+    let word = getD (c .before .before .before .before .args .bans .now) (c .before .before .before .words-before .result + (h .k - 1)) 0 in
+    omega (arith, mask-fits _ _ _ (not (eqb word 0)) (h .inv .1) (c .before .loop-test .taken))
 
 loop-less : tie.Need-loop-less Inv-loop μ-loop
 loop-less c = search needs
 
 loop-again : tie.Need-loop-again Inv-loop μ-loop
-loop-again c = mask-goes _ _ _ _ (c .before .before .loop .inv) (c .before .loop-test .taken) (c .linked .ensures)
+loop-again c =
+    let k = c .before .before .before .before in
+    let h = c .before .before .loop in (
+      omega arith,
+      mask-goes _ _ _ _ (h .inv .1) (c .before .loop-test .taken)
+          (is-linked _ _ _ _ (omega arith) (omega arith) (omega arith) (word-from (h .k) (k .args .i) _ (c .before .before .before .words-before .ensures .0))),
+    )
 
 returns : tie.Need-returns Inv-loop μ-loop
-returns c = mask-ends _ _ _ (c .before .loop .inv) (omega arith) (not-linked _ _ _ (λ l b u. omega arith))
+returns c =
+    λ p e.
+    mask-ends _ _ _ (c .before .loop .inv .1) (omega arith) (not-linked _ _ _ (λ l b u. omega arith))
+    ∙ fun-ext (λ k. table-linked p _ e k _)
 
 pub listens-spec : {M : Type 1} → statement M
 listens-spec =
@@ -48,12 +75,16 @@ listens-spec =
     (tie.spec
     Inv-loop
     μ-loop
-    loop-holds
-    mul-mask
-    linked-requires
-    cast-mask
-    add-mask
+    words-before-requires
     sub-k
+    loop-holds
+    sub-k-2
+    mul-mask
+    add-mask
+    mul-mask-2
+    element-copy-out-mask
+    cast-mask
+    add-mask-2
     loop-less
     loop-again
     returns)

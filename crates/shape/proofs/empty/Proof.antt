@@ -1,12 +1,10 @@
 -- Field by field, as it is written.
 use mathlib.Core.Path.{refl}
-use Rattle.agent.specs.Abstract.{noNogood}
 use Rattle.shape.proofs.Zeros.{zeros}
 use Rattle.shape.proofs.empty.Statement.{statement}
 use Rattle.shape.proofs.empty.Tie as tie
 
 returns : tie.Need-returns
-unfolding noNogood
 returns c = zeros _ refl refl refl refl refl refl
 
 pub empty-spec : {M : Type 1} → statement M

@@ -4,7 +4,7 @@ use borrow.Author.Needs.{needs}
 use Prim.Native.Nat.{_+_, _-_, _≤_}
 use mathlib.Core.Path.{_≡_, _∙_}
 use native.Mathlib.Omega.{arith}
-use lib.ListN.{length, length-map}
+use lib.ListN.{length}
 use Rattle.agent.specs.Abstract.{assigned}
 use Rattle.agent.proofs.LeftSides.{unheard-tested}
 use Rattle.agent.proofs.Accepting.{Heard, heard-none, heard-already, heard-new, accepted}
@@ -18,7 +18,7 @@ abbrev μ-loop : tie.MeasureT-loop
 μ-loop self own lhs v a₀ k₀ a k = own .number - k
 
 loop-holds : tie.Need-loop-holds Inv-loop μ-loop
-loop-holds c = (omega arith, simp length-map at (c .good .0 .1 .1 .1 .1 .1 .1 .0 .1 .0 .1), heard-none _ _)
+loop-holds c = (omega arith, search needs, heard-none _ _)
 
 add-if1 : tie.Need-add-if1 Inv-loop μ-loop
 add-if1 c = search needs
@@ -69,22 +69,24 @@ loop-again-2 c =
 sub-i : tie.Need-sub-i Inv-loop μ-loop
 sub-i c = search needs
 
-new-requires : tie.Need-new-requires Inv-loop μ-loop
-new-requires c κs = search needs
+cast-a : tie.Need-cast-a Inv-loop μ-loop
+cast-a c = search needs
 
-mul-t18 : tie.Need-mul-t18 Inv-loop μ-loop
-mul-t18 c = search needs
+mul-a : tie.Need-mul-a Inv-loop μ-loop
+mul-a c = search needs
 
-element-set-from-a : tie.Need-element-set-from-a Inv-loop μ-loop
-element-set-from-a c = search needs
+element-write-a : tie.Need-element-write-a Inv-loop μ-loop
+element-write-a c = search needs
+
+shl-a : tie.Need-shl-a Inv-loop μ-loop
+shl-a c = search needs
 
 returns : tie.Need-returns Inv-loop μ-loop
 returns c =
-    let start = c .before .before .before .before in
-    let loop = c .before .before .before .loop in
-    accepted (start .args .own) (start .args .self) (loop .a) (start .args .lhs) (loop .k) (start .args .v) (c .new .result) (omega arith)
-    (start .pre .4) (loop .inv .2)
-    (omega arith) (start .pre .2) (omega arith) (c .new .ensures .0) (c .new .ensures .1)
+    let start = c .before .before .before in
+    let loop = c .before .before .loop in
+    accepted (start .args .own) (start .args .self) (loop .a) (start .args .lhs) (loop .k) (start .args .v) (omega arith) (start .pre .4)
+    (loop .inv .2) (omega arith) (start .pre .2) (start .pre .3) (omega arith)
 
 pub accepting-spec : {M : Type 1} → statement M
 accepting-spec =
@@ -104,7 +106,8 @@ accepting-spec =
     loop-less-2
     loop-again-2
     sub-i
-    new-requires
-    mul-t18
-    element-set-from-a
+    cast-a
+    mul-a
+    element-write-a
+    shl-a
     returns)

@@ -1,65 +1,73 @@
 -- `choose` is the rule of choosing.
 -- The trailing zeros of the mask of free values give the value taken, and how many get a reason.
 use borrow.Author.Needs.{needs}
-use Prim.Native.Nat.{_+_}
+use Prim.Native.Nat.{_+_, _≤_}
 use mathlib.Core.Path.{_≡_, sym, _∙_}
+use mathlib.Core.Logic.{⊎-elim}
 use mathlib.Core.Option.{none, some}
 use native.Mathlib.Omega.{arith}
 use lib.Count.{trailingZeros, trailing-le, leading-le}
 use Rattle.base.specs.Finite.{lowest}
-use Rattle.agent.specs.Abstract.{agentOf, selfOf, bansIn}
-use Rattle.agent.specs.Parts.{freeOf}
+use Rattle.agent_rules.specs.Agent.{Bans}
+use Rattle.agent.specs.Abstract.{assigned, agentOf, selfOf}
+use Rattle.agent.specs.Entries.{Barring}
+use Rattle.agent.specs.Parts.{leftFree, Barred, Chose}
 use Rattle.agent.proofs.Masks.{mask-lowest, mask-none}
-use Rattle.agent.proofs.Choices.{tried-all, chose-none, tried-below, chose-some}
+use Rattle.agent.proofs.Choices.{tried-all, chose-none, tried-below, next-free, chose-some}
 use Rattle.agent.proofs.Agent.choose.Statement.{statement}
 use Rattle.agent.proofs.Agent.choose.Tie as tie
 
-none-free : (c : tie.Then1) → lowest (selfOf (c .before .before .before .args .own) .domain) 1
-    (freeOf (selfOf (c .before .before .before .args .own)) (bansIn (c .before .before .before .args .bans .now))
-    (agentOf (c .before .before .before .args .self))) ≡ none
-unfolding selfOf
-none-free c = mask-none _ 1 _ (sym (c .before .free .ensures) ∙ c .if1 .taken)
-
-lowest-free : (c : tie.Else1) → lowest (selfOf (c .before .before .before .args .own) .domain) 1
-    (freeOf (selfOf (c .before .before .before .args .own)) (bansIn (c .before .before .before .args .bans .now))
-    (agentOf (c .before .before .before .args .self)))
+lowest-free : (c : tie.Then1)
+    → lowest (c .before .before .args .own .domain) 1 (leftFree (c .before .before .args .self .stored) (c .before .before .args .bars))
     ≡ some (1 + trailingZeros 8 (c .before .free .result))
-unfolding selfOf
 lowest-free c = rw (c .before .free .ensures)
-    (mask-lowest _ 1 _ 8 (c .before .before .before .pre .0 .few) (omega (arith, c .before .free .ensures)))
+    (mask-lowest _ 1 _ 8 (c .before .before .pre .0 .few) (omega (arith, c .before .free .ensures)))
+
+none-free : (c : tie.Else1)
+    → lowest (c .before .before .args .own .domain) 1 (leftFree (c .before .before .args .self .stored) (c .before .before .args .bars)) ≡ none
+none-free c = mask-none _ 1 _ (sym (c .before .free .ensures) ∙ c .if1 .left)
+
+-- the values tried are not free
+tried : (c : tie.Joined1)
+    → (c .if1 .tried ≤ c .before .before .args .own .domain)
+    × Barred (c .before .before .args .self .stored) (c .before .before .args .bars) (c .if1 .tried)
+tried c =
+    ⊎-elim
+    (λ u. rw (u .2) (let t = tried-below _ _ _ _ (lowest-free record { before = c .before; if1 = u .0 }) in (omega (arith, t .0), t .1)))
+    (λ u. rw (u .2) (omega arith, tried-all _ _ _ (none-free record { before = c .before; if1 = u .0 })))
+    (c .if1 .came)
 
 free-requires : tie.Need-free-requires
 free-requires c κs = search needs
 
+-- at either end of a byte there are at most eight zeros; which end it must be is the law of the mask
+cast-tried : tie.Need-cast-tried
+cast-tried c = record { fits = omega (arith, trailing-le 8 (c .before .free .result), leading-le 8 (c .before .free .result)) }
+
+add-value : tie.Need-add-value
+add-value c = record { fits = omega (arith, trailing-le 8 (c .before .free .result), leading-le 8 (c .before .free .result)) }
+
 reasoned-requires : tie.Need-reasoned-requires
-unfolding selfOf
-reasoned-requires c κs = (c .before .before .before .pre .0, (c .before .before .before .pre .1, tried-all _ _ _ (none-free c)))
+reasoned-requires c κs = (c .before .before .pre .0, (c .before .before .pre .1, tried c))
 
 returns : tie.Need-returns
 unfolding selfOf
-returns c = chose-none _ _ _ (none-free (c .before)) _ (c .reasoned .ensures)
-
--- at either end of a byte there are at most eight zeros; which end it must be is the law of the mask
-cast-lowest : tie.Need-cast-lowest
-cast-lowest c = omega (arith, trailing-le 8 (c .before .free .result), leading-le 8 (c .before .free .result))
-
-add-t9 : tie.Need-add-t9
-add-t9 c = omega (arith, trailing-le 8 (c .before .free .result), leading-le 8 (c .before .free .result))
-
-reasoned-requires-2 : tie.Need-reasoned-requires-2
-reasoned-requires-2 c κs = (c .before .before .before .pre .0, (c .before .before .before .pre .1, tried-below _ _ _ _ (lowest-free c)))
-
-returns-2 : tie.Need-returns-2
-returns-2 c = chose-some _ _ _ _ (lowest-free (c .before)) _ (c .reasoned2 .ensures)
+returns c = (c .reasoned .ensures .0, λ bans barring. takes bans barring)
+  where
+    takes : (bans : Bans) → Barring bans (assigned (c .before .before .before .args .self .view)) (c .before .before .before .args .bars)
+        → Chose (selfOf (c .before .before .before .args .own)) bans (agentOf (c .before .before .before .args .self)) (c .before .if1 .value)
+        (agentOf (c .reasoned .result))
+    takes bans barring =
+        let start = c .before .before .before in
+        let g = c .reasoned .ensures .1 bans barring in
+        ⊎-elim
+        (λ u.
+        let e = lowest-free record { before = c .before .before; if1 = u .0 } in
+        rw (u .1)
+        (chose-some (start .args .own) bans (start .args .self) (start .args .bars) (start .pre .0) (start .pre .1) barring _
+        (tried-below _ _ _ _ e .0) (next-free _ _ _ _ e) _ (rw (u .2) at g)))
+        (λ u. rw (u .1) (chose-none _ bans _ _ (rw (u .2) at g)))
+        (c .before .if1 .came)
 
 pub choose-spec : {M : Type 1} → statement M
-choose-spec =
-    tie.close
-    (tie.spec
-    free-requires
-    reasoned-requires
-    returns
-    cast-lowest
-    add-t9
-    reasoned-requires-2
-    returns-2)
+choose-spec = tie.close (tie.spec free-requires cast-tried add-value reasoned-requires returns)

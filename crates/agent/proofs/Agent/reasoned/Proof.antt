@@ -1,120 +1,118 @@
 -- `reasoned` gives the reasons of the values tried.
--- Value by value, upward. The invariant: the first i are given, and choosing goes on above them.
-use borrow.Author.Needs.{needs}
-use Prim.Native.Nat.{_+_, _-_, _≤_, _<_}
-use mathlib.Core.Path.{_≡_, ap, _∙_}
-use mathlib.Core.Bool.{false}
-use mathlib.Core.Logic.{⊎-elim}
+-- The lowest value without a reason first. The invariant: what is given, and to which values it is still to come.
+use Prim.Native.Nat.{_^_, _<_, _≤_}
+use mathlib.Core.Path.{_≡_}
+use mathlib.Core.Bool.{true}
+use native.Mathlib.Numerals.{add-one}
 use native.Mathlib.Omega.{arith}
-use lib.ListN.{length, length-map, length-set}
-use borrow.Author.Tests.{not-true, not-false}
-use Rattle.agent.specs.Abstract.{assigned, noNogood, agentOf, selfOf, bansIn}
-use Rattle.agent.specs.Parts.{numberOf, freeOf, Reasoned}
-use Rattle.agent.proofs.Coherence.{ranged}
-use Rattle.agent.proofs.Reasons.{reasoned-none, kept, barred-agent, given}
+use lib.Count.{trailingZeros}
+use lib.ListN.{length-map}
+use Rattle.base.specs.Bits.{bit}
+use Rattle.agent.specs.Abstract.{assigned, selfOf}
+use Rattle.agent.proofs.Zeros.{trailing-set}
+use Rattle.agent.proofs.Giving.{Giving, giving-none, giving-more, room, fewer, lacking, lacking-lt, blamedAt, shift-some, shift-fits}
+use Rattle.agent.proofs.Reasoning.{blame-range, all-given, all-reasoned}
 use Rattle.agent.proofs.Agent.reasoned.Statement.{statement}
 use Rattle.agent.proofs.Agent.reasoned.Tie as tie
 
 abbrev Inv-loop : tie.InvT-loop
-Inv-loop self own bans tried a₀ i₀ a i =
-    (i ≤ tried) × (length (a .nogoods) ≡ 8) × Reasoned (selfOf own) (bansIn bans) i (agentOf a₀) (agentOf a)
+Inv-loop bars tried view a₀ rest₀ a rest = (rest < 2 ^ 8) × Giving bars view a₀ a rest₀ rest
 
 abbrev μ-loop : tie.MeasureT-loop
-μ-loop self own bans tried a₀ i₀ a i = tried - i
+μ-loop bars tried view a₀ rest₀ a rest = rest
 
-owned : (c : tie.Start Inv-loop μ-loop) → c .args .tried ≤ c .args .own .domain
+few : (c : tie.Start Inv-loop μ-loop) → c .args .tried ≤ 8
 unfolding selfOf
-owned c = c .pre .1 .1 .0
+few c = omega (arith, c .pre .1 .1 .0, c .pre .0 .few)
 
--- the value that is tried is not free
-not-free : (c : tie.In-loop Inv-loop μ-loop)
-    → freeOf (selfOf (c .before .before .before .args .own)) (bansIn (c .before .before .before .args .bans .now))
-    (agentOf (c .before .before .before .args .self)) (c .before .loop .i + 1) ≡ false
-not-free c = c .before .before .before .pre .1 .1 .1 (c .before .loop .i + 1) (omega arith) (omega arith)
+-- the value that gets its reason
+lowest : (c : tie.In-loop Inv-loop μ-loop)
+    → (trailingZeros 8 (c .before .loop .rest) < 8) × (bit (c .before .loop .rest) (trailingZeros 8 (c .before .loop .rest)) ≡ true)
+lowest c = trailing-set 8 (c .before .loop .rest) (omega arith) (c .before .loop .inv .0)
 
--- the agent that bars it
-barring : (c : tie.After-blame Inv-loop μ-loop)
-    → (1 ≤ c .blame .result) × (c .blame .result < c .before .before .before .before .before .before .before .args .own .number)
-unfolding numberOf noNogood
-barring c =
-    let start = c .before .before .before .before .before .before .before in
-    let loop = c .before .before .before .before .before .loop in
-    let b =
-    barred-agent (start .args .own) (bansIn (start .args .bans .now)) (start .args .self) (loop .a) (loop .i)
-    (omega (arith, owned (c .before .before .before .before .before .before .before))) (start .pre .0 .few) (loop .inv .2)
-    (not-true _ (c .before .if1 .taken)) (not-free (c .before .before .before .before)) in
-    let e : c .blame .result ≡ b .0 = rw (b .1) at (c .blame .ensures) in
-    (omega (arith, b .2), omega (arith, b .3))
+-- it is one of those that lack one
+among : (c : tie.In-loop Inv-loop μ-loop)
+    → bit (lacking (c .before .before .before .before .before .args .tried) (c .before .before .before .before .before .args .self .stored))
+    (trailingZeros 8 (c .before .loop .rest)) ≡ true
+among c = c .before .loop .inv .1 .among _ (lowest c .1)
+
+blames : (c : tie.After-first Inv-loop μ-loop)
+    → c .first .result ≡ blamedAt (c .before .before .before .before .before .before .args .bars) (trailingZeros 8 (c .before .before .loop .rest))
+blames c = rw add-one at (c .first .ensures)
+
+shl-rest : tie.Need-shl-rest Inv-loop μ-loop
+shl-rest c = omega (arith, few (c .before))
+
+sub-rest : tie.Need-sub-rest Inv-loop μ-loop
+sub-rest c = shift-some _ (few (c .before))
+
+cast-rest : tie.Need-cast-rest Inv-loop μ-loop
+cast-rest c = record { fits = shift-fits _ (few (c .before)) }
 
 loop-holds : tie.Need-loop-holds Inv-loop μ-loop
-loop-holds c = (omega arith, simp length-map at (c .before .good .0 .1 .1 .1 .1 .1 .1 .0 .1 .0 .1), reasoned-none _ _ _)
+loop-holds c =
+    let start = c .before .before .before in
+    (lacking-lt (start .args .tried) (start .args .self .stored), giving-none _ _ _ _ (simp length-map at (start .good .0 .1 .1 .1 .1 .1 .1 .1 .0 .1 .0 .1)))
 
-mul-g : tie.Need-mul-g Inv-loop μ-loop
-mul-g c = search needs
+cast-i : tie.Need-cast-i Inv-loop μ-loop
+cast-i c = record { fits = omega (arith, lowest c .0) }
 
-element-copy-out-g : tie.Need-element-copy-out-g Inv-loop μ-loop
-element-copy-out-g c = omega (arith, owned (c .before .before .before))
+add-first : tie.Need-add-first Inv-loop μ-loop
+add-first c = record { fits = omega (arith, lowest c .0) }
 
-cast-blame : tie.Need-cast-blame Inv-loop μ-loop
-cast-blame c = search needs
-
-add-blame : tie.Need-add-blame Inv-loop μ-loop
-add-blame c = search needs
-
-blame-requires : tie.Need-blame-requires Inv-loop μ-loop
-unfolding agentOf
-blame-requires c κs =
-    let start = c .before .before .before .before .before .before in (
-      start .pre .0,
-      (
-        ranged (selfOf (start .args .own)) (agentOf (start .args .self)) _ (omega arith) (start .pre .1 .0),
-        omega arith,
-        omega (arith, owned (c .before .before .before .before .before .before)),
-      ),
-    )
+first-requires : tie.Need-first-requires Inv-loop μ-loop
+first-requires c κs = (omega arith, omega (arith, lowest c .0))
 
 only-requires : tie.Need-only-requires Inv-loop μ-loop
-only-requires c κs = (barring c .0, omega (arith, barring c .1))
+only-requires c κs =
+    let turn = c .before in
+    let start = turn .before .before .before .before .before in
+    let r = blame-range (start .args .bars) (start .args .self .stored) (start .args .tried) (few start) (omega arith) (start .pre .1 .1 .1) _ (among turn) in
+    rw (blames c) r
 
-new-requires : tie.Need-new-requires Inv-loop μ-loop
-new-requires c κs = search needs
+cast-a : tie.Need-cast-a Inv-loop μ-loop
+cast-a c = record { fits = omega (arith, lowest (c .before .before) .0) }
 
-mul-t18 : tie.Need-mul-t18 Inv-loop μ-loop
-mul-t18 c = search needs
+mul-a : tie.Need-mul-a Inv-loop μ-loop
+mul-a c = record { fits = omega (arith, lowest (c .before .before) .0) }
 
-element-set-from-a : tie.Need-element-set-from-a Inv-loop μ-loop
-element-set-from-a c = omega (arith, owned (c .before .before .before .before .before .before .before .before .before))
+element-write-a : tie.Need-element-write-a Inv-loop μ-loop
+element-write-a c = lowest (c .before .before) .0
 
-add-i : tie.Need-add-i Inv-loop μ-loop
-add-i c = search needs
+shl-rest-2 : tie.Need-shl-rest-2 Inv-loop μ-loop
+shl-rest-2 c = lowest (c .before .before) .0
+
+sub-rest-2 : tie.Need-sub-rest-2 Inv-loop μ-loop
+sub-rest-2 c =
+    let turn = c .before .before in
+    let loop = turn .before .loop in
+    room _ _ _ (loop .a) _ (loop .rest) _ (loop .inv .1) (lowest turn .0) (lowest turn .1)
 
 loop-less : tie.Need-loop-less Inv-loop μ-loop
-loop-less c = search needs
+loop-less c =
+    let turn = c .before .before in
+    let loop = turn .before .loop in
+    fewer _ _ _ (loop .a) _ (loop .rest) _ (loop .inv .1) (lowest turn .0) (lowest turn .1)
 
 loop-again : tie.Need-loop-again Inv-loop μ-loop
-unfolding noNogood
+unfolding assigned
 loop-again c =
-    let start = c .before .before .before .before .before .before in
-    let loop = c .before .before .before .before .loop in
-    let own = start .args .own in
-    let words = bansIn (start .args .bans .now) in
-    let h : loop .i < own .domain = omega (arith, owned (c .before .before .before .before .before .before)) in (
-      omega arith,
-      ⊎-elim (λ u. rw (u .4) (rw length-set (loop .inv .1))) (λ u. rw (u .1) (loop .inv .1)) (c .if1 .came),
-      ⊎-elim
-          (λ u.
-          rw (u .4)
-          (given own words (start .args .self) (loop .a) (loop .i) h (start .pre .0 .few) (loop .inv .2) (loop .inv .1) (u .1 .result)
-          (u .3 .result)
-          (not-true _ (u .0 .taken)) (not-free (c .before .before .before)) (u .1 .ensures) (u .3 .ensures .0)
-          (ap assigned (u .3 .ensures .1) ∙ u .2 .ensures)))
-          (λ u. rw (u .1) (kept own words (start .args .self) (loop .a) (loop .i) h (start .pre .0 .few) (loop .inv .2)
-          (not-false _ (u .0 .left))))
-          (c .if1 .came),
+    let turn = c .before .before in
+    let loop = turn .before .loop in (
+      omega (arith, loop .inv .0),
+      giving-more _ _ _ (loop .a) _ (loop .rest) _ (loop .inv .1) (lowest turn .0) (lowest turn .1) _ (rw (blames (c .before)) at (c .only .ensures)),
     )
 
 returns : tie.Need-returns Inv-loop μ-loop
-returns c = let e : c .before .loop .i ≡ c .before .before .before .args .tried = omega arith in rw e at (c .before .loop .inv .2)
+returns c =
+    let start = c .before .before .before .before .before in
+    let loop = c .before .loop in
+    let e : loop .rest ≡ 0 = omega arith in
+    let g = rw e at (loop .inv .1) in (
+      all-given _ _ (start .args .self) (loop .a) _ (start .pre .0) (start .pre .1 .0) (start .pre .1 .1 .0) (start .pre .1 .1 .1) (omega arith) g,
+      λ bans barring. all-reasoned _ _ (start .args .self) (loop .a) _ (start .pre .0) (start .pre .1 .0) (start .pre .1 .1 .0) (start .pre .1 .1 .1)
+          (omega arith) g bans barring,
+    )
 
 pub reasoned-spec : {M : Type 1} → statement M
 reasoned-spec =
@@ -122,17 +120,19 @@ reasoned-spec =
     (tie.spec
     Inv-loop
     μ-loop
+    shl-rest
+    sub-rest
+    cast-rest
     loop-holds
-    mul-g
-    element-copy-out-g
-    cast-blame
-    add-blame
-    blame-requires
+    cast-i
+    add-first
+    first-requires
     only-requires
-    new-requires
-    mul-t18
-    element-set-from-a
-    add-i
+    cast-a
+    mul-a
+    element-write-a
+    shl-rest-2
+    sub-rest-2
     loop-less
     loop-again
     returns)

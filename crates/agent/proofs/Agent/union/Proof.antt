@@ -6,7 +6,7 @@ use mathlib.Core.Path.{_≡_, ap, _∙_}
 use mathlib.Core.Logic.{⊎-elim}
 use native.Mathlib.Omega.{arith}
 use Rattle.agent_rules.specs.Choosing.{union}
-use Rattle.agent.specs.Abstract.{assigned, noNogood, agentOf}
+use Rattle.agent.specs.Abstract.{assigned, agentOf}
 use Rattle.agent.proofs.Digits.{nobody-assigned}
 use Rattle.agent.proofs.Unions.{compatible, joined, passed}
 use Rattle.agent.proofs.Agent.union.Statement.{statement}
@@ -22,21 +22,24 @@ loop-holds : tie.Need-loop-holds Inv-loop μ-loop
 unfolding union assigned
 loop-holds c = (omega arith, nobody-assigned)
 
-cast-if1 : tie.Need-cast-if1 Inv-loop μ-loop
-cast-if1 c = search needs
+shr-if2 : tie.Need-shr-if2 Inv-loop μ-loop
+shr-if2 c = search needs
 
-mul-g : tie.Need-mul-g Inv-loop μ-loop
-mul-g c = search needs
+cast-t11 : tie.Need-cast-t11 Inv-loop μ-loop
+cast-t11 c = search needs
 
-element-copy-out-g : tie.Need-element-copy-out-g Inv-loop μ-loop
-element-copy-out-g c = search needs
+mul-t12 : tie.Need-mul-t12 Inv-loop μ-loop
+mul-t12 c = search needs
+
+element-copy-out-t15 : tie.Need-element-copy-out-t15 Inv-loop μ-loop
+element-copy-out-t15 c = search needs
 
 join-requires : tie.Need-join-requires Inv-loop μ-loop
-unfolding noNogood
+unfolding assigned
 join-requires c κs =
     let start = c .before .before .before .before .before in
     let loop = c .before .before .before .before .loop in
-    compatible _ (start .args .t1) (start .pre .1) (loop .i) (omega arith) _ (loop .inv .1) (c .if2 .taken)
+    compatible _ (start .args .t1) (start .pre .1) (loop .i) (omega arith) _ (loop .inv .1) (c .before .if2 .taken)
 
 add-i : tie.Need-add-i Inv-loop μ-loop
 add-i c = search needs
@@ -45,13 +48,13 @@ loop-less : tie.Need-loop-less Inv-loop μ-loop
 loop-less c = search needs
 
 loop-again : tie.Need-loop-again Inv-loop μ-loop
-unfolding noNogood
+unfolding assigned
 loop-again c =
-    let start = c .before .before .before .before .before in
-    let loop = c .before .before .before .before .loop in (
+    let start = c .before .before .before .before in
+    let loop = c .before .before .before .loop in (
       omega arith,
       ⊎-elim
-          (λ u. ap assigned (u .2) ∙ u .1 .ensures ∙ joined _ (start .args .t1) (start .pre .1) (loop .i) (omega arith) _ (loop .inv .1)
+          (λ u. ap assigned (u .3) ∙ u .2 .ensures ∙ joined _ (start .args .t1) (start .pre .1) (loop .i) (omega arith) _ (loop .inv .1)
           (u .0 .taken))
           (λ u. ap assigned (u .1) ∙ passed _ (start .args .t1) (start .pre .1) (loop .i) (omega arith) _ (loop .inv .1) (u .0 .left))
           (c .if2 .came),
@@ -69,9 +72,10 @@ union-spec =
     Inv-loop
     μ-loop
     loop-holds
-    cast-if1
-    mul-g
-    element-copy-out-g
+    shr-if2
+    cast-t11
+    mul-t12
+    element-copy-out-t15
     join-requires
     add-i
     loop-less

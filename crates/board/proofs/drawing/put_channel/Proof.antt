@@ -1,23 +1,31 @@
--- The loop over the eight places of a channel ends. Assumes nothing.
+-- The loop over the eight places of a channel ends; the ends of a channel are agents of 1 to 12.
 use Prim.Native.Nat.{_-_}
 use borrow.Author.Needs.{needs}
+use native.Mathlib.Omega.{arith}
+use Rattle.shape.proofs.Numbering.{ends}
 use Rattle.board.proofs.drawing.put_channel.Statement.{statement}
 use Rattle.board.proofs.drawing.put_channel.Tie as tie
 
 abbrev Inv-loop : tie.InvT-loop
-Inv-loop l r from other to count k₀ t12 k = Unit {0}
+Inv-loop from to r count k₀ t10 k = Unit {0}
 
 abbrev μ-loop : tie.MeasureT-loop
-μ-loop l r from other to count k₀ t12 k = 8 - k
+μ-loop from to r count k₀ t10 k = 8 - k
 
-add-from : tie.Need-add-from Inv-loop μ-loop
-add-from c = search needs
+sub-digit : tie.Need-sub-digit Inv-loop μ-loop
+sub-digit c = ends _ _ (c .pre) .from-low
 
-add-other : tie.Need-add-other Inv-loop μ-loop
-add-other c = search needs
+mul-digit : tie.Need-mul-digit Inv-loop μ-loop
+mul-digit c = search needs
 
-add-to : tie.Need-add-to Inv-loop μ-loop
-add-to c = search needs
+element-copy-out-digit : tie.Need-element-copy-out-digit Inv-loop μ-loop
+element-copy-out-digit c = let b = ends _ _ (c .pre) in search (needs, b .from-low, b .from-high)
+
+digit-requires : tie.Need-digit-requires Inv-loop μ-loop
+digit-requires c κs = let b = ends _ _ (c .before .pre) in (b .to-low, omega (arith, b .to-high))
+
+returns : tie.Need-returns Inv-loop μ-loop
+returns c = search needs
 
 slice-aggregate-put : tie.Need-slice-aggregate-put Inv-loop μ-loop
 slice-aggregate-put c = search needs
@@ -43,14 +51,8 @@ slice-aggregate-put-3 c = search needs
 put-requires-3 : tie.Need-put-requires-3 Inv-loop μ-loop
 put-requires-3 c κs = search needs
 
-element-copy-out-count : tie.Need-element-copy-out-count Inv-loop μ-loop
-element-copy-out-count c = search needs
-
 loop-holds : tie.Need-loop-holds Inv-loop μ-loop
 loop-holds c = search needs
-
-cast-put-waiting : tie.Need-cast-put-waiting Inv-loop μ-loop
-cast-put-waiting c = search needs
 
 put-waiting-requires : tie.Need-put-waiting-requires Inv-loop μ-loop
 put-waiting-requires c κs = search needs
@@ -70,8 +72,8 @@ slice-aggregate-put-4 c = search needs
 put-requires-4 : tie.Need-put-requires-4 Inv-loop μ-loop
 put-requires-4 c κs = search needs
 
-returns : tie.Need-returns Inv-loop μ-loop
-returns c = search needs
+returns-2 : tie.Need-returns-2 Inv-loop μ-loop
+returns-2 c = search needs
 
 pub put-channel-spec : {M : Type 1} → statement M
 put-channel-spec =
@@ -79,9 +81,11 @@ put-channel-spec =
     (tie.spec
     Inv-loop
     μ-loop
-    add-from
-    add-other
-    add-to
+    sub-digit
+    mul-digit
+    element-copy-out-digit
+    digit-requires
+    returns
     slice-aggregate-put
     put-requires
     put-number-requires
@@ -90,13 +94,11 @@ put-channel-spec =
     put-number-requires-2
     slice-aggregate-put-3
     put-requires-3
-    element-copy-out-count
     loop-holds
-    cast-put-waiting
     put-waiting-requires
     add-k
     loop-less
     loop-again
     slice-aggregate-put-4
     put-requires-4
-    returns)
+    returns-2)

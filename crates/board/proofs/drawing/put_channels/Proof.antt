@@ -1,46 +1,67 @@
--- The loop over the 132 channels ends. Assumes nothing.
-use Prim.Native.Nat.{_-_}
+-- The loops over the senders and the receivers end, and name agents of 1 to 12. Assumes nothing.
+use Prim.Native.Nat.{_-_, _≤_}
 use borrow.Author.Needs.{needs}
+use Rattle.shape.proofs.Numbering.{to-channel}
 use Rattle.board.proofs.drawing.put_channels.Statement.{statement}
 use Rattle.board.proofs.drawing.put_channels.Tie as tie
 
+abbrev Inv-loop2 : tie.InvT-loop2
+Inv-loop2 r from to₀ to = (1 ≤ from) × (from ≤ 12) × (1 ≤ to)
+
+abbrev μ-loop2 : tie.MeasureT-loop2
+μ-loop2 r from to₀ to = 13 - to
+
 abbrev Inv-loop : tie.InvT-loop
-Inv-loop r l₀ l = Unit {0}
+Inv-loop r from₀ from = 1 ≤ from
 
 abbrev μ-loop : tie.MeasureT-loop
-μ-loop r l₀ l = 132 - l
+μ-loop r from₀ from = 13 - from
 
-loop-holds : tie.Need-loop-holds Inv-loop μ-loop
+loop-holds : tie.Need-loop-holds Inv-loop2 μ-loop2 Inv-loop μ-loop
 loop-holds c = search needs
 
-element-copy-out-count : tie.Need-element-copy-out-count Inv-loop μ-loop
-element-copy-out-count c = search needs
+loop2-holds : tie.Need-loop2-holds Inv-loop2 μ-loop2 Inv-loop μ-loop
+loop2-holds c = search needs
 
-put-channel-requires : tie.Need-put-channel-requires Inv-loop μ-loop
-put-channel-requires c κs = search needs
+put-channel-requires : tie.Need-put-channel-requires Inv-loop2 μ-loop2 Inv-loop μ-loop
+put-channel-requires c κs = search (needs, to-channel)
 
-add-l : tie.Need-add-l Inv-loop μ-loop
-add-l c = search needs
+add-to : tie.Need-add-to Inv-loop2 μ-loop2 Inv-loop μ-loop
+add-to c = search needs
 
-loop-less : tie.Need-loop-less Inv-loop μ-loop
+loop2-less : tie.Need-loop2-less Inv-loop2 μ-loop2 Inv-loop μ-loop
+loop2-less c = search needs
+
+loop2-again : tie.Need-loop2-again Inv-loop2 μ-loop2 Inv-loop μ-loop
+loop2-again c = search needs
+
+add-from : tie.Need-add-from Inv-loop2 μ-loop2 Inv-loop μ-loop
+add-from c = search needs
+
+loop-less : tie.Need-loop-less Inv-loop2 μ-loop2 Inv-loop μ-loop
 loop-less c = search needs
 
-loop-again : tie.Need-loop-again Inv-loop μ-loop
+loop-again : tie.Need-loop-again Inv-loop2 μ-loop2 Inv-loop μ-loop
 loop-again c = search needs
 
-returns : tie.Need-returns Inv-loop μ-loop
+returns : tie.Need-returns Inv-loop2 μ-loop2 Inv-loop μ-loop
 returns c = search needs
 
 pub put-channels-spec : {M : Type 1} → statement M
 put-channels-spec =
     tie.close
     (tie.spec
+    Inv-loop2
+    μ-loop2
     Inv-loop
     μ-loop
     loop-holds
-    element-copy-out-count
+    loop2-holds
     put-channel-requires
-    add-l
+    add-to
+    loop2-less
+    loop2-again
+    add-from
     loop-less
     loop-again
     returns)

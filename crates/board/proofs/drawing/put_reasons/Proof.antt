@@ -13,11 +13,11 @@ abbrev μ-loop : tie.MeasureT-loop
 loop-holds : tie.Need-loop-holds Inv-loop μ-loop
 loop-holds c = search needs
 
-mul-g : tie.Need-mul-g Inv-loop μ-loop
-mul-g c = search needs
+cast-if1 : tie.Need-cast-if1 Inv-loop μ-loop
+cast-if1 c = search needs
 
-element-copy-out-g : tie.Need-element-copy-out-g Inv-loop μ-loop
-element-copy-out-g c = search needs
+shr-if1 : tie.Need-shr-if1 Inv-loop μ-loop
+shr-if1 c = search needs
 
 slice-aggregate-put : tie.Need-slice-aggregate-put Inv-loop μ-loop
 slice-aggregate-put c = search needs
@@ -36,6 +36,12 @@ slice-aggregate-put-2 c = search needs
 
 put-requires-2 : tie.Need-put-requires-2 Inv-loop μ-loop
 put-requires-2 c κs = search needs
+
+mul-t20 : tie.Need-mul-t20 Inv-loop μ-loop
+mul-t20 c = search needs
+
+element-copy-out-t17 : tie.Need-element-copy-out-t17 Inv-loop μ-loop
+element-copy-out-t17 c = search needs
 
 put-lhs-requires : tie.Need-put-lhs-requires Inv-loop μ-loop
 put-lhs-requires c κs = search needs
@@ -65,14 +71,16 @@ put-reasons-spec =
     Inv-loop
     μ-loop
     loop-holds
-    mul-g
-    element-copy-out-g
+    cast-if1
+    shr-if1
     slice-aggregate-put
     put-requires
     add-put-number
     put-number-requires
     slice-aggregate-put-2
     put-requires-2
+    mul-t20
+    element-copy-out-t17
     put-lhs-requires
     slice-aggregate-put-3
     put-requires-3

@@ -16,8 +16,23 @@ loop-holds c = search needs
 add-c : tie.Need-add-c Inv-loop μ-loop
 add-c c = search needs
 
-array-read-if1 : tie.Need-array-read-if1 Inv-loop μ-loop
-array-read-if1 c = search needs
+ends-of-requires : tie.Need-ends-of-requires Inv-loop μ-loop
+ends-of-requires c κs = search needs
+
+cast-digit : tie.Need-cast-digit Inv-loop μ-loop
+cast-digit c = search needs
+
+sub-digit : tie.Need-sub-digit Inv-loop μ-loop
+sub-digit c = search needs
+
+mul-digit : tie.Need-mul-digit Inv-loop μ-loop
+mul-digit c = search needs
+
+array-read-digit : tie.Need-array-read-digit Inv-loop μ-loop
+array-read-digit c = search needs
+
+digit-requires : tie.Need-digit-requires Inv-loop μ-loop
+digit-requires c κs = search needs
 
 returns : tie.Need-returns Inv-loop μ-loop
 returns c = search needs
@@ -42,7 +57,12 @@ waiting-line-spec =
     μ-loop
     loop-holds
     add-c
-    array-read-if1
+    ends-of-requires
+    cast-digit
+    sub-digit
+    mul-digit
+    array-read-digit
+    digit-requires
     returns
     add-k
     loop-less

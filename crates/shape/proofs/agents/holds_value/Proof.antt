@@ -10,15 +10,15 @@ owned-requires c κs = search needs
 
 returns : tie.Need-returns
 unfolding holdsValue
-returns c = λ w o h. rw (h, sym (c .before .owned .ensures (w .problem) (o .domains)) ∙ c .if1 .taken)
+returns c = λ w d e h. rw (h, sym (c .before .owned .ensures (w .problem) e) ∙ c .if1 .taken)
 
 returns-2 : tie.Need-returns-2
 unfolding holdsValue
-returns-2 c = λ w o h. rw (h, sym (c .before .before .owned .ensures (w .problem) (o .domains)) ∙ c .before .if1 .left, o .verdict, c .if2 .taken)
+returns-2 c = λ w d e h. rw (h, sym (c .before .before .owned .ensures (w .problem) e) ∙ c .before .if1 .left, d, c .if2 .taken)
 
 returns-3 : tie.Need-returns-3
 unfolding holdsValue
-returns-3 c = λ w o h. rw (h, sym (c .before .before .owned .ensures (w .problem) (o .domains)) ∙ c .before .if1 .left, o .verdict, c .if2 .left)
+returns-3 c = λ w d e h. rw (h, sym (c .before .before .owned .ensures (w .problem) e) ∙ c .before .if1 .left, d, c .if2 .left)
 
 pub holds-value-spec : {M : Type 1} → statement M
 holds-value-spec = tie.close (tie.spec owned-requires returns returns-2 returns-3)

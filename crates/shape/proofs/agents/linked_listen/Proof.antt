@@ -57,23 +57,23 @@ returns c =
     let args = c .before .before .before .before .before .before .before .args in
     let loop = c .before .before .before .before .before .before .loop in
     λ w e f g.
-    let h : Heard w (args .bans .now) (args .informs) (args .j) (args .listens) = record { banned = e; informing = f; listening = g } in
+    let h : Heard w (args .bans .now) (args .informs .now) (args .j) (args .listens) = record { banned = e; informing = f; listening = g } in
     let t : members (args .listens) (loop .i) ≡ false = sym (c .before .has .ensures) ∙ not-true _ (c .if2 .taken) in
     sym (loop .inv .1 w h
-    ∙ allTo-fails (loop .i) (heard w (args .j)) (c .before .before .before .before .before .loop-test .taken) (heard-is w (args .bans .now) (args .informs) (loop .i) (args .j) (args .listens) (c .before .before .before .before .word-at .result) h (c .before .before .before .before .before .loop-test .taken) (loop .inv .0) (c .before .before .before .before .before .before .before .pre .1) (c .before .before .before .before .word-at .ensures .0) ∙ rw (lt-ltb 0 (getD (args .bans .now) (c .before .before .before .before .word-at .result) 0) (omega (arith, c .before .before .if1 .taken)), t)))
+    ∙ allTo-fails (loop .i) (heard w (args .j)) (c .before .before .before .before .before .loop-test .taken) (heard-is w (args .bans .now) (args .informs .now) (loop .i) (args .j) (args .listens) (c .before .before .before .before .word-at .result) h (c .before .before .before .before .before .loop-test .taken) (loop .inv .0) (c .before .before .before .before .before .before .before .pre .1) (c .before .before .before .before .word-at .ensures .0) ∙ rw (lt-ltb 0 (getD (args .bans .now) (c .before .before .before .before .word-at .result) 0) (omega (arith, c .before .before .if1 .taken)), t)))
 
 has-at-requires : tie.Need-has-at-requires Inv-loop μ-loop
 has-at-requires c κs = search needs
 
 returns-2 : tie.Need-returns-2 Inv-loop μ-loop
 returns-2 c =
-    let args = c .before .before .before .before .before .before .before .before .before .args in
-    let loop = c .before .before .before .before .before .before .before .before .loop in
+    let args = c .before .before .before .before .before .before .before .before .before .before .args in
+    let loop = c .before .before .before .before .before .before .before .before .before .loop in
     λ w e f g.
-    let h : Heard w (args .bans .now) (args .informs) (args .j) (args .listens) = record { banned = e; informing = f; listening = g } in
-    let t : setOf (args .informs) (loop .i) (args .j) ≡ false = sym (c .before .has-at .ensures) ∙ not-true _ (c .if3 .taken) in
+    let h : Heard w (args .bans .now) (args .informs .now) (args .j) (args .listens) = record { banned = e; informing = f; listening = g } in
+    let t : setOf (args .informs .now) (loop .i) (args .j) ≡ false = sym (c .before .has-at .ensures) ∙ not-true _ (c .if3 .taken) in
     sym (loop .inv .1 w h
-    ∙ allTo-fails (loop .i) (heard w (args .j)) (c .before .before .before .before .before .before .before .loop-test .taken) (heard-is w (args .bans .now) (args .informs) (loop .i) (args .j) (args .listens) (c .before .before .before .before .before .before .word-at .result) h (c .before .before .before .before .before .before .before .loop-test .taken) (loop .inv .0) (c .before .before .before .before .before .before .before .before .before .pre .1) (c .before .before .before .before .before .before .word-at .ensures .0) ∙ rw (lt-ltb 0 (getD (args .bans .now) (c .before .before .before .before .before .before .word-at .result) 0) (omega (arith, c .before .before .before .before .if1 .taken)), t, and-false)))
+    ∙ allTo-fails (loop .i) (heard w (args .j)) (c .before .before .before .before .before .before .before .before .loop-test .taken) (heard-is w (args .bans .now) (args .informs .now) (loop .i) (args .j) (args .listens) (c .before .before .before .before .before .before .before .word-at .result) h (c .before .before .before .before .before .before .before .before .loop-test .taken) (loop .inv .0) (c .before .before .before .before .before .before .before .before .before .before .pre .1) (c .before .before .before .before .before .before .before .word-at .ensures .0) ∙ rw (lt-ltb 0 (getD (args .bans .now) (c .before .before .before .before .before .before .before .word-at .result) 0) (omega (arith, c .before .before .before .before .before .if1 .taken)), t, and-false)))
 
 sub-i-2 : tie.Need-sub-i-2 Inv-loop μ-loop
 sub-i-2 c = search needs
@@ -85,12 +85,12 @@ loop-again : tie.Need-loop-again Inv-loop μ-loop
 loop-again c =
     let args = c .before .before .before .before .before .args in
     let loop = c .before .before .before .before .loop in
-    let t : not (ltb 0 (getD (args .bans .now) (c .before .before .word-at .result) 0)) || (members (args .listens) (loop .i) && setOf (args .informs) (loop .i) (args .j)) ≡ true =
+    let t : not (ltb 0 (getD (args .bans .now) (c .before .before .word-at .result) 0)) || (members (args .listens) (loop .i) && setOf (args .informs .now) (loop .i) (args .j)) ≡ true =
     ⊎-elim
-    (λ a. rw (all-true (sym (a .1 .ensures) ∙ not-false _ (a .2 .left)) (sym (a .3 .ensures) ∙ not-false _ (a .4 .left)), or-true))
+    (λ a. rw (all-true (sym (a .1 .ensures) ∙ not-false _ (a .2 .left)) (sym (a .4 .ensures) ∙ not-false _ (a .5 .left)), or-true))
     (λ a. rw (a .left))
     (c .if1 .came) in
-    (omega arith, λ w h. loop .inv .1 w h ∙ allTo-goes (loop .i) (heard w (args .j)) (c .before .before .before .loop-test .taken) (heard-is w (args .bans .now) (args .informs) (loop .i) (args .j) (args .listens) (c .before .before .word-at .result) h (c .before .before .before .loop-test .taken) (loop .inv .0) (c .before .before .before .before .before .pre .1) (c .before .before .word-at .ensures .0) ∙ t))
+    (omega arith, λ w h. loop .inv .1 w h ∙ allTo-goes (loop .i) (heard w (args .j)) (c .before .before .before .loop-test .taken) (heard-is w (args .bans .now) (args .informs .now) (loop .i) (args .j) (args .listens) (c .before .before .word-at .result) h (c .before .before .before .loop-test .taken) (loop .inv .0) (c .before .before .before .before .before .pre .1) (c .before .before .word-at .ensures .0) ∙ t))
 
 returns-3 : tie.Need-returns-3 Inv-loop μ-loop
 returns-3 c =

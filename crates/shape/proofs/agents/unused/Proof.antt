@@ -1,6 +1,6 @@
 -- Field by field.
 use borrow.Author.Needs.{needs}
-use mir.Syntax.{w16, w64}
+use mir.Syntax.{w8, w16, w64}
 use mir.Val.{Fits}
 use mathlib.Core.Path.{_≡_}
 use borrow.Author.Tests.{eq-eqb, ne-eqb}
@@ -15,7 +15,8 @@ opened c =
     let l : Fits w16 (c .args .a .listens) = search needs in
     let i : Fits w16 (c .args .a .informs) = search needs in
     let v : Fits w64 (c .args .a .view .digits) = search needs in
-    unused-is (c .args .a) (l .fits) (i .fits) (v .fits)
+    let s : Fits w8 (c .args .a .stored) = search needs in
+    unused-is (c .args .a) (l .fits) (i .fits) (v .fits) (s .fits)
 
 returns : tie.Need-returns
 unfolding zeroed
@@ -33,14 +34,9 @@ returns-4 : tie.Need-returns-4
 unfolding zeroed
 returns-4 c = rw (opened (c .before .before .before .before .before .before .before .before .before), eq-eqb _ 0 (c .before .before .before .before .before .before .before .if1 .left), eq-eqb _ 0 (c .before .before .before .before .before .if2 .left), eq-eqb _ 0 (c .before .before .before .if3 .left), ne-eqb _ 0 (c .if4 .taken))
 
-unstored-requires : tie.Need-unstored-requires
-unstored-requires c κs = search needs
-
 returns-5 : tie.Need-returns-5
 unfolding zeroed
-returns-5 c = rw (opened (c .before .before .before .before .before .before .before .before .before .before), eq-eqb _ 0 (c .before .before .before .before .before .before .before .before .if1 .left), eq-eqb _ 0 (c .before .before .before .before .before .before .if2 .left), eq-eqb _ 0 (c .before .before .before .before .if3 .left), eq-eqb _ 0 (c .before .if4 .left)) (c .unstored .ensures)
+returns-5 c = rw (opened (c .before .before .before .before .before .before .before .before .before .before), eq-eqb _ 0 (c .before .before .before .before .before .before .before .before .if1 .left), eq-eqb _ 0 (c .before .before .before .before .before .before .if2 .left), eq-eqb _ 0 (c .before .before .before .before .if3 .left), eq-eqb _ 0 (c .before .if4 .left))
 
 pub unused-spec : {M : Type 1} → statement M
-unused-spec =
-    tie.close
-    (tie.spec returns returns-2 returns-3 returns-4 unstored-requires returns-5)
+unused-spec = tie.close (tie.spec returns returns-2 returns-3 returns-4 returns-5)

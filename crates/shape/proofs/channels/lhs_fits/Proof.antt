@@ -55,12 +55,12 @@ owned-requires c κs = search needs
 returns-2 : tie.Need-returns-2 Inv-loop μ-loop
 unfolding lhsFits assigned
 returns-2 c =
-    let loop = c .before .before .before .before .before .loop in
-    let o = one-off 16 16 (loop .k) (loop .rest) (omega arith) (loop .inv .1) (c .before .before .before .before .loop-test .taken) in
+    let loop = c .before .before .before .before .before .before .loop in
+    let o = one-off 16 16 (loop .k) (loop .rest) (omega arith) (loop .inv .1) (c .before .before .before .before .before .loop-test .taken) in
     λ p e.
     let t : owns p (loop .k + 1) (loop .rest % 16) ≡ false = sym (c .before .owned .ensures p e) ∙ not-true _ (c .if3 .taken) in
     sym (loop .inv .2 p e
-    ∙ named-stop (fits (c .before .before .before .before .before .before .args .j) p) (loop .k) (loop .rest) (o .fits) (c .before .before .before .if1 .taken) (rw (t, and-false)))
+    ∙ named-stop (fits (c .before .before .before .before .before .before .before .args .j) p) (loop .k) (loop .rest) (o .fits) (c .before .before .before .before .if1 .taken) (rw (t, and-false)))
 
 loop-less : tie.Need-loop-less Inv-loop μ-loop
 loop-less c = omega arith
@@ -70,10 +70,10 @@ loop-again c =
     let args = c .before .before .before .args in
     let loop = c .before .before .loop in
     let o = one-off 16 16 (loop .k) (loop .rest) (omega arith) (loop .inv .1) (c .before .loop-test .taken) in
-    let t : (p : Problem) → p .domains ≡ args .domains
+    let t : (p : Problem) → p .domains ≡ args .domains .now
     → not (known (loop .rest % 16)) || fits (args .j) p (loop .k + 1) (loop .rest % 16) ≡ true =
     λ p e. ⊎-elim
-    (λ a. passed (loop .rest % 16) (all-true (lt-ltb (loop .k + 1) (args .j) (a .1 .left)) (sym (a .2 .ensures p e) ∙ not-false _ (a .3 .left))))
+    (λ a. passed (loop .rest % 16) (all-true (lt-ltb (loop .k + 1) (args .j) (a .1 .left)) (sym (a .3 .ensures p e) ∙ not-false _ (a .4 .left))))
     (λ a. unnamed (loop .rest % 16) (fits (args .j) p (loop .k + 1) (loop .rest % 16)) (a .left))
     (c .if1 .came) in
     (omega (arith, o .fewer), o .rest, λ p e. loop .inv .2 p e ∙ named-go (fits (args .j) p) (loop .k) (loop .rest) (o .fits) (t p e))

@@ -62,4 +62,13 @@ returns-2 c =
 pub bans-owned-spec : {M : Type 1} → statement M
 bans-owned-spec =
     tie.close
-    (tie.spec Inv-loop μ-loop loop-holds bans-of-owned-requires returns sub-j loop-less loop-again returns-2)
+    (tie.spec
+    Inv-loop
+    μ-loop
+    loop-holds
+    bans-of-owned-requires
+    returns
+    sub-j
+    loop-less
+    loop-again
+    returns-2)

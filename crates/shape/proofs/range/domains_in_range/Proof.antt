@@ -30,19 +30,19 @@ cast-domain-in-range c = search needs
 sub-domain-in-range : tie.Need-sub-domain-in-range Inv-loop μ-loop
 sub-domain-in-range c = search needs
 
-array-read-domain-in-range : tie.Need-array-read-domain-in-range Inv-loop μ-loop
-array-read-domain-in-range c = search needs
+element-copy-out-domain-in-range : tie.Need-element-copy-out-domain-in-range Inv-loop μ-loop
+element-copy-out-domain-in-range c = search needs
 
 domain-in-range-requires : tie.Need-domain-in-range-requires Inv-loop μ-loop
 domain-in-range-requires c κs = search needs
 
 returns : tie.Need-returns Inv-loop μ-loop
 returns c =
-    let loop = c .before .before .before .loop in
+    let loop = c .before .before .before .before .loop in
     λ p e f.
     sym (loop .inv .1 p e f
-    ∙ allTo-fails (loop .i) (domainInRange p) (c .before .before .loop-test .taken)
-    (sym (c .before .domain-in-range .ensures p e (domain-at p (c .before .before .before .before .args .t2) (loop .i) f (c .before .before .loop-test .taken))) ∙ not-true _ (c .if1 .taken)))
+    ∙ allTo-fails (loop .i) (domainInRange p) (c .before .before .before .loop-test .taken)
+    (sym (c .before .domain-in-range .ensures p e (domain-at p (c .before .before .before .before .before .args .domains .now) (loop .i) f (c .before .before .before .loop-test .taken))) ∙ not-true _ (c .if1 .taken)))
 
 sub-i : tie.Need-sub-i Inv-loop μ-loop
 sub-i c = search needs
@@ -52,12 +52,12 @@ loop-less c = search needs
 
 loop-again : tie.Need-loop-again Inv-loop μ-loop
 loop-again c =
-    let loop = c .before .before .before .loop in (
+    let loop = c .before .before .before .before .loop in (
       omega arith,
       λ p e f.
           loop .inv .1 p e f
-          ∙ allTo-goes (loop .i) (domainInRange p) (c .before .before .loop-test .taken)
-          (sym (c .before .domain-in-range .ensures p e (domain-at p (c .before .before .before .before .args .t2) (loop .i) f (c .before .before .loop-test .taken))) ∙ not-false _ (c .if1 .left)),
+          ∙ allTo-goes (loop .i) (domainInRange p) (c .before .before .before .loop-test .taken)
+          (sym (c .before .domain-in-range .ensures p e (domain-at p (c .before .before .before .before .before .args .domains .now) (loop .i) f (c .before .before .before .loop-test .taken))) ∙ not-false _ (c .if1 .left)),
     )
 
 returns-2 : tie.Need-returns-2 Inv-loop μ-loop
@@ -74,7 +74,7 @@ domains-in-range-spec =
     loop-holds
     cast-domain-in-range
     sub-domain-in-range
-    array-read-domain-in-range
+    element-copy-out-domain-in-range
     domain-in-range-requires
     returns
     sub-i

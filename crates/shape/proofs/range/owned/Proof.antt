@@ -1,4 +1,4 @@
--- No agent 0, none above 12, no value 0; else the domain decides.
+-- No agent 0, none beyond the last, no value 0; else the domain decides.
 use borrow.Author.Needs.{needs}
 use mathlib.Core.Path.{sym}
 use native.Mathlib.Omega.{arith}
@@ -14,7 +14,7 @@ returns c =
 returns-2 : tie.Need-returns-2
 returns-2 c =
     let args = c .before .before .args in
-    λ p e. sym (owns-beyond p (args .t1) (args .k) (args .v) e (search needs) (c .if2 .taken))
+    λ p e. sym (owns-beyond p (args .domains .now) (args .k) (args .v) e (c .if2 .taken))
 
 returns-3 : tie.Need-returns-3
 returns-3 c =
@@ -24,13 +24,14 @@ returns-3 c =
 sub-result : tie.Need-sub-result
 sub-result c = search needs
 
-array-read-result : tie.Need-array-read-result
-array-read-result c = search needs
+shared-slice-read-result : tie.Need-shared-slice-read-result
+shared-slice-read-result c = search needs
 
 returns-4 : tie.Need-returns-4
 returns-4 c =
-    let args = c .before .before .before .args in
-    λ p e. sym (owns-at p (args .t1) (args .k) (args .v) e (omega arith) (omega arith))
+    let args = c .before .before .before .before .args in
+    λ p e. sym (owns-at p (args .domains .now) (args .k) (args .v) e (omega arith) (omega arith))
 
 pub owned-spec : {M : Type 1} → statement M
-owned-spec = tie.close (tie.spec returns returns-2 returns-3 sub-result array-read-result returns-4)
+owned-spec =
+    tie.close (tie.spec returns returns-2 returns-3 sub-result shared-slice-read-result returns-4)

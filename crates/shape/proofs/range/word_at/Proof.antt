@@ -1,28 +1,20 @@
--- The words of the pairs before, by a product.
+-- The words of the agents before, and those of the lower agents before this one.
 use borrow.Author.Needs.{needs}
-use native.Mathlib.Omega.{arith}
-use Rattle.shape.proofs.Ranges.{word-place}
+use Rattle.shape.proofs.Pairs.{word-place}
 use Rattle.shape.proofs.range.word_at.Statement.{statement}
 use Rattle.shape.proofs.range.word_at.Tie as tie
 
-sub-m : tie.Need-sub-m
-sub-m c = search needs
+words-before-requires : tie.Need-words-before-requires
+words-before-requires c κs = search needs
+
+add-result : tie.Need-add-result
+add-result c = search needs
 
 sub-result : tie.Need-sub-result
 sub-result c = search needs
 
-mul-result : tie.Need-mul-result
-mul-result c = omega (arith, word-place (c .args .i) (c .args .j) (c .pre .0) (c .pre .1) (c .pre .2) .0)
-
-add-result : tie.Need-add-result
-add-result c = omega (arith, word-place (c .args .i) (c .args .j) (c .pre .0) (c .pre .1) (c .pre .2) .0)
-
-sub-result-2 : tie.Need-sub-result-2
-sub-result-2 c = search needs
-
 returns : tie.Need-returns
-returns c =
-    let w = word-place (c .args .i) (c .args .j) (c .pre .0) (c .pre .1) (c .pre .2) in (w .1, omega arith)
+returns c = let b = c .words-before .ensures in word-place (c .before .args .i) (c .before .args .j) (c .words-before .result) (b .0) (c .before .pre .0) (c .before .pre .1) (b .1)
 
 pub word-at-spec : {M : Type 1} → statement M
-word-at-spec = tie.close (tie.spec sub-m sub-result mul-result add-result sub-result-2 returns)
+word-at-spec = tie.close (tie.spec words-before-requires add-result sub-result returns)

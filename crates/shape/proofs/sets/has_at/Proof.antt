@@ -1,4 +1,4 @@
--- There is no mask of agent 0 or above 12.
+-- There is no mask of agent 0 or beyond the last.
 use borrow.Author.Needs.{needs}
 use mathlib.Core.Path.{sym, _∙_}
 use native.Mathlib.Omega.{arith}
@@ -8,13 +8,13 @@ use Rattle.shape.proofs.sets.has_at.Tie as tie
 
 returns : tie.Need-returns
 returns c =
-    let args = c .before .args in
-    sym (set-nobody (args .t1) (args .k) (args .j) (c .if1 .taken))
+    let args = c .before .before .args in
+    sym (set-nobody (args .masks .now) (args .k) (args .j) (c .if1 .taken))
 
 returns-2 : tie.Need-returns-2
 returns-2 c =
-    let args = c .before .before .args in
-    sym (set-beyond (args .t1) (args .k) (args .j) (search needs) (c .if2 .taken))
+    let args = c .before .before .before .args in
+    sym (set-beyond (args .masks .now) (args .k) (args .j) (c .if2 .taken))
 
 sub-has : tie.Need-sub-has
 sub-has c = search needs
@@ -22,18 +22,18 @@ sub-has c = search needs
 mul-has : tie.Need-mul-has
 mul-has c = search needs
 
-array-read-has : tie.Need-array-read-has
-array-read-has c = search needs
+shared-slice-read-has : tie.Need-shared-slice-read-has
+shared-slice-read-has c = search needs
 
 has-requires : tie.Need-has-requires
 has-requires c κs = search needs
 
 returns-3 : tie.Need-returns-3
 returns-3 c =
-    let args = c .before .before .before .args in
-    c .has .ensures ∙ sym (set-at (args .t1) (args .k) (args .j) (omega arith))
+    let args = c .before .before .before .before .before .args in
+    c .has .ensures ∙ sym (set-at (args .masks .now) (args .k) (args .j) (omega arith))
 
 pub has-at-spec : {M : Type 1} → statement M
 has-at-spec =
     tie.close
-    (tie.spec returns returns-2 sub-has mul-has array-read-has has-requires returns-3)
+    (tie.spec returns returns-2 sub-has mul-has shared-slice-read-has has-requires returns-3)

@@ -1,0 +1,85 @@
+-- The values that stored reasons and bytes leave free, as the code's mask has them and as the rule does.
+use Prim.Native.Nat.{ℕ, zero, suc, pred, _+_, _-_, _/_, _^_, _<_, _≤_}
+use mathlib.Core.Path.{_≡_, refl}
+use mathlib.Core.Bool.{not, _||_}
+use mathlib.Core.Option.{Option, none, some}
+use mathlib.Core.List.{List}
+use native.Mathlib.Nat.{not-suc-le-zero, lt-of-le-of-lt}
+use native.Mathlib.Omega.{arith}
+use lib.Bits.{bitAnd, bitOr, and-le-l, or-lt}
+use lib.Pow.{shr-lt}
+use Rattle.base.specs.Bits.{bit}
+use Rattle.base.specs.Finite.{isSome, lowest, fromOne}
+use Rattle.base.proofs.Bits.{bit-or}
+use Rattle.base.proofs.Peeling.{bit-shr}
+use Rattle.base.proofs.Tests.{test}
+use Rattle.problem.specs.Problem.{maxDomain}
+use Rattle.agent_rules.specs.Message.{Assignment}
+use Rattle.agent_rules.specs.Agent.{Bans}
+use Rattle.agent_rules.specs.Choosing.{reason, reasonOf, blaming}
+use Rattle.agent_rules.specs.Shape.{maxNamed}
+use Rattle.agent.specs.Abstract.{byteOf, nogoodAt, assigned, agentOf, selfOf}
+use Rattle.agent.specs.Entries.{Sized, Barring}
+use Rattle.agent.specs.Parts.{Coherent, maskFrom, leftFree}
+use Rattle.agent.specs.declared.Agent.{Agent}
+use Rattle.agent.specs.declared.Own.{Own}
+use Rattle.agent.specs.declared.Bars.{Bars}
+use Rattle.agent.proofs.Barrings.{blamed}
+use Rattle.agent.proofs.Marks.{bit-and}
+use Rattle.agent.proofs.Bitwise.{bit-not, bit-ones}
+use Rattle.agent.proofs.Masks.{mask-is}
+use Rattle.agent.proofs.Records.{nogood-stored, nogood-none}
+
+-- ---- as the code has it
+
+pub free-mask : (stored all d : ℕ) (b : Bars) → stored < 2 ^ 8 → all < 2 ^ 8 → d ≤ 8
+    → ((w : ℕ) → 1 ≤ w → w ≤ 8 → bit all (pred w) ≡ isSome (lowest maxNamed 1 (λ k. bit (byteOf b k) (pred w))))
+    → bitAnd (255 / 2 ^ (8 - d)) (255 - bitOr stored all) ≡ maskFrom (leftFree stored b) 1 d
+unfolding leftFree
+free-mask stored all d b h k l f =
+    mask-is (leftFree stored b) 1 d _
+    (let e : d + (8 - d) ≡ 8 = omega arith in
+    lt-of-le-of-lt (and-le-l (255 / 2 ^ (8 - d)) _) (shr-lt d (8 - d) (rw e (omega arith))))
+    (λ i q.
+    let one : 1 + i ≡ suc i = omega arith in
+    rw (
+      one,
+      bit-and (255 / 2 ^ (8 - d)) (255 - bitOr stored all) i,
+      bit-shr 255 (8 - d) i,
+      bit-ones 8 (8 - d + i) (omega arith),
+      bit-not 8 (bitOr stored all) i (or-lt 8 stored all h k) (omega arith),
+      bit-or stored all i,
+      f (suc i) (omega arith) (omega arith),
+    ))
+
+-- ---- as the rule has it
+
+isSome-blaming : (view : Assignment) (o : Option ℕ) → isSome (blaming view o) ≡ isSome o
+unfolding isSome blaming
+isSome-blaming view none = refl
+isSome-blaming view (some k) = refl
+
+isSome-reason : (o b : Option Assignment) → isSome (reasonOf o b) ≡ isSome o || isSome b
+unfolding isSome reasonOf
+isSome-reason none b = refl
+isSome-reason (some lhs) b = refl
+
+isSome-stored : (stored : ℕ) (nogoods : List ℕ) (i : ℕ) → isSome (nogoodAt stored nogoods i) ≡ bit stored i
+unfolding isSome
+isSome-stored stored nogoods i =
+    test (bit stored i)
+    (λ e. rw (nogood-stored stored nogoods i e, e))
+    (λ e. rw (nogood-none stored nogoods i e, e))
+
+pub left-free : (own : Own) (bans : Bans) (a : Agent) (b : Bars) → Sized own → Coherent (selfOf own) (agentOf a)
+    → Barring bans (assigned (a .view)) b → (v : ℕ) → 1 ≤ v → v ≤ 8
+    → leftFree (a .stored) b v ≡ not (isSome (reason (selfOf own) bans (agentOf a .view) (agentOf a .nogoods) v))
+unfolding leftFree reason agentOf selfOf fromOne maxDomain
+left-free own bans a b sized c barring zero l h = absurd (not-suc-le-zero l)
+left-free own bans a b sized c barring (suc v) l h =
+    rw (
+      isSome-reason,
+      isSome-stored,
+      isSome-blaming,
+      ← blamed (selfOf own) bans (assigned (a .view)) b barring (sized .first) (sized .last) (c .viewed) (suc v) l h,
+    )

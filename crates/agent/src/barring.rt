@@ -1,0 +1,92 @@
+// What the bans and a view bar.
+ghost use mathlib.Core.Path.{_≡_};
+ghost use Prim.Native.Nat.{ℕ, pred, _+_, _*_, _-_, _≤_, _<_, _^_};
+ghost use Rattle.base.specs.Finite.{at, isSome, lowest};
+ghost use Rattle.base.specs.Bits.{bit};
+ghost use Rattle.agent_rules.specs.Shape.{maxNamed};
+ghost use Rattle.agent.specs.Abstract.{numberOf, byteOf, assigned, bansIn};
+ghost use Rattle.agent.specs.Entries.{Barring, Able};
+ghost use Rattle.agent.specs.Parts.{Ranged, barredAt};
+use crate::Bars;
+use crate::Lhs;
+use crate::Own;
+
+// The own values, as a mask, that an agent with this word of bans bars at value v: one byte of it. An unknown value bars nothing.
+pub(crate) fn barred_at(word: u64, v: u8) -> u8
+    requires { ⌜ v ≤ 8 ⌝ }
+    ensures { λ r. ⌜ r ≡ barredAt word v ⌝ }
+{
+    if v == 0 {
+        return 0;
+    }
+    ((word >> (8 * (v - 1))) % 256) as u8
+}
+
+impl Bars {
+    // The byte of agent k.
+    fn byte(self, k: u8) -> u8
+        requires { ⌜ (1 ≤ k) × (k ≤ 16) ⌝ }
+        ensures { λ r. ⌜ r ≡ byteOf self k ⌝ }
+    {
+        if k <= 8 {
+            return ((self.low >> (8 * (k - 1))) % 256) as u8;
+        }
+        ((self.high >> (8 * (k - 9))) % 256) as u8
+    }
+
+    // The same with another byte for agent k.
+    pub(crate) fn with(self, k: u8, byte: u8) -> Bars
+        requires { ⌜ (1 ≤ k) × (k ≤ 16) ⌝ }
+        ensures { λ r. ⌜ ((j : ℕ) → 1 ≤ j → j ≤ 16 → byteOf r j ≡ at (byteOf self) k byte j) ⌝ }
+    {
+        let old = self.byte(k) as u64;
+        let mut b = self;
+        if k <= 8 {
+            b.low = self.low - (old << (8 * (k - 1))) + ((byte as u64) << (8 * (k - 1)));
+        } else {
+            b.high = self.high - (old << (8 * (k - 9))) + ((byte as u64) << (8 * (k - 9)));
+        }
+        b
+    }
+
+    // What a view bars.
+    pub fn of(view: Lhs, own: Own, bans: &[u64]) -> Bars
+        requires { ⌜ Able own (now bans) ⌝ }
+        requires { ⌜ Ranged (own .number - 1) (assigned view) ⌝ }
+        ensures { λ r. ⌜ Barring (bansIn (now (bans .entry))) (assigned view) r ⌝ }
+    {
+        let mut b = Bars { low: 0, high: 0 };
+        let mut k: u8 = 0;
+        while k + 1 < own.number {
+            k += 1;
+            b = b.with(k, barred_at(bans[k as usize - 1], view.value_of(k)));
+        }
+        b
+    }
+
+    // The own values, as a mask, that some agent bars; bit w - 1 is value w.
+    pub(crate) fn all(self) -> u8
+        ensures { λ r. ⌜ ((w : ℕ) → 1 ≤ w → w ≤ 8 → bit r (pred w) ≡ isSome (lowest maxNamed 1 (λ k. bit (byteOf self k) (pred w)))) ⌝ }
+    {
+        let eight = self.low | self.high;
+        let four = eight | (eight >> 32);
+        let two = four | (four >> 16);
+        ((two | (two >> 8)) % 256) as u8
+    }
+
+    // The lowest-numbered agent that bars own value w, 0 where none does. The number has the lowest bit of each byte.
+    pub(crate) fn first(self, w: u8) -> u8
+        requires { ⌜ (1 ≤ w) × (w ≤ 8) ⌝ }
+        ensures { λ r. ⌜ r ≡ numberOf (lowest maxNamed 1 (λ k. bit (byteOf self k) (pred w))) ⌝ }
+    {
+        let low = (self.low >> (w - 1)) & 72340172838076673;
+        if low != 0 {
+            return u64::trailing_zeros(low) as u8 / 8 + 1;
+        }
+        let high = (self.high >> (w - 1)) & 72340172838076673;
+        if high != 0 {
+            return u64::trailing_zeros(high) as u8 / 8 + 9;
+        }
+        0
+    }
+}

@@ -1,0 +1,12 @@
+pub mod Rejecting
+pub mod Numbering
+pub mod Named
+pub mod Sending
+pub mod Counting
+pub mod Rings
+pub mod Changes
+pub mod Joining
+pub mod Words
+pub mod Stepping
+pub mod Finding
+pub mod Handing

@@ -1,0 +1,54 @@
+-- Rows of digits, and the rings that they count: one row changed, a row of zeros, and a ring in other places.
+use mathlib.Core.Path.{_≡_, refl, ap}
+use mathlib.Core.Logic.{_≢_}
+use mathlib.Core.Bool.{true}
+use mathlib.Core.List.{List, []}
+use Prim.Native.Nat.{ℕ, zero, suc, _+_, _*_, _%_, _<_}
+use native.Mathlib.Omega.{arith}
+use lib.ListN.{length, getD, set, replicate}
+use lib.Seq.{getD-set-same, getD-set-other}
+use Rattle.base.specs.Finite.{fromOne}
+use Rattle.base.proofs.Arrays.{getD-same}
+use Rattle.agent_rules.specs.Message.{nobody}
+use Rattle.agent.specs.Packed.{assignment}
+use Rattle.agent.proofs.Digits.{nobody-assigned}
+use Rattle.shape.specs.declared.Place.{Place}
+use Rattle.shape.specs.declared.Network.{Network}
+use Rattle.shape.specs.Abstract.{isChannel, channelAt, noPlace, ring, rowOf, channelOf, networkOf}
+
+-- ---- rows
+
+pub row-here : (rows : List ℕ) (i row : ℕ) → i < length rows → rowOf (set rows i row) (suc i) ≡ assignment row
+unfolding rowOf fromOne
+row-here rows i row h = rw (getD-set-same rows i row 0 h)
+
+pub row-elsewhere : (rows : List ℕ) (i row x : ℕ) → x ≢ suc i → rowOf (set rows i row) x ≡ rowOf rows x
+unfolding rowOf fromOne
+row-elsewhere rows i row zero n = refl
+row-elsewhere rows i row (suc x) n = rw (getD-set-other rows i x row 0 (λ q. n (ap suc q)))
+
+pub zero-row : (n i j : ℕ) → rowOf (replicate n 0) i j ≡ 0
+unfolding rowOf fromOne nobody
+zero-row n zero j = rw nobody-assigned
+zero-row n (suc i) j = rw (getD-same {A = ℕ} n 0 i, nobody-assigned)
+
+-- ---- rings
+
+ring-length : (places : List Place) (base head count : ℕ) → length (ring places base head count) ≡ count
+unfolding ring
+ring-length places base head zero = refl
+ring-length places base head (suc count) = ap suc (ring-length places base (suc head) count)
+
+pub ring-same : (ps qs : List Place) (base head count : ℕ) → ((h : ℕ) → getD ps (base + h % 8) noPlace ≡ getD qs (base + h % 8) noPlace)
+    → ring ps base head count ≡ ring qs base head count
+unfolding ring
+ring-same ps qs base head zero e = refl
+ring-same ps qs base head (suc count) e = rw (e head, ring-same ps qs base (suc head) count e)
+
+-- a channel that holds nothing counts nothing
+pub none-counted : (o : Network) (i j : ℕ) → isChannel i j ≡ true → networkOf o .channel i j ≡ [] → rowOf (o .counts) i j ≡ 0
+unfolding networkOf channelOf
+none-counted o i j e q =
+    let h : length (ring (o .places) (8 * channelAt i j) (rowOf (o .heads) i j) (rowOf (o .counts) i j)) ≡ 0 = ap length (rw (e, networkOf) at q) in
+    let l = ring-length (o .places) (8 * channelAt i j) (rowOf (o .heads) i j) (rowOf (o .counts) i j) in
+    omega arith
