@@ -24,8 +24,9 @@ use Rattle.shape.specs.declared.Network.{Network}
 use Rattle.shape.specs.Abstract.{isChannel, channelAt, placeOf, ring, rowOf, channelOf, agentsOf, networkOf}
 use Rattle.shape.proofs.Numbering.{Ends, ends, channel-below}
 use Rattle.delivery.specs.Parts.{heldAt}
-use Rattle.delivery.proofs.Numbering.{channel-one}
-use Rattle.delivery.proofs.Rings.{ring-length, ring-head, ring-moved, ring-put, ring-apart}
+use Rattle.shape.proofs.Columns.{channel-one}
+use Rattle.shape.proofs.Rings.{ring-length}
+use Rattle.delivery.proofs.Rings.{ring-head, ring-moved, ring-put, ring-apart}
 
 -- the arrays have their lengths
 pub record Sized (o : Network) : Type 0 where

@@ -1,5 +1,4 @@
 pub mod Rejecting
-pub mod Numbering
 pub mod Named
 pub mod Sending
 pub mod Counting

@@ -13,11 +13,6 @@ use Rattle.agent_rules.specs.Message.{Message as Message′}
 use Rattle.shape.specs.declared.Place.{Place}
 use Rattle.shape.specs.Abstract.{placeOf, noPlace, ring}
 
-pub ring-length : (ps : List Place) (b h k : ℕ) → length (ring ps b h k) ≡ k
-unfolding ring
-ring-length ps b h zero = refl
-ring-length ps b h (suc k) = ap suc (ring-length ps b (suc h) k)
-
 -- a head counts modulo eight
 ring-cong : (ps : List Place) (b h j k : ℕ) → h % 8 ≡ j % 8 → ring ps b h k ≡ ring ps b j k
 unfolding ring

@@ -1,6 +1,5 @@
 mod Words
 mod Masks
-mod Channels
 mod News
 mod Rows
 mod Posting

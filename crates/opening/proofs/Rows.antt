@@ -1,20 +1,18 @@
--- Rows of digits, and the rings that they count: one row changed, a row of zeros, and a ring in other places.
+-- Rows of digits, and the rings that they count: one row changed, and a ring in other places.
 use mathlib.Core.Path.{_≡_, refl, ap}
 use mathlib.Core.Logic.{_≢_}
 use mathlib.Core.Bool.{true}
 use mathlib.Core.List.{List, []}
 use Prim.Native.Nat.{ℕ, zero, suc, _+_, _*_, _%_, _<_}
 use native.Mathlib.Omega.{arith}
-use lib.ListN.{length, getD, set, replicate}
+use lib.ListN.{length, getD, set}
 use lib.Seq.{getD-set-same, getD-set-other}
 use Rattle.base.specs.Finite.{fromOne}
-use Rattle.base.proofs.Arrays.{getD-same}
-use Rattle.agent_rules.specs.Message.{nobody}
 use Rattle.agent.specs.Packed.{assignment}
-use Rattle.agent.proofs.Digits.{nobody-assigned}
 use Rattle.shape.specs.declared.Place.{Place}
 use Rattle.shape.specs.declared.Network.{Network}
 use Rattle.shape.specs.Abstract.{isChannel, channelAt, noPlace, ring, rowOf, channelOf, networkOf}
+use Rattle.shape.proofs.Rings.{ring-length}
 
 -- ---- rows
 
@@ -27,17 +25,7 @@ unfolding rowOf fromOne
 row-elsewhere rows i row zero n = refl
 row-elsewhere rows i row (suc x) n = rw (getD-set-other rows i x row 0 (λ q. n (ap suc q)))
 
-pub zero-row : (n i j : ℕ) → rowOf (replicate n 0) i j ≡ 0
-unfolding rowOf fromOne nobody
-zero-row n zero j = rw nobody-assigned
-zero-row n (suc i) j = rw (getD-same {A = ℕ} n 0 i, nobody-assigned)
-
 -- ---- rings
-
-ring-length : (places : List Place) (base head count : ℕ) → length (ring places base head count) ≡ count
-unfolding ring
-ring-length places base head zero = refl
-ring-length places base head (suc count) = ap suc (ring-length places base (suc head) count)
 
 pub ring-same : (ps qs : List Place) (base head count : ℕ) → ((h : ℕ) → getD ps (base + h % 8) noPlace ≡ getD qs (base + h % 8) noPlace)
     → ring ps base head count ≡ ring qs base head count

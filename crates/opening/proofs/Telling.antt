@@ -18,7 +18,7 @@ use Rattle.shape.specs.declared.Place.{Place}
 use Rattle.shape.specs.declared.Network.{Network}
 use Rattle.shape.specs.Abstract.{isChannel, channelAt, placeOf, noPlace}
 use Rattle.shape.proofs.Numbering.{channel-below}
-use Rattle.opening.proofs.Channels.{channel-same}
+use Rattle.shape.proofs.Columns.{channel-one}
 
 -- the network with these places
 abbrev pub withPlaces : Network → List Place → Network
@@ -86,14 +86,14 @@ module _ (i value all : ℕ) (o : Network) where
         rw fewer
         (eq-test j k
         (λ q f. rw (q, ← place, getD-set-same (r .places) x v noPlace (omega (arith, T .size, channel-below i k c))) message)
-        (λ q f. rw (getD-set-other (r .places) x (8 * channelAt i j) v noPlace (λ s. q (channel-same i j i k d c (omega arith) .1)))
+        (λ q f. rw (getD-set-other (r .places) x (8 * channelAt i j) v noPlace (λ s. q (channel-one i j i k d c (omega arith) .1)))
         (T .told-first j d e (sym (at-other (members told) k false j q) ∙ f))))
 
     others-same : (y j h : ℕ) → isChannel y j ≡ true → y ≢ i
         → getD after (8 * channelAt y j + h % 8) noPlace ≡ getD (o .places) (8 * channelAt y j + h % 8) noPlace
     unfolding after
     others-same y j h d n =
-        getD-set-other (r .places) x (8 * channelAt y j + h % 8) v noPlace (λ s. n (channel-same y j i k d c (omega arith) .0))
+        getD-set-other (r .places) x (8 * channelAt y j + h % 8) v noPlace (λ s. n (channel-one y j i k d c (omega arith) .0))
         ∙ T .others y j h d n
 
     pub telling-goes : Telling i value all o (withPlaces r (set (r .places) x v)) row′ told′

@@ -16,8 +16,9 @@ use Rattle.agent.proofs.Posts.{no-members}
 use Rattle.shape.specs.declared.Network.{Network}
 use Rattle.shape.specs.Abstract.{isChannel, channelAt, ring, channelOf, problemOf, networkOf}
 use Rattle.shape.proofs.Numbering.{ends}
+use Rattle.shape.proofs.Zeros.{zero-row}
 use Rattle.opening.proofs.News.{sent-none, sent-one}
-use Rattle.opening.proofs.Rows.{row-here, row-elsewhere, zero-row, ring-same}
+use Rattle.opening.proofs.Rows.{row-here, row-elsewhere, ring-same}
 use Rattle.opening.proofs.Posting.{withPosts, Silent, withRow}
 use Rattle.opening.proofs.Telling.{withPlaces, Telling}
 

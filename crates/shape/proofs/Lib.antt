@@ -1,10 +1,11 @@
 pub mod Numbering
+pub mod Columns
 pub mod Pairs
 mod Lines
 mod Words
 mod Ranges
 mod Clauses
-mod Rings
+pub mod Rings
 mod Sweeping
 mod Whole
-mod Zeros
+pub mod Zeros

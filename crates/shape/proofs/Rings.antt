@@ -18,7 +18,7 @@ use Rattle.shape.specs.declared.Network.{Network}
 
 -- ---- a ring
 
-ring-length : (ps : List Place) (base head count : ℕ) → length (ring ps base head count) ≡ count
+pub ring-length : (ps : List Place) (base head count : ℕ) → length (ring ps base head count) ≡ count
 unfolding ring
 ring-length ps base head zero = refl
 ring-length ps base head (suc count) = ap suc (ring-length ps base (suc head) count)

@@ -49,14 +49,14 @@ zero-agents (suc k) =
     ∙ ap (λ (a : Agent′). getD (replicate 12 a) k noAgent) zero-agent
     ∙ getD-same 12 noAgent k
 
-zero-row : (i j : ℕ) → rowOf (replicate 12 0) i j ≡ 0
+pub zero-row : (n i j : ℕ) → rowOf (replicate n 0) i j ≡ 0
 unfolding rowOf fromOne nobody
-zero-row zero j = rw nobody-assigned
-zero-row (suc i) j = rw (getD-same {A = ℕ} 12 0 i, nobody-assigned)
+zero-row n zero j = rw nobody-assigned
+zero-row n (suc i) j = rw (getD-same {A = ℕ} n 0 i, nobody-assigned)
 
 zero-channel : (r : Network) → r .counts ≡ replicate 12 0 → (i j : ℕ) → channelOf r i j ≡ []
 unfolding channelOf ring
-zero-channel r e i j = rw (e, zero-row i j)
+zero-channel r e i j = rw (e, zero-row 12 i j)
 
 zero-channels : (r : Network) → r .counts ≡ replicate 12 0 → (i j : ℕ) → networkOf r .channel i j ≡ []
 unfolding networkOf
