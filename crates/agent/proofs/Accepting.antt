@@ -17,13 +17,13 @@ use Rattle.agent_rules.specs.Message.{Assignment, known}
 use Rattle.agent_rules.specs.Agent.{Nogoods, Agent as Agent′}
 use Rattle.agent_rules.specs.Receiving.{unheard, accepting}
 use Rattle.agent_rules.specs.Shape.{maxNamed}
-use Rattle.agent.specs.Packed.{assignment, members}
+use Rattle.packed.specs.Packed.{assignment, members}
 use Rattle.agent.specs.Abstract.{assigned, agentOf}
 use Rattle.agent.specs.Parts.{Upward}
 use Rattle.agent.specs.declared.Lhs.{Lhs}
 use Rattle.agent.specs.declared.Agent.{Agent}
 use Rattle.agent.specs.declared.Own.{Own}
-use Rattle.agent.proofs.Digits.{assignment-above}
+use Rattle.packed.proofs.Digits.{assignment-above}
 use Rattle.agent.proofs.Storing.{nogoodsOf, nogoods-stored}
 
 abbrev listening : Agent → ℕ → Lhs → Agent

@@ -12,7 +12,7 @@ use Rattle.agent_rules.specs.Message.{Assignment, known}
 use Rattle.agent_rules.specs.Agent.{Agent as Agent′}
 use Rattle.agent_rules.specs.Receiving.{unheard}
 use Rattle.agent_rules.specs.Shape.{maxNamed}
-use Rattle.agent.specs.Packed.{members}
+use Rattle.packed.specs.Packed.{members}
 use Rattle.agent.specs.Entries.{Above}
 use Rattle.agent.specs.Parts.{Upward}
 use Rattle.agent.specs.declared.Own.{Own}

@@ -22,8 +22,8 @@ use Rattle.agent.specs.Abstract.{byte, byteOf, bansIn}
 use Rattle.agent.specs.Entries.{Barring}
 use Rattle.agent.specs.Parts.{barredAt}
 use Rattle.agent.specs.declared.Bars.{Bars}
-use Rattle.agent.proofs.Known.{known-suc}
-use Rattle.agent.proofs.Searches.{lowest-shorter}
+use Rattle.packed.proofs.Known.{known-suc}
+use Rattle.base.proofs.Searches.{lowest-shorter}
 
 -- an agent that is not above bars nothing
 unnamed : (s : Self) (bans : Bans) (view : Assignment) → EachNamed view (λ k v. (k < s .number) × (v ≤ maxDomain))

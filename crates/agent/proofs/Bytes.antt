@@ -18,8 +18,8 @@ use Rattle.base.proofs.Peeling.{bit-shr, bit-low}
 use Rattle.agent_rules.specs.Shape.{maxNamed}
 use Rattle.agent.specs.Abstract.{byte, byteOf}
 use Rattle.agent.specs.declared.Bars.{Bars}
-use Rattle.agent.proofs.Fields.{exchanged, same, others}
-use Rattle.agent.proofs.Searches.{isSome-halves}
+use Rattle.packed.proofs.Fields.{exchanged, same, others}
+use Rattle.base.proofs.Searches.{isSome-halves}
 
 pow256 : (k : ℕ) → 256 ^ k ≡ 2 ^ (8 * k)
 pow256 zero = refl

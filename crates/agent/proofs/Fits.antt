@@ -12,9 +12,9 @@ use Rattle.problem.specs.Problem.{maxDomain}
 use Rattle.agent_rules.specs.Message.{known}
 use Rattle.agent_rules.specs.Agent.{Self, Agent as Agent′}
 use Rattle.agent_rules.specs.Shape.{maxNamed, RecordFits, anyValue}
-use Rattle.agent.specs.Packed.{members}
+use Rattle.packed.specs.Packed.{members}
 use Rattle.agent.specs.Parts.{Ranged, Coherent}
-use Rattle.agent.proofs.Known.{known-false}
+use Rattle.packed.proofs.Known.{known-false}
 
 -- a set in sixteen bits names the agents 1 to 16
 pub member-range : (m k : ℕ) → m < 2 ^ 16 → members m k ≡ true → k ≤ 16

@@ -20,14 +20,15 @@ use Rattle.agent_rules.specs.Choosing.{reason, reasonOf, blaming}
 use Rattle.agent_rules.specs.Shape.{maxNamed}
 use Rattle.agent.specs.Abstract.{byteOf, nogoodAt, assigned, agentOf, selfOf}
 use Rattle.agent.specs.Entries.{Sized, Barring}
-use Rattle.agent.specs.Parts.{Coherent, maskFrom, leftFree}
+use Rattle.packed.specs.Packed.{maskFrom}
+use Rattle.agent.specs.Parts.{Coherent, leftFree}
 use Rattle.agent.specs.declared.Agent.{Agent}
 use Rattle.agent.specs.declared.Own.{Own}
 use Rattle.agent.specs.declared.Bars.{Bars}
 use Rattle.agent.proofs.Barrings.{blamed}
 use Rattle.agent.proofs.Marks.{bit-and}
-use Rattle.agent.proofs.Bitwise.{bit-not, bit-ones}
-use Rattle.agent.proofs.Masks.{mask-is}
+use Rattle.packed.proofs.Bitwise.{bit-not, bit-ones}
+use Rattle.packed.proofs.Masks.{mask-is}
 use Rattle.agent.proofs.Records.{nogood-stored, nogood-none}
 
 -- ---- as the code has it

@@ -18,14 +18,14 @@ use Rattle.base.proofs.Bits.{bit-above}
 use Rattle.base.proofs.Tests.{test, eq-test}
 use Rattle.agent_rules.specs.Choosing.{only}
 use Rattle.agent_rules.specs.Shape.{maxNamed}
-use Rattle.agent.specs.Packed.{assignment}
-use Rattle.agent.specs.Abstract.{numberOf, byteOf, assigned}
+use Rattle.packed.specs.Packed.{assignment, numberOf}
+use Rattle.agent.specs.Abstract.{byteOf, assigned}
 use Rattle.agent.specs.declared.Lhs.{Lhs}
 use Rattle.agent.specs.declared.Agent.{Agent}
 use Rattle.agent.specs.declared.Bars.{Bars}
-use Rattle.agent.proofs.Sets.{taken-off, other-bits}
+use Rattle.packed.proofs.Sets.{taken-off, other-bits}
 use Rattle.agent.proofs.Marks.{bit-and}
-use Rattle.agent.proofs.Bitwise.{bit-not, bit-ones}
+use Rattle.packed.proofs.Bitwise.{bit-not, bit-ones}
 
 -- ---- the values that get a reason: those tried that have none stored
 

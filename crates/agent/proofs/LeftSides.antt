@@ -5,11 +5,11 @@ use mathlib.Core.Bool.{Bool, not, _&&_, _||_, Bool·not-not}
 use lib.Dec.{eqb}
 use Rattle.agent_rules.specs.Message.{Assignment, known}
 use Rattle.agent_rules.specs.Receiving.{unheard}
-use Rattle.agent.specs.Packed.{members}
+use Rattle.packed.specs.Packed.{members}
 use Rattle.agent.specs.Abstract.{agentOf}
 use Rattle.agent.specs.Parts.{matching}
 use Rattle.agent.specs.declared.Agent.{Agent}
-use Rattle.agent.proofs.Known.{unknown}
+use Rattle.packed.proofs.Known.{unknown}
 
 -- the code's test of one agent
 pub tested : (lhs view : Assignment) (listens k u seen : ℕ) (heard : Bool) → u ≡ lhs k → seen ≡ view k → heard ≡ members listens k

@@ -1,17 +1,9 @@
-pub mod Known
-pub mod Searches
-pub mod Zeros
-pub mod Fields
-pub mod Digits
-pub mod Sets
-pub mod Ends
 pub mod Bytes
 pub mod Marks
 pub mod Barrings
 pub mod Partial
 pub mod Records
 pub mod Coherence
-pub mod Gathers
 pub mod Posts
 pub mod Steps
 pub mod Start
@@ -24,8 +16,6 @@ pub mod Storing
 pub mod Accepting
 pub mod Backs
 pub mod Stored
-pub mod Bitwise
-pub mod Masks
 pub mod Spared
 pub mod Unions
 pub mod Views

@@ -10,7 +10,7 @@ use Rattle.agent_rules.specs.Message.{AddLink as AddLink′}
 use Rattle.agent_rules.specs.Agent.{Self, Agent as Agent′, Bans}
 use Rattle.agent_rules.specs.Receiving.{answer, informing, onAddLink}
 use Rattle.agent_rules.specs.Shape.{RecordFits, MessageFits, anyValue}
-use Rattle.agent.specs.Packed.{members}
+use Rattle.packed.specs.Packed.{members}
 use Rattle.agent.specs.Abstract.{assigned, agentOf, selfOf}
 use Rattle.agent.specs.Entries.{Barring}
 use Rattle.agent.specs.Parts.{Coherent, Takes}

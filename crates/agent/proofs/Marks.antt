@@ -16,10 +16,11 @@ use Rattle.base.proofs.Search.{allTo-at}
 use Rattle.base.proofs.Bits.{bit-of-zero}
 use Rattle.base.proofs.Peeling.{bit-shr}
 use Rattle.agent_rules.specs.Shape.{maxNamed}
-use Rattle.agent.specs.Abstract.{byteOf, numberOf}
+use Rattle.packed.specs.Packed.{numberOf}
+use Rattle.agent.specs.Abstract.{byteOf}
 use Rattle.agent.specs.declared.Bars.{Bars}
-use Rattle.agent.proofs.Searches.{lowest-is, lowest-shorter}
-use Rattle.agent.proofs.Zeros.{trailing-set, trailing-clear}
+use Rattle.base.proofs.Searches.{lowest-is, lowest-shorter}
+use Rattle.base.proofs.Zeros.{trailing-set, trailing-clear}
 use Rattle.agent.proofs.Bytes.{bit-of-low, bit-of-high}
 
 -- ---- and, bit by bit

@@ -14,9 +14,9 @@ use Rattle.agent_rules.specs.Agent.{Self, Agent as Agent′, above}
 use Rattle.agent_rules.specs.Choosing.{infoTo, infos}
 use Rattle.agent_rules.specs.Receiving.{unheard, addLinkTo, addLinks}
 use Rattle.agent_rules.specs.Shape.{maxNamed, EachIn}
-use Rattle.agent.specs.Packed.{members}
+use Rattle.packed.specs.Packed.{members}
 use Rattle.agent.specs.Abstract.{postIf, postsTo, linksTo, newsTo}
-use Rattle.agent.proofs.Gathers.{gather-same, gather-none, gather-one, gather-low, gather-high}
+use Rattle.base.proofs.Gathers.{gather-same, gather-none, gather-one, gather-low, gather-high}
 
 pub no-members : (k : ℕ) → members 0 k ≡ false
 unfolding members fromOne

@@ -19,8 +19,8 @@ use Rattle.agent_rules.specs.Message.{Assignment}
 use Rattle.agent_rules.specs.Agent.{Bans, Nogoods, Agent as Agent′}
 use Rattle.agent_rules.specs.Choosing.{only, blaming, reason, reasonOf, chosen}
 use Rattle.agent_rules.specs.Shape.{maxNamed}
-use Rattle.agent.specs.Packed.{assignment}
-use Rattle.agent.specs.Abstract.{numberOf, byteOf, nogoodAt, assigned, agentOf, selfOf}
+use Rattle.packed.specs.Packed.{assignment, numberOf}
+use Rattle.agent.specs.Abstract.{byteOf, nogoodAt, assigned, agentOf, selfOf}
 use Rattle.agent.specs.Entries.{Sized, Barring}
 use Rattle.agent.specs.Parts.{Agreed, Coherent, leftFree, Barred, Given, Reasoned}
 use Rattle.agent.specs.declared.Agent.{Agent}

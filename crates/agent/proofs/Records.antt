@@ -9,7 +9,7 @@ use lib.ListN.{getD}
 use Rattle.base.specs.Bits.{bit}
 use Rattle.base.specs.Finite.{fromOne}
 use Rattle.base.proofs.Bits.{bit-above}
-use Rattle.agent.specs.Packed.{assignment}
+use Rattle.packed.specs.Packed.{assignment}
 use Rattle.agent.specs.Abstract.{nogoodAt, agentOf}
 use Rattle.agent.specs.declared.Agent.{Agent}
 

@@ -12,12 +12,12 @@ use Rattle.base.specs.Finite.{fromOne}
 use Rattle.base.proofs.Tests.{test}
 use Rattle.agent_rules.specs.Message.{Assignment, known, nobody}
 use Rattle.agent_rules.specs.Shape.{maxNamed, EachNamed}
-use Rattle.agent.specs.Packed.{digit, assignment}
+use Rattle.packed.specs.Packed.{digit, assignment}
 use Rattle.agent.specs.Abstract.{backOf, backsOf}
 use Rattle.agent.specs.Entries.{Refuses}
 use Rattle.agent.specs.declared.Own.{Own}
-use Rattle.agent.proofs.Known.{known-true, known-false}
-use Rattle.agent.proofs.Digits.{digit-zero, digit-suc, nobody-assigned}
+use Rattle.packed.proofs.Known.{known-true, known-false}
+use Rattle.packed.proofs.Digits.{digit-zero, digit-suc, nobody-assigned}
 
 -- ---- Backs
 

@@ -17,9 +17,9 @@ use Rattle.agent_rules.specs.Agent.{Self, Bans, Nogoods, Agent, Step, above}
 use Rattle.agent_rules.specs.Choosing.{choice, infoTo, infos, chosen, took, union, failed, refusing, dropIf, without, forget, after, settle}
 use Rattle.agent_rules.specs.Receiving.{keepIf}
 use Rattle.agent_rules.specs.Shape.{maxNamed}
-use Rattle.agent.specs.Abstract.{numberOf}
+use Rattle.packed.specs.Packed.{numberOf}
 use Rattle.agent.specs.Parts.{Coherent, valueOf, Chose, keeping, seeing}
-use Rattle.agent.proofs.Known.{known-true}
+use Rattle.packed.proofs.Known.{known-true}
 use Rattle.agent.proofs.Unions.{union-agreed}
 
 -- ---- one turn

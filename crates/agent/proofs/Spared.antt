@@ -8,10 +8,9 @@ use lib.Dec.{eqb}
 use lib.ListN.{getD}
 use mir.Val.{boolByte}
 use Rattle.agent_rules.specs.Message.{known}
-use Rattle.agent.specs.Packed.{assignment}
-use Rattle.agent.specs.Parts.{maskFrom}
-use Rattle.agent.proofs.Known.{unknown}
-use Rattle.agent.proofs.Masks.{byte-of, mask-fits, mask-down}
+use Rattle.packed.specs.Packed.{assignment, maskFrom}
+use Rattle.packed.proofs.Known.{unknown}
+use Rattle.packed.proofs.Masks.{byte-of, mask-fits, mask-down}
 
 -- the nogood of own value v does not name agent k
 abbrev pub spares : List ℕ → ℕ → ℕ → Bool

@@ -14,12 +14,12 @@ use Rattle.agent_rules.specs.Message.{Assignment, known, nobody, Post as Post�
 use Rattle.agent_rules.specs.Agent.{Self, Bans, Nogoods, noNogoods, above}
 use Rattle.agent_rules.specs.Choosing.{bars, blame, blaming, reasonOf, reason, choose, choice, chosen, took, settle, checkView}
 use Rattle.agent_rules.specs.Receiving.{quiet, fresh, begin}
-use Rattle.agent.specs.Packed.{members}
+use Rattle.packed.specs.Packed.{members}
 use Rattle.agent.specs.Abstract.{assigned, nogoodAt, agentOf, selfOf, newsTo, byte, byteOf}
 use Rattle.agent.specs.Entries.{Sized, Below, Barring}
 use Rattle.agent.specs.declared.Agent.{Agent}
 use Rattle.agent.specs.declared.Own.{Own}
-use Rattle.agent.proofs.Digits.{nobody-assigned}
+use Rattle.packed.proofs.Digits.{nobody-assigned}
 use Rattle.agent.proofs.Posts.{news-infos}
 
 -- ---- the rule

@@ -12,7 +12,7 @@ use Rattle.agent_rules.specs.Message.{Post as Post′}
 use Rattle.agent_rules.specs.Agent.{Self, Bans}
 use Rattle.agent_rules.specs.Choosing.{after, checkView}
 use Rattle.agent_rules.specs.Receiving.{quiet, answer}
-use Rattle.agent.specs.Packed.{members}
+use Rattle.packed.specs.Packed.{members}
 use Rattle.agent.specs.Abstract.{assigned, linksTo, newsTo, backsOf, agentOf, selfOf, sentOf, stepOf}
 use Rattle.agent.specs.Entries.{Below, Barring, Answers}
 use Rattle.agent.specs.Parts.{Coherent, takenAs, Takes}

@@ -12,7 +12,7 @@ use Rattle.agent_rules.specs.Agent.{Bans, Agent as Agent′, above}
 use Rattle.agent_rules.specs.Choosing.{bars}
 use Rattle.agent_rules.specs.Receiving.{matches, holds, unheard, accepting, outdated, onBack}
 use Rattle.agent_rules.specs.Shape.{maxNamed, RecordFits, MessageFits, anyValue}
-use Rattle.agent.specs.Packed.{members}
+use Rattle.packed.specs.Packed.{members}
 use Rattle.agent.specs.Abstract.{assigned, agentOf, selfOf}
 use Rattle.agent.specs.Entries.{Sized, Above, Barring}
 use Rattle.agent.specs.Parts.{matching, takenAs, Takes}

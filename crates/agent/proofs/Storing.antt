@@ -19,7 +19,7 @@ use Rattle.base.proofs.Bits.{bit-or, bit-pow}
 use Rattle.base.proofs.Search.{at-same, at-other}
 use Rattle.base.proofs.Tests.{test, eq-test}
 use Rattle.agent_rules.specs.Agent.{Nogoods}
-use Rattle.agent.specs.Packed.{assignment}
+use Rattle.packed.specs.Packed.{assignment}
 use Rattle.agent.specs.Abstract.{nogoodAt}
 use Rattle.agent.proofs.Records.{nogood-stored, nogood-none}
 

@@ -16,8 +16,8 @@ use Rattle.agent_rules.specs.Message.{Assignment, known, Post as Post′}
 use Rattle.agent_rules.specs.Agent.{Bans, Agent as Agent′}
 use Rattle.agent_rules.specs.Choosing.{chosen, union, refusing, after, settle, checkView}
 use Rattle.agent_rules.specs.Shape.{maxNamed}
-use Rattle.agent.specs.Packed.{assignment}
-use Rattle.agent.specs.Abstract.{numberOf, byteOf, assigned, agentOf, selfOf, linksTo, backOf, backsOf, sentOf, stepOf}
+use Rattle.packed.specs.Packed.{assignment, numberOf}
+use Rattle.agent.specs.Abstract.{byteOf, assigned, agentOf, selfOf, linksTo, backOf, backsOf, sentOf, stepOf}
 use Rattle.agent.specs.Entries.{Sized, Above, Below, Barring, Refuses, Addressed, Answers}
 use Rattle.agent.specs.Parts.{Coherent, Given, Chose, seeing}
 use Rattle.agent.specs.declared.Lhs.{Lhs}

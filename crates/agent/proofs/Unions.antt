@@ -15,11 +15,11 @@ use Rattle.problem.specs.Problem.{maxDomain}
 use Rattle.agent_rules.specs.Message.{Assignment, known, nobody}
 use Rattle.agent_rules.specs.Agent.{Self, Agent as Agent′}
 use Rattle.agent_rules.specs.Choosing.{join, lhsOf, union}
-use Rattle.agent.specs.Packed.{assignment}
+use Rattle.packed.specs.Packed.{assignment, Compatible}
 use Rattle.agent.specs.Abstract.{assigned, agentOf}
-use Rattle.agent.specs.Parts.{Compatible, Agreed, Coherent}
+use Rattle.agent.specs.Parts.{Agreed, Coherent}
 use Rattle.agent.specs.declared.Agent.{Agent}
-use Rattle.agent.proofs.Known.{known-false}
+use Rattle.packed.proofs.Known.{known-false}
 use Rattle.agent.proofs.Records.{nogood-stored, nogood-none}
 
 -- ---- a join that agrees

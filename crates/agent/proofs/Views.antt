@@ -20,14 +20,14 @@ use Rattle.agent_rules.specs.Message.{Assignment, known}
 use Rattle.agent_rules.specs.Agent.{Self, Nogoods}
 use Rattle.agent_rules.specs.Receiving.{keepIf}
 use Rattle.agent_rules.specs.Shape.{maxNamed}
-use Rattle.agent.specs.Packed.{assignment, members}
+use Rattle.packed.specs.Packed.{assignment, members, maskFrom}
 use Rattle.agent.specs.Abstract.{assigned, nogoodAt, agentOf}
-use Rattle.agent.specs.Parts.{Coherent, maskFrom, keeping, seeing}
+use Rattle.agent.specs.Parts.{Coherent, keeping, seeing}
 use Rattle.agent.specs.declared.Lhs.{Lhs}
 use Rattle.agent.specs.declared.Agent.{Agent}
-use Rattle.agent.proofs.Known.{known-true}
+use Rattle.packed.proofs.Known.{known-true}
 use Rattle.agent.proofs.Marks.{bit-and}
-use Rattle.agent.proofs.Masks.{mask-bit}
+use Rattle.packed.proofs.Masks.{mask-bit}
 use Rattle.agent.proofs.Spared.{spares}
 use Rattle.agent.proofs.Records.{nogood-stored, nogood-none}
 

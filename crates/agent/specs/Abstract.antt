@@ -20,7 +20,7 @@ use Rattle.agent_rules.specs.Message.{
 use Rattle.agent_rules.specs.Agent.{Self, Bans, Agent as Agent′, Step as Step′}
 use Rattle.agent_rules.specs.Choosing.{refusing}
 use Rattle.agent_rules.specs.Shape.{maxNamed}
-use Rattle.agent.specs.Packed.{assignment, members}
+use Rattle.packed.specs.Packed.{assignment, members, numberOf}
 use Rattle.agent.specs.declared.Lhs.{Lhs}
 use Rattle.agent.specs.declared.Carried.{Carried}
 use Rattle.agent.specs.declared.Message.{Message}
@@ -30,11 +30,6 @@ use Rattle.agent.specs.declared.Own.{Own}
 use Rattle.agent.specs.declared.Bars.{Bars}
 use Rattle.agent.specs.declared.Outbox.{Outbox}
 use Rattle.agent.specs.declared.Step.{Step}
-
--- an agent's number, 0 for none
-unfoldable pub numberOf : Option ℕ → ℕ
-numberOf none = 0
-numberOf (some k) = k
 
 unfoldable pub assigned : Lhs → Assignment
 assigned l = assignment (l .digits)

@@ -9,7 +9,7 @@ use Rattle.agent_rules.specs.Message.{Assignment}
 use Rattle.agent_rules.specs.Agent.{Bans, Step as Step′}
 use Rattle.agent_rules.specs.Choosing.{bars}
 use Rattle.agent_rules.specs.Shape.{maxNamed, EachNamed, EachIn}
-use Rattle.agent.specs.Packed.{assignment, members}
+use Rattle.packed.specs.Packed.{assignment, members}
 use Rattle.agent.specs.Abstract.{assigned, byteOf, stepOf}
 use Rattle.agent.specs.declared.Own.{Own}
 use Rattle.agent.specs.declared.Bars.{Bars}

@@ -1,4 +1,3 @@
-pub mod Packed
 pub mod Abstract
 pub mod Entries
 pub mod Parts

@@ -12,16 +12,12 @@ use Rattle.agent_rules.specs.Agent.{Self, Bans, Agent as Agent′, Step as Step
 use Rattle.agent_rules.specs.Choosing.{choose, choice, chosen, after, checkView}
 use Rattle.agent_rules.specs.Receiving.{keepIf, quiet}
 use Rattle.agent_rules.specs.Shape.{maxNamed, EachNamed, EachIn}
-use Rattle.agent.specs.Packed.{members}
+use Rattle.packed.specs.Packed.{members}
 use Rattle.agent.specs.Abstract.{assigned, agentOf, selfOf, byteOf, linksTo, newsTo}
 use Rattle.agent.specs.Entries.{Barring, Above, Below}
 use Rattle.agent.specs.declared.Own.{Own}
 use Rattle.agent.specs.declared.Bars.{Bars}
 use Rattle.agent.specs.declared.Taken.{Taken}
-
--- two partial assignments have no agent at two values
-abbrev pub Compatible : Assignment → Assignment → Type 0
-Compatible l r = (k : ℕ) → 1 ≤ k → k ≤ maxNamed → known (l k) ≡ true → known (r k) ≡ true → l k ≡ r k
 
 -- the agents 1 to m have values that a word of bans has room for
 abbrev pub Ranged : ℕ → Assignment → Type 0
@@ -44,11 +40,6 @@ pub record Coherent (s : Self) (a : Agent′) : Type 0 where
   pub downward : EachIn (a .informs) (λ k. (s .number < k) × (k ≤ maxAgents))
 
 -- ---- choosing
-
--- the mask of those of the n numbers from v on that pass: bit 0 for v
-unfoldable pub maskFrom : (ℕ → Bool) → ℕ → ℕ → ℕ
-maskFrom p v zero = 0
-maskFrom p v (suc n) = maskFrom p (suc v) n * 2 + cond (p v) 1 0
 
 -- own value v has no stored reason, and no byte bars it
 unfoldable pub leftFree : ℕ → Bars → ℕ → Bool

@@ -6,17 +6,17 @@ ghost use lib.ListN.{getD};
 ghost use Rattle.agent_rules.specs.Agent.{Bans};
 ghost use Rattle.agent_rules.specs.Message.{known};
 ghost use Rattle.agent_rules.specs.Choosing.{union, after, checkView};
-ghost use Rattle.agent.specs.Packed.{assignment};
+ghost use Rattle.packed.specs.Packed.{assignment, maskFrom};
 ghost use Rattle.agent.specs.Abstract.{assigned, linksTo, agentOf, selfOf};
 ghost use Rattle.agent.specs.Entries.{Sized, Above, Barring, Answers};
-ghost use Rattle.agent.specs.Parts.{Coherent, maskFrom, leftFree, Barred, Given, Reasoned, Chose, seeing};
+ghost use Rattle.agent.specs.Parts.{Coherent, leftFree, Barred, Given, Reasoned, Chose, seeing};
 use crate::Agent;
 use crate::Bars;
 use crate::Lhs;
 use crate::Outbox;
 use crate::Own;
 use crate::Step;
-use crate::packed::last_digit;
+use packed::last_digit;
 
 // What choosing comes to: the value taken, 0 where none is free, and the agent with the reasons given on the way.
 struct Chosen {

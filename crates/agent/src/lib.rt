@@ -3,13 +3,13 @@ ghost use mathlib.Core.Path.{_≡_};
 ghost use Rattle.agent_rules.specs.Agent.{Bans};
 ghost use Rattle.agent_rules.specs.Receiving.{receive, begin};
 ghost use Rattle.agent_rules.specs.Shape.{RecordFits, MessageFits, anyValue};
-ghost use Rattle.agent.specs.Packed.{members};
+ghost use Rattle.packed.specs.Packed.{members};
 ghost use Rattle.agent.specs.Abstract.{assigned, messageOf, agentOf, selfOf, bansIn};
 ghost use Rattle.agent.specs.Entries.{Sized, Able, Below, Barring, Answers};
 
+mod assigning;
 mod barring;
 mod choosing;
-pub mod packed;
 mod receiving;
 
 // A packed partial assignment: digit k - 1 in base 16 is the value of agent k, 0 where it is unknown or not named. A view, or the left side of

@@ -7,7 +7,7 @@ ghost use Rattle.agent_rules.specs.Agent.{Bans};
 ghost use Rattle.agent_rules.specs.Message.{Info as Info′, Back as Back′, AddLink as AddLink′};
 ghost use Rattle.agent_rules.specs.Receiving.{quiet, onInfo, unheard, accepting, onBack, onAddLink};
 ghost use Rattle.agent_rules.specs.Shape.{RecordFits, MessageFits, anyValue};
-ghost use Rattle.agent.specs.Packed.{members};
+ghost use Rattle.packed.specs.Packed.{members};
 ghost use Rattle.agent.specs.Abstract.{assigned, newsTo, agentOf, selfOf, bansIn};
 ghost use Rattle.agent.specs.Entries.{Able, Above, Below, Barring, Answers};
 ghost use Rattle.agent.specs.Parts.{Takes, matching, Upward};
@@ -19,8 +19,8 @@ use crate::Own;
 use crate::Step;
 use crate::Taken;
 use crate::barring::barred_at;
-use crate::packed::add;
-use crate::packed::has;
+use packed::add;
+use packed::has;
 
 impl Lhs {
     // Each agent above that this left side names and that is listened to has that value in the view. "Unknown does not match."

@@ -6,3 +6,6 @@ pub mod Loops
 pub mod Bits
 pub mod Peeling
 pub mod Arrays
+pub mod Searches
+pub mod Zeros
+pub mod Gathers

@@ -1,7 +1,7 @@
 // The entries by which `bench/` measures the proved libraries from another language: numbers and byte slices only. Each answer takes in all that was
 // worked out, so that nothing of it can be left out.
 ghost use Prim.Native.Nat.{_<_};
-use network::Ending;
+use run::Ending;
 
 // Decoding alone: one word of an accepted sheet's ban table, or the number of the sheet's fault.
 #[no_mangle]
@@ -20,7 +20,7 @@ pub extern "C" fn bench_entry_decode(sheet: &[u8], word: usize) -> u64 {
 // Decoding and the start: what waits on one sender's channels, a digit for each receiver, or the number of the sheet's fault.
 #[no_mangle]
 pub extern "C" fn bench_entry_start(sheet: &[u8], sender: usize) -> u64 {
-    let started = opening::start(sheet);
+    let started = start::start(sheet);
     if started.number != 0 {
         return started.number as u64;
     }
@@ -49,12 +49,12 @@ fn number_of(e: Ending) -> u64
 // agents' values modulo 8, three bits each, agent 12 lowest.
 #[no_mangle]
 pub extern "C" fn bench_entry_settle(sheet: &[u8], rounds: u64) -> u64 {
-    let started = opening::start(sheet);
+    let started = start::start(sheet);
     if started.number != 0 {
         return 8 + (started.number % 8) as u64;
     }
     let network = started.network;
-    let ran = network::run(network, rounds);
+    let ran = run::run(network, rounds);
     let ending = ran.ending;
     let agents = ran.network.agents;
     let mut values: u64 = 0;
@@ -71,20 +71,20 @@ pub extern "C" fn bench_entry_settle(sheet: &[u8], rounds: u64) -> u64 {
 // numbers and, at the end, of each agent's value.
 #[no_mangle]
 pub extern "C" fn bench_entry_deliver(sheet: &[u8], calls: &[u8]) -> u64 {
-    let started = opening::start(sheet);
+    let started = start::start(sheet);
     let mut network = started.network;
     let mut sum: u64 = started.number as u64;
     let n = calls.len() / 2;
     let mut k: usize = 0;
     while k < n {
-        let d = network::deliver(network, calls[2 * k], calls[2 * k + 1]);
+        let d = run::deliver(network, calls[2 * k], calls[2 * k + 1]);
         network = d.network;
         sum = (sum % 4294967296) * 31 + d.number as u64;
         k += 1;
     }
     let mut i: u8 = 0;
     while i < 13 {
-        let asked = opening::value(network, i);
+        let asked = start::value(network, i);
         sum = (sum % 4294967296) * 31 + asked.value as u64;
         i += 1;
     }

@@ -2,17 +2,17 @@
 ghost use mathlib.Core.Path.{_≡_};
 ghost use mathlib.Core.Bool.{true};
 ghost use Prim.Native.Nat.{_<_};
-ghost use Rattle.shape.specs.Abstract.{isChannel};
+ghost use Rattle.network.specs.Abstract.{isChannel};
 use crate::put;
 use crate::put_line;
 use crate::put_number;
 use agent::Agent;
 use agent::Lhs;
 use agent::Message;
-use agent::packed::digit;
-use shape::Network;
-use shape::places::channel_at;
-use shape::places::place_at;
+use network::Network;
+use network::places::channel_at;
+use network::places::place_at;
+use packed::digit;
 
 // ---- left sides and sets
 

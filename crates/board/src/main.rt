@@ -2,7 +2,7 @@
 ghost use mathlib.Core.Path.{_≡_};
 ghost use Rattle.protocol.specs.Delivery.{deliver as deliverBy};
 ghost use Rattle.protocol.specs.Run.{run as runBy};
-ghost use Rattle.shape.specs.Abstract.{networkOf};
+ghost use Rattle.network.specs.Abstract.{networkOf};
 ghost use Rattle.board.specs.Reading.{callIn};
 ghost use Rattle.board.specs.Calling.{afterCall};
 
@@ -13,8 +13,8 @@ use calls::Call;
 use calls::read_call;
 use drawing::put_board;
 use libc::STDOUT_FILENO;
-use network::Ending;
-use shape::Network;
+use network::Network;
+use run::Ending;
 use words::word_for;
 
 // ---- printing
@@ -47,7 +47,7 @@ fn put_ending(e: Ending) {
 fn deliver(r: Network, from: u8, to: u8) -> Network
     ensures { λ o. ⌜ networkOf o ≡ deliverBy (networkOf r) from to .network ⌝ }
 {
-    let out = network::deliver(r, from, to);
+    let out = run::deliver(r, from, to);
     put(b"deliver ");
     put_number(from as u64);
     put(b" ");
@@ -65,7 +65,7 @@ fn deliver(r: Network, from: u8, to: u8) -> Network
 fn run(r: Network, rounds: u64) -> Network
     ensures { λ o. ⌜ networkOf o ≡ runBy rounds (networkOf r) .network ⌝ }
 {
-    let out = network::run(r, rounds);
+    let out = run::run(r, rounds);
     let ending = out.ending;
     put(b"run ");
     put_number(rounds);
@@ -107,7 +107,7 @@ fn call_at(r: Network, i: usize) -> Network {
 
 // The start of a sheet, and the calls from the second argument on.
 fn play(sheet: &[u8]) {
-    let started = opening::start(sheet);
+    let started = start::start(sheet);
     if started.number != 0 {
         put_line(b"sheet refused ", started.number as u64);
         return;

@@ -16,16 +16,16 @@ use Rattle.base.proofs.Tests.{test, eq-test}
 use Rattle.base.proofs.Search.{at-same, at-other}
 use Rattle.agent_rules.specs.Message.{Message as Message′}
 use Rattle.agent_rules.specs.Agent.{Agent as Agent′, noAgent}
-use Rattle.agent.specs.Packed.{assignment}
+use Rattle.packed.specs.Packed.{assignment}
 use Rattle.agent.specs.declared.Agent.{Agent}
 use Rattle.agent.specs.Abstract.{agentOf}
-use Rattle.shape.specs.declared.Place.{Place}
-use Rattle.shape.specs.declared.Network.{Network}
-use Rattle.shape.specs.Abstract.{isChannel, channelAt, placeOf, ring, rowOf, channelOf, agentsOf, networkOf}
-use Rattle.shape.proofs.Numbering.{Ends, ends, channel-below}
+use Rattle.network.specs.declared.Place.{Place}
+use Rattle.network.specs.declared.Network.{Network}
+use Rattle.network.specs.Abstract.{isChannel, channelAt, placeOf, ring, rowOf, channelOf, agentsOf, networkOf}
+use Rattle.network.proofs.Numbering.{Ends, ends, channel-below}
 use Rattle.delivery.specs.Parts.{heldAt}
-use Rattle.shape.proofs.Columns.{channel-one}
-use Rattle.shape.proofs.Rings.{ring-length}
+use Rattle.network.proofs.Columns.{channel-one}
+use Rattle.network.proofs.Rings.{ring-length}
 use Rattle.delivery.proofs.Rings.{ring-head, ring-moved, ring-put, ring-apart}
 
 -- the arrays have their lengths

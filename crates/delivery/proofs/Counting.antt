@@ -15,7 +15,7 @@ use Rattle.problem.specs.Problem.{maxAgents}
 use Rattle.agent_rules.specs.Message.{Message as Message′, Info as Info′, AddLink as AddLink′, Post as Post′, sentTo}
 use Rattle.agent_rules.specs.Shape.{maxNamed}
 use Rattle.protocol.specs.Shape.{capacity}
-use Rattle.agent.specs.Packed.{assignment, members}
+use Rattle.packed.specs.Packed.{assignment, members}
 use Rattle.agent.specs.Abstract.{postsTo, linksTo, backOf, backsOf, newsTo}
 use Rattle.delivery.specs.Parts.{Postable, postsOf, rowFits, Held}
 use Rattle.delivery.proofs.Sending.{Few, lowest-agent, fewer, posts-first, posts-none, receiverOf, back-to, backsFrom, backs-next, backs-over, sent-to-same, sent-to-other}

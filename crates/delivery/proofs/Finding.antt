@@ -18,8 +18,8 @@ use Rattle.protocol.specs.Network.{Network as Network′, posted, withStep, wit
 use Rattle.protocol.specs.Shape.{capacity, hasRoom}
 use Rattle.protocol.specs.Delivery.{fits}
 use Rattle.shape_laws.proofs.ShapeClauses.{Shaped}
-use Rattle.shape.specs.declared.Network.{Network}
-use Rattle.shape.specs.Abstract.{networkOf}
+use Rattle.network.specs.declared.Network.{Network}
+use Rattle.network.specs.Abstract.{networkOf}
 use Rattle.delivery.specs.Parts.{heldAt, rowFits}
 use Rattle.delivery.proofs.Changes.{channel-held}
 

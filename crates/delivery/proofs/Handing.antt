@@ -19,7 +19,7 @@ use Rattle.agent_rules.specs.Agent.{Agent as Agent′, Step as Step′}
 use Rattle.agent_rules.specs.Choosing.{refusing}
 use Rattle.agent_rules.specs.Receiving.{receive}
 use Rattle.agent_rules.specs.Shape.{anyValue, maxNamed, RecordFits, MessageFits}
-use Rattle.agent.specs.Packed.{assignment, members}
+use Rattle.packed.specs.Packed.{assignment, members}
 use Rattle.agent.specs.declared.Agent.{Agent}
 use Rattle.agent.specs.declared.Message.{Message}
 use Rattle.agent.specs.declared.Message.the-variants.{Info}
@@ -57,10 +57,10 @@ use Rattle.protocol.specs.Delivery.{
 }
 use Rattle.shape_laws.proofs.ShapeClauses.{shaped}
 use Rattle.shape_laws.proofs.DeliverShape.{Head, at-head}
-use Rattle.shape.specs.declared.Place.{Place}
-use Rattle.shape.specs.declared.Network.{Network}
-use Rattle.shape.specs.Abstract.{isChannel, channelAt, placeOf, problemOf, networkOf}
-use Rattle.shape.proofs.Numbering.{Ends, ends, to-channel}
+use Rattle.network.specs.declared.Place.{Place}
+use Rattle.network.specs.declared.Network.{Network}
+use Rattle.network.specs.Abstract.{isChannel, channelAt, placeOf, problemOf, networkOf}
+use Rattle.network.proofs.Numbering.{Ends, ends, to-channel}
 use Rattle.delivery.specs.Parts.{Postable, postsOf, heldAt, rowFits, Held}
 use Rattle.delivery.proofs.Named.{highest-named}
 use Rattle.delivery.proofs.Sending.{posts-all, backs-all, sent-some}

@@ -16,17 +16,17 @@ use Rattle.base.proofs.Lists.{All}
 use Rattle.agent_rules.specs.Message.{Message as Message′, Info as Info′, AddLink as AddLink′, Post as Post′, sentTo}
 use Rattle.agent_rules.specs.Choosing.{refusing}
 use Rattle.agent_rules.specs.Shape.{maxNamed}
-use Rattle.agent.specs.Packed.{assignment, members}
+use Rattle.packed.specs.Packed.{assignment, members}
 use Rattle.agent.specs.declared.Carried.{Carried}
 use Rattle.agent.specs.declared.Message.the-variants.{Info, Back, AddLink}
 use Rattle.agent.specs.declared.Outbox.{Outbox}
 use Rattle.agent.specs.Abstract.{unpacked, messageOf, postsTo, linksTo, backOf, backsOf, newsTo, sentOf}
 use Rattle.protocol.specs.Network.{Network as Network′, posted}
-use Rattle.shape.specs.declared.Place.{Place}
-use Rattle.shape.specs.declared.Network.{Network}
-use Rattle.shape.specs.Abstract.{isChannel, channelAt, placeOf, problemOf, networkOf}
+use Rattle.network.specs.declared.Place.{Place}
+use Rattle.network.specs.declared.Network.{Network}
+use Rattle.network.specs.Abstract.{isChannel, channelAt, placeOf, problemOf, networkOf}
 use Rattle.delivery.specs.Parts.{Postable, postsOf}
-use Rattle.shape.proofs.Numbering.{ends as channel-ends}
+use Rattle.network.proofs.Numbering.{ends as channel-ends}
 use Rattle.delivery.proofs.Sending.{Few, lowest-agent, fewer, posts-first, posts-none, receiverOf, back-to, backsFrom, backs-next, backs-over, sent-to-same, sent-to-other}
 use Rattle.delivery.proofs.Changes.{Sized, wordAt, placed, rowed, placed-sized, stored-channel}
 

@@ -11,10 +11,9 @@ use Rattle.base.proofs.Tests.{test, eq-test, opt}
 use Rattle.base.proofs.Search.{highest-some, highest-none, at-same, at-other}
 use Rattle.agent_rules.specs.Message.{known}
 use Rattle.agent_rules.specs.Shape.{maxNamed}
-use Rattle.agent.specs.Packed.{digit, assignment}
-use Rattle.agent.specs.Abstract.{numberOf}
-use Rattle.agent.proofs.Known.{known-from}
-use Rattle.agent.proofs.Digits.{digit-zero, digit-suc, digit-above}
+use Rattle.packed.specs.Packed.{digit, assignment, numberOf}
+use Rattle.packed.proofs.Known.{known-from}
+use Rattle.packed.proofs.Digits.{digit-zero, digit-suc, digit-above}
 
 -- ---- somebody
 

@@ -24,8 +24,8 @@ use Rattle.protocol.specs.Delivery.{
   deliverHead,
   deliver,
 }
-use Rattle.shape.specs.declared.Network.{Network}
-use Rattle.shape.specs.Abstract.{networkOf}
+use Rattle.network.specs.declared.Network.{Network}
+use Rattle.network.specs.Abstract.{networkOf}
 use Rattle.delivery.specs.Abstract.{Answers}
 
 -- ---- the tests 5 to 10

@@ -10,8 +10,8 @@ use lib.ListN.{getD, set, length}
 use lib.Seq.{getD-set-same, getD-set-other}
 use Rattle.base.proofs.Arrays.{getD-below}
 use Rattle.agent_rules.specs.Message.{Message as Message′}
-use Rattle.shape.specs.declared.Place.{Place}
-use Rattle.shape.specs.Abstract.{placeOf, noPlace, ring}
+use Rattle.network.specs.declared.Place.{Place}
+use Rattle.network.specs.Abstract.{placeOf, noPlace, ring}
 
 -- a head counts modulo eight
 ring-cong : (ps : List Place) (b h j k : ℕ) → h % 8 ≡ j % 8 → ring ps b h k ≡ ring ps b j k

@@ -21,9 +21,9 @@ use Rattle.problem.specs.Problem.{maxAgents}
 use Rattle.agent_rules.specs.Message.{known, Message as Message′, Post as Post′, sentTo}
 use Rattle.agent_rules.specs.Choosing.{refusing}
 use Rattle.agent_rules.specs.Shape.{maxNamed, EachIn}
-use Rattle.agent.specs.Packed.{assignment, members}
-use Rattle.agent.specs.Abstract.{numberOf, postIf, postsTo, backOf}
-use Rattle.agent.proofs.Gathers.{gather-same, gather-none}
+use Rattle.packed.specs.Packed.{assignment, members, numberOf}
+use Rattle.agent.specs.Abstract.{postIf, postsTo, backOf}
+use Rattle.base.proofs.Gathers.{gather-same, gather-none}
 
 -- ---- sets
 

@@ -19,12 +19,12 @@ use Rattle.agent.specs.declared.Own.{Own}
 use Rattle.agent.specs.Entries.{Able}
 use Rattle.agent.specs.Parts.{Ranged as Ranged′}
 use Rattle.agent.specs.Abstract.{assigned, messageOf, agentOf, selfOf as selfOf′, bansIn}
-use Rattle.agent.proofs.Known.{known-false}
+use Rattle.packed.proofs.Known.{known-false}
 use Rattle.protocol.specs.Network.{selfOf, bansOf, stepOn}
 use Rattle.shape_laws.proofs.ShapeClauses.{MessageShaped}
 use Rattle.shape_laws.proofs.DeliverShape.{Head, owned-any, record-fits, message-fits}
-use Rattle.shape.specs.declared.Network.{Network}
-use Rattle.shape.specs.Abstract.{problemOf, networkOf}
+use Rattle.network.specs.declared.Network.{Network}
+use Rattle.network.specs.Abstract.{problemOf, networkOf}
 use Rattle.delivery.proofs.Words.{part, part-length, part-bans}
 use Rattle.delivery.proofs.Changes.{Sized, agent-is}
 

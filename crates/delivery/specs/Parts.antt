@@ -10,9 +10,9 @@ use Rattle.problem.specs.Problem.{maxAgents}
 use Rattle.agent_rules.specs.Message.{Post as Post′, sentTo}
 use Rattle.agent_rules.specs.Shape.{EachIn}
 use Rattle.protocol.specs.Shape.{capacity}
-use Rattle.agent.specs.Packed.{assignment, members}
+use Rattle.packed.specs.Packed.{assignment, members}
 use Rattle.agent.specs.Abstract.{linksTo, backOf, backsOf, newsTo}
-use Rattle.shape.specs.Abstract.{isChannel, rowOf}
+use Rattle.network.specs.Abstract.{isChannel, rowOf}
 
 -- ---- what is sent
 

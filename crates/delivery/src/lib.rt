@@ -3,7 +3,7 @@ ghost use mathlib.Core.Path.{_≡_};
 ghost use mathlib.Core.Bool.{true};
 ghost use Rattle.protocol.specs.Shape.{inShape};
 ghost use Rattle.protocol.specs.Delivery.{numbersGood, deliver};
-ghost use Rattle.shape.specs.Abstract.{networkOf};
+ghost use Rattle.network.specs.Abstract.{networkOf};
 ghost use Rattle.delivery.specs.Abstract.{Answers};
 
 pub mod room;
@@ -14,16 +14,16 @@ use agent::Bars;
 use agent::Lhs;
 use agent::Message;
 use agent::Own;
-use agent::packed::digit;
-use agent::packed::first;
-use agent::packed::last_digit;
-use agent::packed::with_digit;
-use agent::packed::without;
-use shape::Network;
-use shape::Place;
-use shape::places::channel_at;
-use shape::places::place_at;
-use shape::places::words_before;
+use network::Network;
+use network::Place;
+use network::places::channel_at;
+use network::places::place_at;
+use network::places::words_before;
+use packed::digit;
+use packed::first;
+use packed::last_digit;
+use packed::with_digit;
+use packed::without;
 
 // What a delivery hands back: the number of its rejection, 0 where it is accepted, and the network.
 pub struct Delivered {

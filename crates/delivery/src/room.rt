@@ -3,16 +3,16 @@ ghost use mathlib.Core.Path.{_≡_};
 ghost use Prim.Native.Nat.{ℕ, _≤_};
 ghost use Rattle.agent_rules.specs.Agent.{Agent as Agent′};
 ghost use Rattle.protocol.specs.Delivery.{asksAgain};
-ghost use Rattle.agent.specs.Packed.{members};
+ghost use Rattle.packed.specs.Packed.{members};
 ghost use Rattle.agent.specs.Abstract.{messageOf};
 ghost use Rattle.delivery.specs.Parts.{Postable, postsOf, rowFits, Held};
 use agent::Message;
-use agent::packed::digit;
-use agent::packed::first;
-use agent::packed::has;
-use agent::packed::last_digit;
-use agent::packed::with_digit;
-use agent::packed::without;
+use packed::digit;
+use packed::first;
+use packed::has;
+use packed::last_digit;
+use packed::with_digit;
+use packed::without;
 
 // The message is a link request of an agent that the receiver informs already.
 pub fn asks_again(informs: u16, from: u8, m: Message) -> bool

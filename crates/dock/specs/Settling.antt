@@ -4,8 +4,8 @@ use mathlib.Core.Path.{_≡_}
 use mathlib.Core.List.{List}
 use Rattle.protocol.specs.Network.{startSheet}
 use Rattle.protocol.specs.Run.{Ran, run}
-use Rattle.shape.specs.Abstract.{networkOf}
-use Rattle.network.specs.Abstract.{endingOf}
+use Rattle.network.specs.Abstract.{networkOf}
+use Rattle.run.specs.Abstract.{endingOf}
 use Rattle.dock.specs.declared.Settled.{Settled}
 
 -- "runs with 100,000 rounds"

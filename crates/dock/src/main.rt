@@ -2,9 +2,9 @@
 ghost use Rattle.dock.specs.Settling.{Settles};
 use libc::STDIN_FILENO;
 use libc::STDOUT_FILENO;
-use network::Ending;
-use network::Ran;
-use shape::Network;
+use network::Network;
+use run::Ending;
+use run::Ran;
 use words::word_for;
 
 // What a sheet comes to: the number of its fault, or 0 and the run on its start.
@@ -17,7 +17,7 @@ struct Settled {
 fn settle(sheet: &[u8]) -> Settled
     ensures { λ s. ⌜ Settles (now (sheet .entry)) s ⌝ }
 {
-    let started = opening::start(sheet);
+    let started = start::start(sheet);
     let network = started.network;
     if started.number != 0 {
         let ran = Ran {
@@ -30,7 +30,7 @@ fn settle(sheet: &[u8]) -> Settled
             ran: ran,
         };
     }
-    let ran = network::run(network, 100000);
+    let ran = run::run(network, 100000);
     Settled {
         number: 0,
         ran: ran,
@@ -68,7 +68,7 @@ fn put_agent(r: Network, i: u8) {
     }
     put(b"scanner ");
     put_number(i as u64);
-    put_line(b" slot ", opening::value(r, i).value as u64);
+    put_line(b" slot ", start::value(r, i).value as u64);
 }
 
 // A line for each scanner.

@@ -5,9 +5,9 @@ use agent::Agent;
 use agent::Carried;
 use agent::Lhs;
 use agent::Message;
-use agent::packed::with_digit;
-use shape::Network;
-use shape::Place;
+use network::Network;
+use network::Place;
+use packed::with_digit;
 
 // ---- one change. Agent i + 1 has place i of its array and bit i of a set; digit i of a packed word is its value. Of the channels, 1 to 2 has
 // number 0, 1 to 3 number 1, 2 to 1 number 11, 2 to 3 number 12, 3 to 1 number 22 and 3 to 2 number 23; the places of number l begin at 8 * l.
@@ -137,7 +137,7 @@ fn back(digits: u16, value: u8) -> Message {
 // "1 has 1" for its own value 1. It has sent agent 2 a Back with the left side "1 has 1", then an AddLink, and agent 1 an AddLink. Channel 1 to 3
 // is full and begins in the midst of its ring; on channel 2 to 3 waits one Info.
 fn good() -> Network {
-    let mut r = shape::empty();
+    let mut r = network::empty();
     r.count = 3;
     r.domains[0] = 2;
     r.domains[1] = 2;
@@ -167,7 +167,7 @@ fn next(n: u32) -> u32 {
 
 // One case, and how many are right so far: one more where the test says what it must.
 fn case(right: u32, name: &[u8], wanted: bool, r: Network) -> u32 {
-    let said = shape::in_shape(r);
+    let said = network::in_shape(r);
     io::write_all(1, name);
     if said {
         io::write_all(1, b": yes");
@@ -211,7 +211,7 @@ fn free(right: u32, g: Network) -> u32 {
 
 // n, the domains, the bans.
 fn problems(right: u32, g: Network) -> u32 {
-    let n = case(right, b"empty", false, shape::empty());
+    let n = case(right, b"empty", false, network::empty());
     let n = case(n, b"13 agents", false, counted(g, 13));
     let n = case(n, b"no values", false, with_domain(g, 1, 0));
     let n = case(n, b"9 values", false, with_domain(g, 1, 9));

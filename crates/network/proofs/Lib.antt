@@ -1,11 +1,11 @@
-pub mod Held
-pub mod Lines
-pub mod Visits
-pub mod Resuming
-pub mod Going
-pub mod Barrings
-pub mod Here
-pub mod Resting
-pub mod Visiting
-pub mod Accepting
-pub mod Seen
+pub mod Numbering
+pub mod Columns
+pub mod Pairs
+mod Lines
+mod Words
+mod Ranges
+mod Clauses
+pub mod Rings
+mod Sweeping
+mod Whole
+pub mod Zeros

@@ -1,93 +1,60 @@
--- The visits of a round still ahead: q more on the channel from i to j, the channels of sender i that `rest` has by its digits, upward, and those of the
--- senders after i by what each channel held when the round began. Each step of the code takes the first of them or leaves them as they are.
-use Prim.Native.Nat.{ℕ, zero, suc, _+_, _-_, _≤_, _<_}
-use mathlib.Core.Path.{_≡_, refl, sym, ap, _∙_, fun-ext}
-use mathlib.Core.Option.{some}
-use mathlib.Core.List.{List, [], _∷_, _++_, append-assoc}
+-- A row of digits cut off after the twelfth, less the sender's own digit, has the digits of the sender's channels and no other.
+use Prim.Native.Nat.{ℕ, zero, suc, _+_, _*_, _/_, _%_, _^_, _≤_, _<_}
+use mathlib.Core.Path.{_≡_, refl, sym, _∙_}
+use mathlib.Core.Bool.{Bool, true, false, false≢true}
+use native.Mathlib.Nat.{pow-suc, one-le-pow, mod-lt, not-suc-le-zero}
 use native.Mathlib.Omega.{arith}
-use native.Mathlib.Numerals.{add-one}
-use lib.ListN.{replicate}
-use Rattle.base.specs.Finite.{at, lowest, gather}
-use Rattle.base.proofs.Tests.{test, no-some}
-use Rattle.base.proofs.Search.{lowest-range, at-same, at-other}
-use Rattle.agent_rules.specs.Message.{known, nobody}
-use Rattle.agent_rules.specs.Shape.{maxNamed}
-use Rattle.agent.specs.Packed.{assignment}
-use Rattle.agent.proofs.Known.{known-false}
-use Rattle.agent.proofs.Digits.{nobody-assigned}
-use Rattle.agent.proofs.Gathers.{gather-same, gather-none}
-use Rattle.protocol.specs.Run.{Line}
-use Rattle.delivery.specs.Parts.{heldAt}
+use lib.Arith.{mod-mul}
+use lib.Dec.{leb}
+use borrow.Author.Tests.{leb-true, leb-false}
+use Rattle.base.specs.Finite.{at, fromOne}
+use Rattle.base.proofs.Tests.{test, eq-test}
+use Rattle.base.proofs.Search.{at-same, at-other}
+use Rattle.packed.specs.Packed.{digit, assignment}
+use Rattle.packed.proofs.Digits.{digit-zero, digit-suc, digit-above}
+use Rattle.network.specs.Abstract.{isChannel}
+use Rattle.network.proofs.Numbering.{ends, to-channel}
 
-abbrev pub line : ℕ → ℕ → Line
-line i j = record { from = i; to = j }
+-- ---- a number cut off after its digit n
 
--- the visits of one channel, and of one sender's, by how many it has for each receiver
-abbrev pub cell : (ℕ → ℕ) → ℕ → ℕ → List Line
-cell held i j = replicate (held j) (line i j)
+cut : (n x : ℕ) → x % 16 ^ suc n ≡ x / 16 % 16 ^ n * 16 + x % 16
+cut n x = rw pow-suc (mod-mul x (one-le-pow n 16 (omega arith)) (omega arith))
 
-abbrev pub row : (ℕ → ℕ) → ℕ → List Line
-row held i = gather maxNamed 1 (cell held i)
+digit-cut : (n x k : ℕ) → k < n → digit (x % 16 ^ n) k ≡ digit x k
+digit-cut zero x k h = absurd (not-suc-le-zero h)
+digit-cut (suc n) x zero h = rw (digit-zero (x % 16 ^ suc n), digit-zero x, cut n x) (omega arith)
+digit-cut (suc n) x (suc k) h =
+    let q : x % 16 ^ suc n / 16 ≡ x / 16 % 16 ^ n = rw (cut n x) (omega arith) in
+    rw (digit-suc (x % 16 ^ suc n) k, digit-suc x k, q) (digit-cut n (x / 16) k (omega arith))
 
--- the senders' from i on
-abbrev pub rows : List ℕ → ℕ → ℕ → List Line
-rows quota m i = gather m i (λ x. row (heldAt quota x) x)
+digit-gone : (n x k : ℕ) → n ≤ k → digit (x % 16 ^ n) k ≡ 0
+digit-gone n x k h = digit-above n (x % 16 ^ n) k (mod-lt x (one-le-pow n 16 (omega arith))) h
 
-abbrev pub ahead : List ℕ → ℕ → ℕ → ℕ → ℕ → ℕ → List Line
-ahead quota n i rest j q = replicate q (line i j) ++ (row (assignment rest) i ++ rows quota (n - i) (i + 1))
+-- ---- the row of sender i
 
--- ---- lists gathered
+row-at : (x i j : ℕ) → isChannel i j ≡ true → assignment (x % 16 ^ 12) j ≡ assignment x j
+unfolding assignment fromOne
+row-at x i zero e = refl
+row-at x i (suc j) e = digit-cut 12 x j (ends i (suc j) e .to-high)
 
-gather-next : (m k l : ℕ) (f : ℕ → List Line) → m ≡ suc l → gather m k f ≡ f k ++ gather l (k + 1) f
-unfolding gather
-gather-next m k l f e = rw (e, add-one)
+row-beyond : (x i j : ℕ) → 1 ≤ i → i ≤ 12 → (i ≡ j → ⊥) → isChannel i j ≡ false → assignment (x % 16 ^ 12) j ≡ 0
+unfolding assignment fromOne
+row-beyond x i zero l h n e = refl
+row-beyond x i (suc j) l h n e =
+    test (leb (suc j) 12)
+    (λ t. let f = to-channel i (suc j) l h (omega arith) (leb-true (suc j) 12 t) n in absurd (false≢true (sym e ∙ f)))
+    (λ t. digit-gone 12 x j (omega (arith, leb-false (suc j) 12 t)))
 
--- the lowest channel that has some, and the others
-first-cell : (i m k : ℕ) (f : ℕ → ℕ) (r : ℕ) → lowest m k (λ j. known (f j)) ≡ some r
-    → gather m k (cell f i) ≡ cell f i r ++ gather m k (cell (at f r 0) i)
-unfolding lowest gather
-first-cell i zero k f r e = no-some e
-first-cell i (suc m) k f r e =
-    test (known (f k))
-    (λ t.
-    let q : some k ≡ some r = rw (t, lowest) at e in
-    let d : k ≡ r = cc in
-    rw (← d, at-same f k 0)
-    (ap (λ (ls : List Line). cell f i k ++ ls)
-    (gather-same m (suc k) (cell f i) (cell (at f k 0) i) (λ j l h. ap (λ (v : ℕ). replicate v (line i j)) (sym (at-other f k 0 j (λ z. absurd (omega arith))))))))
-    (λ t.
-    let q = rw (t, lowest) at e in
-    let z = known-false (f k) t in
-    let b = lowest-range m (suc k) (λ j. known (f j)) r q in
-    rw (at-other f r 0 k (λ s. absurd (omega arith)), z) (first-cell i m (suc k) f r q))
+pick : (b : Bool) (x : ℕ) {y : ℕ} → (b ≡ true → y ≡ x) → (b ≡ false → y ≡ 0) → y ≡ elim b [ true ↦ x | false ↦ 0 ]
+pick true x f g = f refl
+pick false x f g = g refl
 
--- ---- from here on
-
-row-empty : (rest i : ℕ) → rest ≡ 0 → row (assignment rest) i ≡ []
-unfolding nobody
-row-empty rest i z = rw (z, nobody-assigned) (gather-none maxNamed 1 (cell nobody i) (λ j l h. refl))
-
-module _ (quota : List ℕ) (n : ℕ) where
-  pub ahead-one : (i rest j q k : ℕ) → q ≡ suc k → ahead quota n i rest j q ≡ line i j ∷ ahead quota n i rest j k
-  ahead-one i rest j q k e = rw e
-
-  -- the next receiver
-  pub ahead-next : (i rest j r rest′ : ℕ) → lowest maxNamed 1 (λ k. known (assignment rest k)) ≡ some r
-      → assignment rest′ ≡ at (assignment rest) r 0 → ahead quota n i rest j 0 ≡ ahead quota n i rest′ r (assignment rest r)
-  ahead-next i rest j r rest′ e d =
-      ap (λ (ls : List Line). ls ++ rows quota (n - i) (i + 1)) (first-cell i maxNamed 1 (assignment rest) r e)
-      ∙ append-assoc (cell (assignment rest) i r) (row (at (assignment rest) r 0) i) (rows quota (n - i) (i + 1))
-      ∙ ap (λ (f : ℕ → ℕ). cell (assignment rest) i r ++ (row f i ++ rows quota (n - i) (i + 1))) (sym d)
-
-  -- the next sender
-  pub ahead-down : (i rest j rest′ : ℕ) → rest ≡ 0 → i < n → ((y : ℕ) → assignment rest′ y ≡ heldAt quota (i + 1) y)
-      → ahead quota n i rest j 0 ≡ ahead quota n (i + 1) rest′ j 0
-  ahead-down i rest j rest′ z h e =
-      rw (row-empty rest i z, gather-next (n - i) (i + 1) (n - (i + 1)) (λ x. row (heldAt quota x) x) (omega arith))
-      (ap (λ (f : ℕ → ℕ). row f (i + 1) ++ rows quota (n - (i + 1)) (i + 1 + 1)) (sym (fun-ext e)))
-
-  pub ahead-none : (i rest j : ℕ) → rest ≡ 0 → n ≤ i → ahead quota n i rest j 0 ≡ []
-  ahead-none i rest j z h = rw (row-empty rest i z) (gather-none (n - i) (i + 1) (λ x. row (heldAt quota x) x) (λ x l u. absurd (omega arith)))
-
-  pub ahead-all : (rest j : ℕ) → rest ≡ 0 → rows quota n 1 ≡ ahead quota n 0 rest j 0
-  ahead-all rest j z = let d : n - 0 ≡ n = omega arith in rw (row-empty rest 0 z, d)
+pub lines-are : (row i r : ℕ) → 1 ≤ i → i ≤ 12 → assignment r ≡ at (assignment (row % 281474976710656)) i 0
+    → (j : ℕ) → assignment r j ≡ elim (isChannel i j) [ true ↦ assignment row j | false ↦ 0 ]
+lines-are row i r l h e j =
+    rw e
+    (pick (isChannel i j) (assignment row j)
+    (λ t. at-other (assignment (row % 16 ^ 12)) i 0 j (λ q. ends i j t .apart (sym q)) ∙ row-at row i j t)
+    (λ t. eq-test j i
+    (λ q. rw q (at-same (assignment (row % 16 ^ 12)) i 0))
+    (λ n. at-other (assignment (row % 16 ^ 12)) i 0 j n ∙ row-beyond row i j l h (λ q. n (sym q)) t)))

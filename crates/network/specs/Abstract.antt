@@ -1,32 +1,58 @@
--- What a run's answer means: each part as the value of the definitions that it stands for. A primed name is the definitions'.
-use mathlib.Core.Path.{_≡_}
-use Rattle.protocol.specs.Run.{
-  Ending as Ending′,
-  None as None′,
-  Plan as Plan′,
-  Jammed as Jammed′,
-  Faulty as Faulty′,
-  Open as Open′,
-  Broken as Broken′,
-  Ran as Ran′,
-}
-use Rattle.shape.specs.declared.Network.{Network}
-use Rattle.shape.specs.Abstract.{networkOf}
-use Rattle.network.specs.declared.Ending.{Ending}
-use Rattle.network.specs.declared.Ending.the-variants.{None, Plan, Jammed, Faulty, Open, Broken}
-use Rattle.network.specs.declared.Ran.{Ran}
+-- What the network's record means. A primed name is the definitions'.
+use Prim.Native.Nat.{ℕ, zero, suc, pred, _+_, _*_, _%_}
+use mathlib.Core.Bool.{Bool, true, false, not, _&&_}
+use mathlib.Core.List.{List, [], _∷_, map}
+use lib.ListN.{getD}
+use lib.Dec.{eqb, ltb}
+use Rattle.base.specs.Finite.{fromOne, within}
+use Rattle.problem.specs.Problem.{Problem, maxAgents}
+use Rattle.agent_rules.specs.Message.{Message as Message′}
+use Rattle.agent_rules.specs.Agent.{Agent as Agent′, noAgent}
+use Rattle.protocol.specs.Network.{Network as Network′}
+use Rattle.packed.specs.Packed.{assignment}
+use Rattle.agent.specs.declared.Message.the-variants.{AddLink}
+use Rattle.agent.specs.Abstract.{messageOf, agentOf}
+use Rattle.network.specs.declared.Place.{Place}
+use Rattle.network.specs.declared.Network.{Network}
 
-unfoldable pub endingOf : Ending → Ending′
-endingOf None = None′
-endingOf Plan = Plan′
-endingOf Jammed = Jammed′
-endingOf Faulty = Faulty′
-endingOf Open = Open′
-endingOf Broken = Broken′
+-- there is a line from i to j
+unfoldable pub isChannel : ℕ → ℕ → Bool
+isChannel i j = within maxAgents i && within maxAgents j && not (eqb i j)
 
--- a run on r is answered as the definitions' run d. A rejected one hands back the very network given.
-pub record RunsAs (r : Network) (d : Ran′) (answer : Ran) : Type 0 where
-  pub network : networkOf (answer .network) ≡ d .network
-  pub rounds : answer .rounds ≡ d .made
-  pub ending : endingOf (answer .ending) ≡ d .ending
-  pub untouched : answer .ending ≡ Broken → answer .network ≡ r
+-- its number, from 0: by sender, then receiver
+unfoldable pub channelAt : ℕ → ℕ → ℕ
+channelAt i j = 11 * pred i + elim (ltb j i) [ true ↦ pred j | false ↦ pred (pred j) ]
+
+unfoldable pub placeOf : Place → Message′
+placeOf p = messageOf (p .message)
+
+unfoldable pub noPlace : Place
+noPlace = record { message = AddLink }
+
+-- the messages of a ring of eight places from `base` on, so many from `head` on, round and round
+unfoldable pub ring : List Place → ℕ → ℕ → ℕ → List Message′
+ring places base head zero = []
+ring places base head (suc count) = placeOf (getD places (base + head % 8) noPlace) ∷ ring places base (suc head) count
+
+-- the row of sender i, digit k for receiver k
+unfoldable pub rowOf : List ℕ → ℕ → ℕ → ℕ
+rowOf rows i = assignment (fromOne 0 (λ k. getD rows k 0) i)
+
+unfoldable pub channelOf : Network → ℕ → ℕ → List Message′
+channelOf r i j = ring (r .places) (8 * channelAt i j) (rowOf (r .heads) i j) (rowOf (r .counts) i j)
+
+unfoldable pub problemOf : Network → Problem
+problemOf r = record { count = r .count; domains = r .domains; bans = r .bans }
+
+unfoldable pub agentsOf : List Agent′ → ℕ → Agent′
+agentsOf l = fromOne noAgent (λ k. getD l k noAgent)
+
+-- Where in its ring a channel's messages stand, and what its unused places hold, is no part of the network.
+unfoldable pub networkOf : Network → Network′
+networkOf r =
+    record {
+      problem = problemOf r;
+      verdict = r .verdict;
+      agents = agentsOf (map agentOf (r .agents));
+      channel = λ i j. elim (isChannel i j) [ true ↦ channelOf r i j | false ↦ [] ];
+    }

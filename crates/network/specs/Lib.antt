@@ -1,3 +1,2 @@
 pub mod Abstract
 pub mod Parts
-pub mod Barred

@@ -1,86 +1,138 @@
-// The network (rail) at work: one delivery, and the run.
+// The network (rail) by value, and the test of its shape.
 ghost use mathlib.Core.Path.{_≡_};
-ghost use mathlib.Core.Bool.{not, _&&_};
-ghost use lib.Dec.{eqb};
-ghost use Rattle.base.specs.Finite.{within};
-ghost use Prim.Native.Nat.{_≤_};
-ghost use Rattle.protocol.specs.Delivery.{deliver as deliverBy};
-ghost use Rattle.protocol.specs.Run.{allowed as allowedBy, run as runBy};
-ghost use Rattle.shape.specs.Abstract.{networkOf};
-ghost use Rattle.delivery.specs.Abstract.{Answers};
-ghost use Rattle.network.specs.Abstract.{RunsAs};
+ghost use Rattle.protocol.specs.Network.{emptyNetwork};
+ghost use Rattle.protocol.specs.Shape.{inShape};
+ghost use Rattle.network.specs.Abstract.{networkOf};
+use agent::Agent;
+use agent::Lhs;
+use agent::Message;
+use packed::digit;
+use packed::first_digit;
+use packed::with_digit;
 
-mod running;
-mod waiting;
+mod agents;
+mod channels;
+pub mod places;
+mod range;
+mod sets;
 
-use crate::running::run_in_shape;
-use delivery::Delivered;
-use delivery::deliver_in_shape;
-use shape::Network;
+use agents::holds_in_shape;
+use agents::links_in_shape;
+use agents::unused;
+use channels::message_fits;
+use places::channel_at;
+use places::lines_of;
+use places::place_at;
+use range::in_range;
 
-// How a run ends.
-pub enum Ending {
-    None,
-    Plan,
-    Jammed,
-    Faulty,
-    Open,
-    Broken,
+// One place of a channel.
+pub struct Place {
+    pub message: Message,
 }
 
-// What a run hands back: the network, the full rounds made and how it ended.
-pub struct Ran {
-    pub network: Network,
-    pub rounds: u64,
-    pub ending: Ending,
+// 132 channels (lines) of eight places, by sender, then receiver. A channel is a ring: its messages stand from its head on, so many as its count.
+// Heads and counts are rows of digits in base 16, one row for each sender, digit k for receiver k.
+pub struct Network {
+    pub count: u8,
+    pub domains: [u8; 12],
+    pub bans: [u64; 66],
+    pub verdict: bool,
+    pub agents: [Agent; 12],
+    pub heads: [u64; 12],
+    pub counts: [u64; 12],
+    pub places: [Place; 1056],
 }
 
-// The numbers are 1 to n, and different.
-fn numbers_good(n: u8, from: u8, to: u8) -> bool
-    ensures { λ b. ⌜ b ≡ within n from && within n to && not (eqb from to) ⌝ }
+// The empty rail: n = 0, all else zero.
+pub fn empty() -> Network
+    ensures { λ r. ⌜ networkOf r ≡ emptyNetwork ⌝ }
 {
-    (0 < from) & (from <= n) & ((0 < to) & (to <= n)) & (from != to)
+    let nobody = Lhs { digits: 0 };
+    let agent = Agent {
+        value: 0,
+        stored: 0,
+        listens: 0,
+        informs: 0,
+        view: nobody,
+        nogoods: [0; 8],
+    };
+    let agents = [agent; 12];
+    let place = Place {
+        message: Message::AddLink,
+    };
+    let places = [place; 1056];
+    Network {
+        count: 0,
+        domains: [0; 12],
+        bans: [0; 66],
+        verdict: false,
+        agents: agents,
+        heads: [0; 12],
+        counts: [0; 12],
+        places: places,
+    }
 }
 
-// A delivery tests 5 to 10, in that order.
-pub fn deliver(r: Network, from: u8, to: u8) -> Delivered
-    ensures { λ d. ⌜ Answers r (deliverBy (networkOf r) from to) d ⌝ }
+// The shape of any network at all, forged ones included.
+pub fn in_shape(r: Network) -> bool
+    ensures { λ b. ⌜ b ≡ inShape (networkOf r) ⌝ }
 {
-    if !shape::in_shape(r) {
-        return Delivered {
-            number: 5,
-            network: r,
-        };
+    let n = r.count;
+    if !in_range(n, &r.domains, &r.bans) {
+        return false;
     }
-    if !numbers_good(r.count, from, to) {
-        return Delivered {
-            number: 6,
-            network: r,
-        };
+    let mut listens = [0u16; 12];
+    let mut informs = [0u16; 12];
+    let mut k: usize = 0;
+    while k < 12 {
+        let a = r.agents[k];
+        listens[k] = a.listens;
+        informs[k] = a.informs;
+        k += 1;
     }
-    deliver_in_shape(r, from, to)
-}
-
-// "0 to 1,000,000; more is taken as 1,000,000"
-fn at_most_a_million(rounds: u64) -> u64
-    ensures { λ k. ⌜ (k ≡ allowedBy rounds) × (k ≤ 1000000) ⌝ }
-{
-    if rounds <= 1000000 {
-        return rounds;
+    let mut i: u8 = 0;
+    while i < 12 {
+        let a = r.agents[i as usize];
+        i += 1;
+        if n < i {
+            if !unused(a) {
+                return false;
+            }
+        } else {
+            if !links_in_shape(n, &listens, &informs, &r.bans, i) {
+                return false;
+            }
+            if !holds_in_shape(r.verdict, &r.domains, i, a) {
+                return false;
+            }
+        }
     }
-    1000000
-}
-
-// The run tests the shape once, and rejects only with 5.
-pub fn run(r: Network, allowed: u64) -> Ran
-    ensures { λ e. ⌜ RunsAs r (runBy allowed (networkOf r)) e ⌝ }
-{
-    if !shape::in_shape(r) {
-        return Ran {
-            network: r,
-            rounds: 0,
-            ending: Ending::Broken,
-        };
+    // the channels from i are looked at: those to the digits of `rest` are left, and of the one to j all messages but `left` fit
+    i = 0;
+    let mut rest: u64 = 0;
+    let mut j: u8 = 1;
+    let mut left: u8 = 0;
+    loop {
+        if left != 0 {
+            left -= 1;
+            let head = digit(r.heads[i as usize - 1], j);
+            let place = r.places[place_at(channel_at(i, j), head, left)];
+            let m = place.message;
+            if !message_fits(&r.domains, &listens, i, j, m) {
+                return false;
+            }
+        } else if rest != 0 {
+            j = first_digit(rest);
+            left = digit(rest, j);
+            if 8 < left {
+                return false;
+            }
+            rest = with_digit(rest, j, 0);
+        } else if i < 12 {
+            rest = lines_of(r.counts[i as usize], i + 1);
+            i += 1;
+        } else {
+            return true;
+        }
     }
-    run_in_shape(r, at_most_a_million(allowed))
 }

@@ -14,12 +14,12 @@ use choices::solvable;
 use drafts::drawn;
 use draws::next;
 use draws::pick;
-use network::Ending;
+use network::Network;
 use rails::at_rest;
 use rails::listed;
 use rails::taken;
 use reading::fault;
-use shape::Network;
+use run::Ending;
 use tallies::AT_REST;
 use tallies::AT_VERDICT;
 use tallies::CUT_SHORT;
@@ -58,7 +58,7 @@ fn ended(t: Tally, e: Ending, settled: bool, found: bool, s: &[u8]) -> Tally {
 }
 
 fn with_run(t: Tally, rail: Network, state: u64, found: bool, s: &[u8]) -> Tally {
-    let out = network::run(rail, allowed(state));
+    let out = run::run(rail, allowed(state));
     let after = out.network;
     let ending = out.ending;
     ended(t, ending, settles(s, taken(after)), found, s)
@@ -100,7 +100,7 @@ fn with_list(t: Tally, rail: Network, state: u64, found: bool, s: &[u8]) -> Tall
 
 // A sheet, which is refused with the right number, or whose rail is run and delivered on.
 fn with_sheet(t: Tally, state: u64, s: &[u8]) -> Tally {
-    let out = opening::start(s);
+    let out = start::start(s);
     let rail = out.network;
     let number = fault(s);
     let t = judged(

@@ -5,8 +5,8 @@ ghost use Prim.Native.Nat.{_≤_, _<_};
 use crate::choices::Choice;
 use crate::draws::next;
 use crate::draws::pick;
-use agent::packed::digit;
-use shape::Network;
+use network::Network;
+use packed::digit;
 
 // ---- the slots taken
 
@@ -15,7 +15,7 @@ fn with_asked(c: Choice, rail: Network, i: usize) -> Choice
     requires { ⌜ i < 12 ⌝ }
 {
     let mut o = c;
-    let a = opening::value(rail, i as u8 + 1);
+    let a = start::value(rail, i as u8 + 1);
     o.of[i] = a.value;
     o
 }
@@ -157,7 +157,7 @@ fn delivered(l: List) -> List {
     let rail = l.rail;
     let counts = rail.counts;
     let ends = chosen(counts, l.state);
-    let out = network::deliver(rail, ends.from, ends.to);
+    let out = run::deliver(rail, ends.from, ends.to);
     let after = out.network;
     List {
         rail: after,

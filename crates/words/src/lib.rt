@@ -3,8 +3,8 @@ ghost use mathlib.Core.Path.{_≡_};
 ghost use lib.ListN.{take};
 ghost use Rattle.protocol.specs.Run.{endingWord};
 ghost use Rattle.io.specs.Counts.{Counts};
-ghost use Rattle.network.specs.Abstract.{endingOf};
-use network::Ending;
+ghost use Rattle.run.specs.Abstract.{endingOf};
+use run::Ending;
 
 // A word: the first `length` letters.
 pub struct Word {

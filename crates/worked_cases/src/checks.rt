@@ -13,10 +13,10 @@ use crate::printing::put;
 use crate::printing::put_ending;
 use crate::rails::same_rail;
 use crate::sheets::Sheet;
-use agent::packed::digit;
-use network::Ending;
-use opening::Started;
-use shape::Network;
+use network::Network;
+use packed::digit;
+use run::Ending;
+use start::Started;
 
 // What a line finds: a number, whether all else is as the line says, and the rail after it.
 pub struct Found {
@@ -30,9 +30,9 @@ pub struct Found {
 // The start of the sheet that is the first n bytes.
 fn start_on(bytes: &[u8], n: usize) -> Started {
     if n <= bytes.len() {
-        return opening::start(&bytes[..n]);
+        return start::start(&bytes[..n]);
     }
-    opening::start(bytes)
+    start::start(bytes)
 }
 
 // A refused sheet gives the empty rail.
@@ -51,7 +51,7 @@ fn started(s: Sheet) -> Found {
     Found {
         rail,
         number: number as u64,
-        right: same_rail(rail, shape::empty()),
+        right: same_rail(rail, network::empty()),
     }
 }
 
@@ -88,7 +88,7 @@ fn allowed(n: Numbers) -> u64 {
 }
 
 fn ran(rail: Network, n: Numbers, line: &[u8]) -> Found {
-    let out = network::run(rail, allowed(n));
+    let out = run::run(rail, allowed(n));
     let after = out.network;
     let ending = out.ending;
     Found {
@@ -99,7 +99,7 @@ fn ran(rail: Network, n: Numbers, line: &[u8]) -> Found {
 }
 
 fn delivered(rail: Network, n: Numbers) -> Found {
-    let out = network::deliver(rail, small(n, 0), small(n, 1));
+    let out = run::deliver(rail, small(n, 0), small(n, 1));
     let after = out.network;
     Found {
         rail: after,
@@ -114,7 +114,7 @@ fn delivered(rail: Network, n: Numbers) -> Found {
 fn slot_right(rail: Network, n: Numbers, k: usize) -> bool
     requires { ⌜ k < 12 ⌝ }
 {
-    let a = opening::value(rail, k as u8 + 1);
+    let a = start::value(rail, k as u8 + 1);
     if k < n.count {
         return a.number == 0 && a.value as u64 == n.values[k];
     }

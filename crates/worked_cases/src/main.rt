@@ -42,10 +42,10 @@ use libc::STDIN_FILENO;
 use lines::line_end;
 use lines::next_line;
 use lines::numbers_in;
+use network::Network;
 use printing::put;
 use printing::put_line;
 use printing::put_number;
-use shape::Network;
 use sheets::Sheet;
 use sheets::blank;
 use sheets::built;
@@ -132,8 +132,8 @@ fn followed(d: Desk, line: &[u8]) -> Desk {
 fn play(text: &[u8]) -> Tally {
     let mut d = Desk {
         sheet: blank(),
-        rail: shape::empty(),
-        kept: shape::empty(),
+        rail: network::empty(),
+        kept: network::empty(),
         tally: Tally { of: [0u64; 9] },
     };
     let mut at: usize = 0;

@@ -1,6 +1,6 @@
 // Printing, on standard output.
 use libc::STDOUT_FILENO;
-use network::Ending;
+use run::Ending;
 use words::word_for;
 
 pub fn put(s: &[u8]) {

@@ -2,13 +2,13 @@
 ghost use mathlib.Core.Path.{_≡_};
 ghost use mathlib.Core.Bool.{true};
 ghost use Prim.Native.Nat.{_<_};
-ghost use Rattle.shape.specs.Abstract.{isChannel};
+ghost use Rattle.network.specs.Abstract.{isChannel};
 use agent::Agent;
 use agent::Message;
-use agent::packed::digit;
-use shape::Network;
-use shape::places::channel_at;
-use shape::places::place_at;
+use network::Network;
+use network::places::channel_at;
+use network::places::place_at;
+use packed::digit;
 
 fn same_bans(a: [u64; 66], b: [u64; 66]) -> bool {
     for k in 0..66 {

@@ -4,9 +4,9 @@ use Rattle.bench_entry.proofs.bench_entry_deliver.Statement.{statement}
 use Rattle.bench_entry.proofs.bench_entry_deliver.Tie as tie
 use Rattle.bench_entry.proofs.bench_entry_deliver.Reads as reads
 use Rattle.bench_entry.proofs.bench_entry_deliver.Lts as lts
-use Rattle.network.proofs.deliver.Reads as deliver-reads
-use Rattle.opening.proofs.start.Reads as start-reads
-use Rattle.opening.proofs.value.Reads as value-reads
+use Rattle.run.proofs.deliver.Reads as deliver-reads
+use Rattle.start.proofs.start.Reads as start-reads
+use Rattle.start.proofs.value.Reads as value-reads
 
 abbrev Inv-loop : tie.InvT-loop
 Inv-loop sheet calls network₀ sum₀ n k₀ network sum k = k ≤ n

@@ -5,8 +5,8 @@ use Rattle.bench_entry.proofs.bench_entry_settle.Tie as tie
 use Rattle.bench_entry.proofs.bench_entry_settle.Reads as reads
 use Rattle.bench_entry.proofs.bench_entry_settle.Lts as lts
 use Rattle.bench_entry.proofs.number_of.Reads as number-of-reads
-use Rattle.network.proofs.run.Reads as run-reads
-use Rattle.opening.proofs.start.Reads as start-reads
+use Rattle.run.proofs.run.Reads as run-reads
+use Rattle.start.proofs.start.Reads as start-reads
 
 abbrev Inv-loop : tie.InvT-loop
 Inv-loop sheet rounds ran ending agents values₀ k₀ values k = k ≤ 12

@@ -7,11 +7,11 @@ use native.Mathlib.Omega.{arith}
 use lib.ListN.{length-map}
 use borrow.Author.Needs.{needs}
 use borrow.Author.Tests.{not-true, not-false}
-use Rattle.agent.specs.Packed.{assignment}
+use Rattle.packed.specs.Packed.{assignment}
 use Rattle.agent.specs.Abstract.{assigned}
 use Rattle.protocol.specs.Delivery.{VerdictStands, EmptyChannel, AlreadyInformed, NoRoom, rejectionNumber}
-use Rattle.shape.specs.Abstract.{isChannel, networkOf}
-use Rattle.shape.proofs.Numbering.{Ends, ends}
+use Rattle.network.specs.Abstract.{isChannel, networkOf}
+use Rattle.network.proofs.Numbering.{Ends, ends}
 use Rattle.delivery.specs.Parts.{Postable}
 use Rattle.delivery.proofs.Named.{still-short}
 use Rattle.delivery.proofs.Changes.{Sized, rowed, Taken, taken-off}

@@ -39,18 +39,18 @@ use denote.Triple.Table.{entered, cited}
 use denote.Triple.Walked.{says, Stays, stay-ref, stay-none, walkOf, AllGo, goes-ref, goes-none, Walks, ends-at, walked, walk-meets}
 use denote.Exit.{yes}
 use Rattle.protocol.specs.Delivery.{deliver as deliverBy}
-use Rattle.shape.specs.Abstract.{networkOf}
+use Rattle.network.specs.Abstract.{networkOf}
 use Rattle.delivery.specs.Abstract.{Answers}
-use Rattle.shape.specs.declared.Network.{Network}
+use Rattle.network.specs.declared.Network.{Network}
 use Rattle.delivery.specs.declared.Delivered.{Delivered}
-use Rattle.shape.proofs.Network as N
-use Rattle.shape.proofs.Network.Laws as N′
+use Rattle.network.proofs.Network as N
+use Rattle.network.proofs.Network.Laws as N′
 use Rattle.delivery.proofs.Delivered as D
 use Rattle.delivery.proofs.Delivered.Laws as D′
-use Rattle.network.proofs.deliver as deliver
-use Rattle.network.proofs.deliver.Symbol as deliver-def
-use Rattle.network.proofs.deliver.Symbol.{name as #deliver}
-use Rattle.network.proofs.deliver.Met as deliver-thm
+use Rattle.run.proofs.deliver as deliver
+use Rattle.run.proofs.deliver.Symbol as deliver-def
+use Rattle.run.proofs.deliver.Symbol.{name as #deliver}
+use Rattle.run.proofs.deliver.Met as deliver-thm
 use Rattle.host.proofs.deliver_in_place.Key.{name as #self}
 use Rattle.host.proofs.deliver_in_place as this
 use Rattle.host.proofs.deliver_in_place.Statement as stated
@@ -159,4 +159,4 @@ deliver-in-place-spec 𝓤 H 𝓜 𝓖 𝓡 =
     entered 𝓤 H (tripleOf 𝓤 H (𝓖 .A) this.signature (this.spec 𝓤 H (𝓖 .A) (𝓜 .mem) (𝓡 .run)))
     (tables 𝓤 H 𝓜 𝓡 code.env .C) (tables 𝓤 H 𝓜 𝓡 code.env .Λ) #self code.function (code.unfolded 𝓤 H 𝓜 𝓡)
     (this-meets 𝓤 H (𝓖 .A) (givenOf 𝓤 H 𝓜 𝓖) (𝓜 .mem) (𝓡 .run) (tablesOf 𝓤 H 𝓜 (tables 𝓤 H 𝓜 𝓡 code.env))
-    (cited 𝓤 H (Deliver 𝓤 H (𝓖 .A) (𝓜 .mem) (𝓡 .run)) 𝓜 𝓡 code.env #deliver deliver-def.routine code.calls-network·deliver (deliver-thm.met 𝓤 H 𝓜 𝓖 𝓡)))
+    (cited 𝓤 H (Deliver 𝓤 H (𝓖 .A) (𝓜 .mem) (𝓡 .run)) 𝓜 𝓡 code.env #deliver deliver-def.routine code.calls-run·deliver (deliver-thm.met 𝓤 H 𝓜 𝓖 𝓡)))

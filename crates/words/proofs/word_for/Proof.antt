@@ -3,9 +3,9 @@ use mathlib.Core.Path.{_≡_, refl}
 use native.Mathlib.Omega.{arith}
 use borrow.Enum.Known.{lives-at}
 use Rattle.protocol.specs.Run.{endingWord}
-use Rattle.network.specs.declared.Ending.the-variants.{None, Plan, Jammed, Faulty, Open, Broken}
-use Rattle.network.specs.Abstract.{endingOf}
-use Rattle.network.proofs.Ending as E
+use Rattle.run.specs.declared.Ending.the-variants.{None, Plan, Jammed, Faulty, Open, Broken}
+use Rattle.run.specs.Abstract.{endingOf}
+use Rattle.run.proofs.Ending as E
 use borrow.Author.Needs.{needs}
 use Rattle.words.proofs.word_for.Statement.{statement}
 use Rattle.words.proofs.word_for.Tie as tie

@@ -12,7 +12,7 @@ use Rattle.agent_rules.specs.Agent.{Bans}
 use Rattle.agent.specs.Abstract.{assigned, agentOf, selfOf}
 use Rattle.agent.specs.Entries.{Barring}
 use Rattle.agent.specs.Parts.{leftFree, Barred, Chose}
-use Rattle.agent.proofs.Masks.{mask-lowest, mask-none}
+use Rattle.packed.proofs.Masks.{mask-lowest, mask-none}
 use Rattle.agent.proofs.Choices.{tried-all, chose-none, tried-below, next-free, chose-some}
 use Rattle.agent.proofs.Agent.choose.Statement.{statement}
 use Rattle.agent.proofs.Agent.choose.Tie as tie

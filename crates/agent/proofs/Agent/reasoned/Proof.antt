@@ -9,7 +9,7 @@ use lib.Count.{trailingZeros}
 use lib.ListN.{length-map}
 use Rattle.base.specs.Bits.{bit}
 use Rattle.agent.specs.Abstract.{assigned, selfOf}
-use Rattle.agent.proofs.Zeros.{trailing-set}
+use Rattle.base.proofs.Zeros.{trailing-set}
 use Rattle.agent.proofs.Giving.{Giving, giving-none, giving-more, room, fewer, lacking, lacking-lt, blamedAt, shift-some, shift-fits}
 use Rattle.agent.proofs.Reasoning.{blame-range, all-given, all-reasoned}
 use Rattle.agent.proofs.Agent.reasoned.Statement.{statement}

@@ -6,8 +6,8 @@ use mathlib.Core.Path.{_≡_, refl}
 use native.Mathlib.Omega.{arith}
 use lib.Dec.{eqb}
 use Rattle.agent.specs.Abstract.{assigned}
-use Rattle.agent.specs.Parts.{maskFrom}
-use Rattle.agent.proofs.Masks.{byte-lt}
+use Rattle.packed.specs.Packed.{maskFrom}
+use Rattle.packed.proofs.Masks.{byte-lt}
 use Rattle.agent.proofs.Spared.{spares, next-mask, next-fits}
 use Rattle.agent.proofs.Agent.sparing.Statement.{statement}
 use Rattle.agent.proofs.Agent.sparing.Tie as tie

@@ -7,7 +7,7 @@ use mathlib.Core.Logic.{⊎-elim}
 use native.Mathlib.Omega.{arith}
 use Rattle.agent_rules.specs.Choosing.{union}
 use Rattle.agent.specs.Abstract.{assigned, agentOf}
-use Rattle.agent.proofs.Digits.{nobody-assigned}
+use Rattle.packed.proofs.Digits.{nobody-assigned}
 use Rattle.agent.proofs.Unions.{compatible, joined, passed}
 use Rattle.agent.proofs.Agent.union.Statement.{statement}
 use Rattle.agent.proofs.Agent.union.Tie as tie

@@ -3,7 +3,7 @@
 use Prim.Native.Nat.{_*_, _-_}
 use mathlib.Core.Path.{_∙_}
 use native.Mathlib.Omega.{arith}
-use Rattle.agent.proofs.Fields.{Exchange, exchange}
+use Rattle.packed.proofs.Fields.{Exchange, exchange}
 use Rattle.agent.proofs.Bytes.{byte-low, byte-high, changed-low, changed-high}
 use borrow.Author.Needs.{needs}
 use Rattle.agent.proofs.Bars.with.Statement.{statement}

@@ -2,7 +2,7 @@
 -- The `|` of their words.
 use native.Mathlib.Omega.{arith}
 use Rattle.agent.specs.Abstract.{assigned}
-use Rattle.agent.proofs.Digits.{or-assigned}
+use Rattle.packed.proofs.Digits.{or-assigned}
 use Rattle.agent.proofs.Lhs.join.Statement.{statement}
 use Rattle.agent.proofs.Lhs.join.Tie as tie
 

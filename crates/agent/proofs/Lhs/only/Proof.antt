@@ -7,7 +7,7 @@ use Rattle.base.specs.Finite.{at}
 use Rattle.agent_rules.specs.Message.{Assignment}
 use Rattle.agent_rules.specs.Choosing.{only}
 use Rattle.agent.specs.Abstract.{assigned}
-use Rattle.agent.proofs.Digits.{nobody-assigned}
+use Rattle.packed.proofs.Digits.{nobody-assigned}
 use Rattle.agent.proofs.Lhs.only.Statement.{statement}
 use Rattle.agent.proofs.Lhs.only.Tie as tie
 

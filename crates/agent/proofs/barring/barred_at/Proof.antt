@@ -4,7 +4,7 @@ use borrow.Author.Needs.{needs}
 use native.Mathlib.Omega.{arith}
 use Rattle.agent.specs.Parts.{barredAt}
 use Rattle.agent_rules.specs.Message.{known}
-use Rattle.agent.proofs.Known.{known-from}
+use Rattle.packed.proofs.Known.{known-from}
 use Rattle.agent.proofs.barring.barred_at.Statement.{statement}
 use Rattle.agent.proofs.barring.barred_at.Tie as tie
 

@@ -2,7 +2,7 @@
 use Prim.Native.Nat.{_-_}
 use borrow.Author.Needs.{needs}
 use native.Mathlib.Omega.{arith}
-use Rattle.shape.proofs.Numbering.{ends}
+use Rattle.network.proofs.Numbering.{ends}
 use Rattle.board.proofs.drawing.put_channel.Statement.{statement}
 use Rattle.board.proofs.drawing.put_channel.Tie as tie
 

@@ -1,7 +1,7 @@
 -- The ends of a channel are agents of 1 to 12.
 use borrow.Author.Needs.{needs}
 use native.Mathlib.Omega.{arith}
-use Rattle.shape.proofs.Numbering.{ends}
+use Rattle.network.proofs.Numbering.{ends}
 use Rattle.board.proofs.drawing.put_waiting.Statement.{statement}
 use Rattle.board.proofs.drawing.put_waiting.Tie as tie
 

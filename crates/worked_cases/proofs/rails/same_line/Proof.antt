@@ -2,7 +2,7 @@
 use Prim.Native.Nat.{_-_}
 use borrow.Author.Needs.{needs}
 use native.Mathlib.Omega.{arith}
-use Rattle.shape.proofs.Numbering.{ends}
+use Rattle.network.proofs.Numbering.{ends}
 use Rattle.worked_cases.proofs.rails.same_line.Statement.{statement}
 use Rattle.worked_cases.proofs.rails.same_line.Tie as tie
 

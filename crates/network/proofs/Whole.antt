@@ -1,0 +1,102 @@
+-- The whole shape, in the order in which the code tests it; and the masks that it takes of a network's agents are theirs.
+use Prim.Native.Nat.{ℕ, zero, suc, _+_, _≤_, _<_}
+use mathlib.Core.Path.{_≡_, refl, sym, _∙_}
+use mathlib.Core.Bool.{Bool, true, false, _&&_, false≢true}
+use mathlib.Core.List.{List, [], _∷_, map}
+use lib.ListN.{length, getD}
+use native.Mathlib.Omega.{arith}
+use borrow.Author.Tests.{eq-eqb}
+use Rattle.base.specs.Finite.{fromOne, allTo}
+use Rattle.base.proofs.Tests.{test, eq-test}
+use Rattle.base.proofs.Search.{allTo-at, to-allTo}
+use Rattle.problem.specs.Problem.{maxAgents, maxPairs, sized, inRange}
+use Rattle.agent_rules.specs.Agent.{Agent as Agent′, noAgent}
+use Rattle.protocol.specs.Shape.{agentInShape, inShape}
+use Rattle.packed.specs.Packed.{members}
+use Rattle.agent.specs.Abstract.{agentOf}
+use Rattle.agent.specs.declared.Agent.{Agent}
+use Rattle.network.specs.Abstract.{problemOf, agentsOf, networkOf}
+use Rattle.network.specs.Parts.{setOf, Linking}
+use Rattle.network.specs.declared.Network.{Network}
+use Rattle.network.proofs.Words.{no-member}
+use Rattle.network.proofs.Sweeping.{channelsInShape}
+
+-- ---- the masks
+
+abbrev pub listensOf : Agent → ℕ
+listensOf a = a .listens
+
+abbrev pub informsOf : Agent → ℕ
+informsOf a = a .informs
+
+module _ (set : Agent′ → ℕ → Bool) (mask : Agent → ℕ) (is : (a : Agent) (j : ℕ) → set (agentOf a) j ≡ members (mask a) j)
+    (none : (j : ℕ) → set noAgent j ≡ false) (j : ℕ) where
+  set-in : (agents : List Agent) (k : ℕ) → set (getD (map agentOf agents) k noAgent) j ≡ members (getD (map mask agents) k 0) j
+  set-in [] k = none j ∙ sym (no-member j)
+  set-in (a ∷ agents) zero = is a j
+  set-in (a ∷ agents) (suc k) = set-in agents k
+
+  sets-are : (agents : List Agent) (k : ℕ) → set (agentsOf (map agentOf agents) k) j ≡ setOf (map mask agents) k j
+  unfolding agentsOf setOf fromOne
+  sets-are agents zero = none j ∙ sym (no-member j)
+  sets-are agents (suc k) = set-in agents k
+
+pub linking : (r : Network) (listeners informers : List ℕ) → listeners ≡ map listensOf (r .agents) → informers ≡ map informsOf (r .agents)
+    → Linking listeners informers (networkOf r)
+unfolding networkOf agentOf noAgent
+linking r listeners informers e f =
+    rw (e, f)
+    (record {
+      listens = λ k j. sets-are (λ a. a .listens) listensOf (λ a i. refl) (λ i. refl) j (r .agents) k;
+      informs = λ k j. sets-are (λ a. a .informs) informsOf (λ a i. refl) (λ i. refl) j (r .agents) k;
+    })
+
+-- ---- the arrays have their lengths
+
+pub lengths : (r : Network) → length (r .domains) ≡ 12 → length (r .bans) ≡ 66 → sized (problemOf r) ≡ true
+unfolding sized problemOf maxAgents maxPairs
+lengths r d b = rw (eq-eqb (length (r .domains)) 12 d, eq-eqb (length (r .bans)) 66 b)
+
+-- ---- the problem, the agents, the channels
+
+unfoldable agentsInShape : Network → Bool
+agentsInShape r = allTo maxAgents (agentInShape (networkOf r))
+
+whole : (r : Network) → inShape (networkOf r) ≡ inRange (problemOf r) && agentsInShape r && channelsInShape r
+unfolding inShape agentsInShape channelsInShape networkOf
+whole r = refl
+
+pub problem-unfit : (r : Network) → inRange (problemOf r) ≡ false → inShape (networkOf r) ≡ false
+problem-unfit r e = whole r ∙ rw e
+
+-- the problem is in range and the agents 1 to i are in shape; the masks are the agents'
+pub record AgentsFit (r : Network) (listens informs : List ℕ) (i : ℕ) : Type 0 where
+  pub few : i ≤ 12
+  pub ranged : inRange (problemOf r) ≡ true
+  pub links : Linking listens informs (networkOf r)
+  pub agents : (x : ℕ) → 1 ≤ x → x ≤ i → agentInShape (networkOf r) x ≡ true
+
+module _ (r : Network) (listens informs : List ℕ) (i : ℕ) (a : AgentsFit r listens informs i) where
+  pub agent-unfit : i < 12 → agentInShape (networkOf r) (i + 1) ≡ false → inShape (networkOf r) ≡ false
+  unfolding agentsInShape maxAgents
+  agent-unfit h e = whole r ∙ rw (a .ranged, fails)
+    where
+      fails : allTo 12 (agentInShape (networkOf r)) ≡ false
+      fails =
+          test (allTo 12 (agentInShape (networkOf r)))
+          (λ t. absurd (false≢true (sym e ∙ allTo-at 12 (agentInShape (networkOf r)) t (i + 1) (omega arith) (omega arith))))
+          (λ t. t)
+
+  pub agent-passed : i < 12 → agentInShape (networkOf r) (i + 1) ≡ true → AgentsFit r listens informs (i + 1)
+  agent-passed h e =
+      record {
+        few = omega arith;
+        ranged = a .ranged;
+        links = a .links;
+        agents = λ x l u. eq-test x (i + 1) (λ q. rw q e) (λ n. a .agents x l (omega (arith, n)));
+      }
+
+  -- only the channels are left
+  pub agents-passed : 12 ≤ i → inShape (networkOf r) ≡ channelsInShape r
+  unfolding agentsInShape maxAgents
+  agents-passed h = whole r ∙ rw (a .ranged, to-allTo 12 (agentInShape (networkOf r)) (λ x l u. a .agents x l (omega arith)))

@@ -1,0 +1,424 @@
+-- The problem; then the masks of all agents; the agents, upward; the channels, sender by sender. What an invariant says is what was found to fit.
+use borrow.Author.Needs.{needs}
+use Prim.Native.Nat.{ℕ, _+_, _*_, _-_, _≤_, _<_}
+use mathlib.Core.Path.{_≡_, refl, sym, ap, _∙_}
+use mathlib.Core.Bool.{true, false}
+use mathlib.Core.List.{List, [], map}
+use native.Mathlib.Omega.{arith}
+use lib.ListN.{length, take, length-map, length-set, List·getD-map}
+use lib.Seq.{take-all}
+use borrow.Author.Tests.{not-true, not-false}
+use Rattle.base.proofs.Arrays.{copied}
+use Rattle.problem.specs.Problem.{inRange}
+use Rattle.packed.specs.Packed.{assignment}
+use Rattle.agent.specs.declared.Agent.{Agent}
+use Rattle.agent.specs.declared.Message.the-variants.{Info}
+use Rattle.packed.proofs.Known.{known-true}
+use Rattle.protocol.specs.Shape.{messageFits, unused, inShape}
+use Rattle.network.specs.Abstract.{isChannel, problemOf, placeOf, networkOf}
+use Rattle.network.specs.Parts.{setOf, linksInShape, holdsInShape}
+use Rattle.network.specs.declared.Place.{Place}
+use Rattle.network.specs.declared.Network.{Network}
+use Rattle.network.proofs.Numbering.{ends}
+use Rattle.network.proofs.Clauses.{agent-at, agent-beyond, agent-within}
+use Rattle.network.proofs.Rings.{lastLeft, message-at}
+use Rattle.network.proofs.Sweeping.{Swept, channelsInShape, beginning, one-unfit, message-unfit, message-passed, channel-here, channel-full, channel-next, sender-next, swept, linesLeft, lines-few, lines-fewer}
+use Rattle.network.proofs.Whole.{listensOf, informsOf, linking, lengths, problem-unfit, AgentsFit, agent-unfit, agent-passed, agents-passed}
+use Rattle.network.proofs.in_shape.Statement.{statement}
+use Rattle.network.proofs.in_shape.Tie as tie
+
+-- what arrays have past their end
+abbrev noAgent : Agent
+noAgent = record { value = 0; stored = 0; listens = 0; informs = 0; view = record { digits = 0 }; nogoods = [] }
+
+abbrev noMessage : Place
+noMessage = record { message = Info 0 }
+
+-- the channels are left, and `listens` has every agent's set
+record Checked (r : Network) (listens : List ℕ) : Type 0 where
+  rest : inShape (networkOf r) ≡ channelsInShape r
+  sets : (k x : ℕ) → networkOf r .agents k .listens x ≡ setOf listens k x
+
+abbrev Inv-loop : tie.InvT-loop
+Inv-loop r n listens₀ informs₀ k₀ listens informs k =
+    (k ≤ 12)
+    × (length listens ≡ 12)
+    × (length informs ≡ 12)
+    × (take k listens ≡ take k (map listensOf (r .agents)))
+    × (take k informs ≡ take k (map informsOf (r .agents)))
+
+abbrev μ-loop : tie.MeasureT-loop
+μ-loop r n listens₀ informs₀ k₀ listens informs k = 12 - k
+
+abbrev Inv-loop2 : tie.InvT-loop2
+Inv-loop2 r n listens informs k i₀ i = AgentsFit r listens informs i
+
+abbrev μ-loop2 : tie.MeasureT-loop2
+μ-loop2 r n listens informs k i₀ i = 12 - i
+
+abbrev Inv-loop3 : tie.InvT-loop3
+Inv-loop3 r n listens k i₀ rest₀ j₀ left₀ i rest j left = Checked r listens × Swept r i rest j left
+
+abbrev μ-loop3 : tie.MeasureT-loop3
+μ-loop3 r n listens k i₀ rest₀ j₀ left₀ i rest j left = (12 - i) * 1000 + linesLeft rest * 16 + left
+
+in-range-requires : tie.Need-in-range-requires Inv-loop μ-loop Inv-loop2 μ-loop2 Inv-loop3 μ-loop3
+in-range-requires c κs = search needs
+
+returns : tie.Need-returns Inv-loop μ-loop Inv-loop2 μ-loop2 Inv-loop3 μ-loop3
+unfolding problemOf
+returns c =
+    let r = c .before .before .before .before .before .args .t1 in
+    let s = lengths r (search needs) (search needs) in
+    sym (problem-unfit r (sym (c .before .in-range .ensures (problemOf r) s refl refl refl) ∙ not-true _ (c .if1 .taken)))
+
+loop-holds : tie.Need-loop-holds Inv-loop μ-loop Inv-loop2 μ-loop2 Inv-loop3 μ-loop3
+loop-holds c = (omega arith, refl, refl, refl, refl)
+
+mul-a : tie.Need-mul-a Inv-loop μ-loop Inv-loop2 μ-loop2 Inv-loop3 μ-loop3
+mul-a c = search needs
+
+element-copy-out-a : tie.Need-element-copy-out-a Inv-loop μ-loop Inv-loop2 μ-loop2 Inv-loop3 μ-loop3
+element-copy-out-a c = search needs
+
+mul-listens : tie.Need-mul-listens Inv-loop μ-loop Inv-loop2 μ-loop2 Inv-loop3 μ-loop3
+mul-listens c = search needs
+
+array-write-listens : tie.Need-array-write-listens Inv-loop μ-loop Inv-loop2 μ-loop2 Inv-loop3 μ-loop3
+array-write-listens c = search needs
+
+mul-informs : tie.Need-mul-informs Inv-loop μ-loop Inv-loop2 μ-loop2 Inv-loop3 μ-loop3
+mul-informs c = search needs
+
+array-write-informs : tie.Need-array-write-informs Inv-loop μ-loop Inv-loop2 μ-loop2 Inv-loop3 μ-loop3
+array-write-informs c = search needs
+
+add-k : tie.Need-add-k Inv-loop μ-loop Inv-loop2 μ-loop2 Inv-loop3 μ-loop3
+add-k c = search needs
+
+loop-less : tie.Need-loop-less Inv-loop μ-loop Inv-loop2 μ-loop2 Inv-loop3 μ-loop3
+loop-less c = search needs
+
+staffed : (c : tie.Start Inv-loop μ-loop Inv-loop2 μ-loop2 Inv-loop3 μ-loop3) → length (c .args .t1 .agents) ≡ 12
+staffed c = simp length-map at (c .good .0 .1 .1 .1 .1 .1 .1 .0 .1 .0 .1)
+
+placed : (c : tie.Start Inv-loop μ-loop Inv-loop2 μ-loop2 Inv-loop3 μ-loop3) → length (c .args .t1 .places) ≡ 1056
+placed c = simp length-map at (c .good .0 .1 .1 .1 .1 .1 .1 .1 .1 .1 .0 .1 .0 .1)
+
+loop-again : tie.Need-loop-again Inv-loop μ-loop Inv-loop2 μ-loop2 Inv-loop3 μ-loop3
+loop-again c =
+    let agents = c .before .before .before .before .before .before .before .before .args .t1 .agents in
+    let loop = c .before .before .loop in
+    let n : length agents ≡ 12 = staffed (c .before .before .before .before .before .before .before .before) in
+    let l : loop .k < length (map listensOf agents) = rw length-map (omega arith) in
+    let i : loop .k < length (map informsOf agents) = rw length-map (omega arith) in (
+      omega arith,
+      simp length-set (loop .inv .1),
+      simp length-set (loop .inv .2),
+      copied (loop .listens) (map listensOf agents) (loop .k) _ 0 (omega arith) l (loop .inv .3) (sym (List·getD-map listensOf agents (loop .k) noAgent)),
+      copied (loop .informs) (map informsOf agents) (loop .k) _ 0 (omega arith) i (loop .inv .4) (sym (List·getD-map informsOf agents (loop .k) noAgent)),
+    )
+
+same : {A : Type 0} {l m : List A} {k : ℕ} → k ≡ 12 → length l ≡ 12 → length m ≡ 12 → take k l ≡ take k m → l ≡ m
+same {l = l} {m = m} {k = k} e a b t = sym (take-all k l (omega arith)) ∙ t ∙ take-all k m (omega arith)
+
+ranged : (c : tie.Else1 Inv-loop μ-loop Inv-loop2 μ-loop2 Inv-loop3 μ-loop3) → inRange (problemOf (c .before .before .before .before .before .args .t1)) ≡ true
+unfolding problemOf
+ranged c =
+    let r = c .before .before .before .before .before .args .t1 in
+    let s = lengths r (search needs) (search needs) in
+    sym (c .before .in-range .ensures (problemOf r) s refl refl refl) ∙ not-false _ (c .if1 .left)
+
+loop2-holds : tie.Need-loop2-holds Inv-loop μ-loop Inv-loop2 μ-loop2 Inv-loop3 μ-loop3
+loop2-holds c =
+    let r = c .before .before .before .before .before .before .before .args .t1 in
+    let loop = c .before .loop in
+    let k : loop .k ≡ 12 = omega arith in
+    let n = staffed (c .before .before .before .before .before .before .before) in
+    record {
+      few = omega arith;
+      ranged = ranged (c .before .before);
+      links = linking r (loop .listens) (loop .informs) (same k (loop .inv .1) (rw length-map n) (loop .inv .3)) (same k (loop .inv .2) (rw length-map n) (loop .inv .4));
+      agents = λ x l u. absurd (omega arith);
+    }
+
+cast-a : tie.Need-cast-a Inv-loop μ-loop Inv-loop2 μ-loop2 Inv-loop3 μ-loop3
+cast-a c = search needs
+
+mul-a-2 : tie.Need-mul-a-2 Inv-loop μ-loop Inv-loop2 μ-loop2 Inv-loop3 μ-loop3
+mul-a-2 c = search needs
+
+element-copy-out-a-2 : tie.Need-element-copy-out-a-2 Inv-loop μ-loop Inv-loop2 μ-loop2 Inv-loop3 μ-loop3
+element-copy-out-a-2 c = search needs
+
+add-i : tie.Need-add-i Inv-loop μ-loop Inv-loop2 μ-loop2 Inv-loop3 μ-loop3
+add-i c = search needs
+
+unused-requires : tie.Need-unused-requires Inv-loop μ-loop Inv-loop2 μ-loop2 Inv-loop3 μ-loop3
+unused-requires c κs = search needs
+
+returns-2 : tie.Need-returns-2 Inv-loop μ-loop Inv-loop2 μ-loop2 Inv-loop3 μ-loop3
+unfolding networkOf problemOf
+returns-2 c =
+    let r = c .before .before .before .before .before .before .before .before .before .before .before .before .before .args .t1 in
+    let loop = c .before .before .before .before .before .loop2 in
+    sym (agent-unfit r _ _ (loop .i) (loop .inv) (c .before .before .before .before .loop2-test .taken)
+    (agent-beyond (networkOf r) (loop .i + 1) (c .before .before .if2 .taken) ∙ ap unused (agent-at r (loop .i) noAgent (staffed (c .before .before .before .before .before .before .before .before .before .before .before .before .before)) (c .before .before .before .before .loop2-test .taken))
+    ∙ sym (c .before .unused .ensures) ∙ not-true _ (c .if3 .taken)))
+
+loop2-less : tie.Need-loop2-less Inv-loop μ-loop Inv-loop2 μ-loop2 Inv-loop3 μ-loop3
+loop2-less c = search needs
+
+loop2-again : tie.Need-loop2-again Inv-loop μ-loop Inv-loop2 μ-loop2 Inv-loop3 μ-loop3
+unfolding networkOf problemOf
+loop2-again c =
+    let r = c .before .before .before .before .before .before .before .before .before .before .before .before .before .args .t1 in
+    let loop = c .before .before .before .before .before .loop2 in
+    agent-passed r _ _ (loop .i) (loop .inv) (c .before .before .before .before .loop2-test .taken)
+    (agent-beyond (networkOf r) (loop .i + 1) (c .before .before .if2 .taken) ∙ ap unused (agent-at r (loop .i) noAgent (staffed (c .before .before .before .before .before .before .before .before .before .before .before .before .before)) (c .before .before .before .before .loop2-test .taken))
+    ∙ sym (c .before .unused .ensures) ∙ not-false _ (c .if3 .left))
+
+links-in-shape-requires : tie.Need-links-in-shape-requires Inv-loop μ-loop Inv-loop2 μ-loop2 Inv-loop3 μ-loop3
+links-in-shape-requires c κs = search needs
+
+returns-3 : tie.Need-returns-3 Inv-loop μ-loop Inv-loop2 μ-loop2 Inv-loop3 μ-loop3
+unfolding networkOf problemOf
+returns-3 c =
+    let r = c .before .before .before .before .before .before .before .before .before .before .before .before .before .before .before .before .before .args .t1 in
+    let loop = c .before .before .before .before .before .before .before .before .before .loop2 in
+    let t : linksInShape (networkOf r) (loop .i + 1) ≡ false = sym (c .before .links-in-shape .ensures (networkOf r) refl refl (loop .inv .links)) ∙ not-true _ (c .if4 .taken) in
+    sym (agent-unfit r _ _ (loop .i) (loop .inv) (c .before .before .before .before .before .before .before .before .loop2-test .taken) (agent-within (networkOf r) (loop .i + 1) (omega (arith, c .before .before .before .before .before .before .if2 .left)) ∙ rw t))
+
+holds-in-shape-requires : tie.Need-holds-in-shape-requires Inv-loop μ-loop Inv-loop2 μ-loop2 Inv-loop3 μ-loop3
+holds-in-shape-requires c κs = search needs
+
+returns-4 : tie.Need-returns-4 Inv-loop μ-loop Inv-loop2 μ-loop2 Inv-loop3 μ-loop3
+unfolding networkOf problemOf
+returns-4 c =
+    let r = c .before .before .before .before .before .before .before .before .before .before .before .before .before .before .before .before .before .before .before .before .before .args .t1 in
+    let loop = c .before .before .before .before .before .before .before .before .before .before .before .before .before .loop2 in
+    let t : linksInShape (networkOf r) (loop .i + 1) ≡ true = sym (c .before .before .before .before .before .links-in-shape .ensures (networkOf r) refl refl (loop .inv .links)) ∙ not-false _ (c .before .before .before .before .if4 .left) in
+    let a = agent-at r (loop .i) noAgent (staffed (c .before .before .before .before .before .before .before .before .before .before .before .before .before .before .before .before .before .before .before .before .before)) (c .before .before .before .before .before .before .before .before .before .before .before .before .loop2-test .taken) in
+    let h : holdsInShape (networkOf r) (loop .i + 1) ≡ false = sym (c .before .holds-in-shape .ensures (networkOf r) refl refl a) ∙ not-true _ (c .if5 .taken) in
+    sym (agent-unfit r _ _ (loop .i) (loop .inv) (c .before .before .before .before .before .before .before .before .before .before .before .before .loop2-test .taken) (agent-within (networkOf r) (loop .i + 1) (omega (arith, c .before .before .before .before .before .before .before .before .before .before .if2 .left)) ∙ rw (t, h)))
+
+loop2-less-2 : tie.Need-loop2-less-2 Inv-loop μ-loop Inv-loop2 μ-loop2 Inv-loop3 μ-loop3
+loop2-less-2 c = search needs
+
+loop2-again-2 : tie.Need-loop2-again-2 Inv-loop μ-loop Inv-loop2 μ-loop2 Inv-loop3 μ-loop3
+unfolding networkOf problemOf
+loop2-again-2 c =
+    let r = c .before .before .before .before .before .before .before .before .before .before .before .before .before .before .before .before .before .before .before .before .before .args .t1 in
+    let loop = c .before .before .before .before .before .before .before .before .before .before .before .before .before .loop2 in
+    let t : linksInShape (networkOf r) (loop .i + 1) ≡ true = sym (c .before .before .before .before .before .links-in-shape .ensures (networkOf r) refl refl (loop .inv .links)) ∙ not-false _ (c .before .before .before .before .if4 .left) in
+    let a = agent-at r (loop .i) noAgent (staffed (c .before .before .before .before .before .before .before .before .before .before .before .before .before .before .before .before .before .before .before .before .before)) (c .before .before .before .before .before .before .before .before .before .before .before .before .loop2-test .taken) in
+    let h : holdsInShape (networkOf r) (loop .i + 1) ≡ true = sym (c .before .holds-in-shape .ensures (networkOf r) refl refl a) ∙ not-false _ (c .if5 .left) in
+    agent-passed r _ _ (loop .i) (loop .inv) (c .before .before .before .before .before .before .before .before .before .before .before .before .loop2-test .taken) (agent-within (networkOf r) (loop .i + 1) (omega (arith, c .before .before .before .before .before .before .before .before .before .before .if2 .left)) ∙ rw (t, h))
+
+loop3-holds : tie.Need-loop3-holds Inv-loop μ-loop Inv-loop2 μ-loop2 Inv-loop3 μ-loop3
+loop3-holds c =
+    let r = c .before .before .before .before .before .before .before .before .before .args .t1 in
+    let loop = c .before .loop2 in
+    (record { rest = agents-passed r _ _ (loop .i) (loop .inv) (omega arith); sets = loop .inv .links .listens }, beginning r)
+
+-- a message is left to look at
+waiting : (c : tie.Then6 Inv-loop μ-loop Inv-loop2 μ-loop2 Inv-loop3 μ-loop3) → 1 ≤ c .before .loop3 .left
+waiting c = omega (arith, c .if6 .taken)
+
+line : (c : tie.Then6 Inv-loop μ-loop Inv-loop2 μ-loop2 Inv-loop3 μ-loop3) → isChannel (c .before .loop3 .i) (c .before .loop3 .j) ≡ true
+line c = c .before .loop3 .inv .1 .here (waiting c) .0
+
+sub-left : tie.Need-sub-left Inv-loop μ-loop Inv-loop2 μ-loop2 Inv-loop3 μ-loop3
+sub-left c = waiting c
+
+cast-digit : tie.Need-cast-digit Inv-loop μ-loop Inv-loop2 μ-loop2 Inv-loop3 μ-loop3
+cast-digit c = search needs
+
+sub-digit : tie.Need-sub-digit Inv-loop μ-loop Inv-loop2 μ-loop2 Inv-loop3 μ-loop3
+sub-digit c = ends _ _ (line c) .from-low
+
+mul-digit : tie.Need-mul-digit Inv-loop μ-loop Inv-loop2 μ-loop2 Inv-loop3 μ-loop3
+mul-digit c = search needs
+
+element-copy-out-digit : tie.Need-element-copy-out-digit Inv-loop μ-loop Inv-loop2 μ-loop2 Inv-loop3 μ-loop3
+element-copy-out-digit c = omega (arith, ends _ _ (line c) .from-high, ends _ _ (line c) .from-low)
+
+digit-requires : tie.Need-digit-requires Inv-loop μ-loop Inv-loop2 μ-loop2 Inv-loop3 μ-loop3
+digit-requires c κs = let b = ends _ _ (line (c .before)) in (b .to-low, omega (arith, b .to-high))
+
+channel-at-requires : tie.Need-channel-at-requires Inv-loop μ-loop Inv-loop2 μ-loop2 Inv-loop3 μ-loop3
+channel-at-requires c κs = line (c .before .before)
+
+place-at-requires : tie.Need-place-at-requires Inv-loop μ-loop Inv-loop2 μ-loop2 Inv-loop3 μ-loop3
+place-at-requires c κs = (c .channel-at .ensures .1, c .before .digit .ensures .1, omega (arith, c .before .before .before .before .loop3 .inv .1 .here (waiting (c .before .before .before)) .1))
+
+mul-place : tie.Need-mul-place Inv-loop μ-loop Inv-loop2 μ-loop2 Inv-loop3 μ-loop3
+mul-place c = search needs
+
+element-copy-out-place : tie.Need-element-copy-out-place Inv-loop μ-loop Inv-loop2 μ-loop2 Inv-loop3 μ-loop3
+element-copy-out-place c = c .place-at .ensures .1
+
+message-fits-requires : tie.Need-message-fits-requires Inv-loop μ-loop Inv-loop2 μ-loop2 Inv-loop3 μ-loop3
+message-fits-requires c κs = let b = ends _ _ (line (c .before .before .before .before .before .before .before .before)) in (b .from-low, b .from-high, b .to-low, b .to-high)
+
+-- that message is the one that the test of the channel asks for
+looked : (c : tie.After-message-fits Inv-loop μ-loop Inv-loop2 μ-loop2 Inv-loop3 μ-loop3) → messageFits (networkOf (c .before .before .before .before .before .before .before .before .before .before .before .before .before .before .before .before .before .before .before .before .args .t1)) (c .before .before .before .before .before .before .before .before .before .before .loop3 .i) (c .before .before .before .before .before .before .before .before .before .before .loop3 .j) (lastLeft (c .before .before .before .before .before .before .before .before .before .before .before .before .before .before .before .before .before .before .before .before .args .t1) (c .before .before .before .before .before .before .before .before .before .before .loop3 .i) (c .before .before .before .before .before .before .before .before .before .before .loop3 .j) (c .before .before .before .before .before .before .before .before .before .before .loop3 .left)) ≡ c .message-fits .result
+unfolding networkOf problemOf placeOf lastLeft
+looked c =
+    let r = c .before .before .before .before .before .before .before .before .before .before .before .before .before .before .before .before .before .before .before .before .args .t1 in
+    let loop = c .before .before .before .before .before .before .before .before .before .before .loop3 in
+    let t6 = c .before .before .before .before .before .before .before .before .before in
+    ap (λ (p : Place). messageFits (networkOf r) (loop .i) (loop .j) (placeOf p))
+    (message-at r (loop .i) (loop .j) (c .before .before .before .before .before .before .before .digit .result) (c .before .before .before .before .before .before .channel-at .result) (c .before .before .before .before .before .place-at .result) (loop .left - 1) noMessage (placed (c .before .before .before .before .before .before .before .before .before .before .before .before .before .before .before .before .before .before .before .before)) (ends _ _ (line t6) .from-low) (c .before .before .before .before .before .before .before .digit .ensures .0) (c .before .before .before .before .before .before .channel-at .ensures .0) (c .before .before .before .before .before .place-at .ensures))
+    ∙ sym (c .message-fits .ensures (networkOf r) refl (loop .inv .0 .sets))
+
+returns-5 : tie.Need-returns-5 Inv-loop μ-loop Inv-loop2 μ-loop2 Inv-loop3 μ-loop3
+returns-5 c =
+    let r = c .before .before .before .before .before .before .before .before .before .before .before .before .before .before .before .before .before .before .before .before .before .args .t1 in
+    let loop = c .before .before .before .before .before .before .before .before .before .before .before .loop3 in
+    sym (loop .inv .0 .rest
+    ∙ one-unfit r (loop .i) (loop .j) (line (c .before .before .before .before .before .before .before .before .before .before))
+    (message-unfit r (loop .i) (loop .rest) (loop .j) (loop .left) (loop .inv .1) (waiting (c .before .before .before .before .before .before .before .before .before .before)) (looked (c .before) ∙ not-true _ (c .if7 .taken))))
+
+loop3-less : tie.Need-loop3-less Inv-loop μ-loop Inv-loop2 μ-loop2 Inv-loop3 μ-loop3
+loop3-less c = omega (arith, waiting (c .before .before .before .before .before .before .before .before .before .before))
+
+loop3-again : tie.Need-loop3-again Inv-loop μ-loop Inv-loop2 μ-loop2 Inv-loop3 μ-loop3
+loop3-again c =
+    let r = c .before .before .before .before .before .before .before .before .before .before .before .before .before .before .before .before .before .before .before .before .before .args .t1 in
+    let loop = c .before .before .before .before .before .before .before .before .before .before .before .loop3 in
+    (loop .inv .0, message-passed r (loop .i) (loop .rest) (loop .j) (loop .left) (loop .inv .1) (waiting (c .before .before .before .before .before .before .before .before .before .before)) (looked (c .before) ∙ not-false _ (c .if7 .left)))
+
+first-digit-requires : tie.Need-first-digit-requires Inv-loop μ-loop Inv-loop2 μ-loop2 Inv-loop3 μ-loop3
+first-digit-requires c κs = omega (arith, c .if8 .taken)
+
+digit-requires-2 : tie.Need-digit-requires-2 Inv-loop μ-loop Inv-loop2 μ-loop2 Inv-loop3 μ-loop3
+digit-requires-2 c κs = (c .first-digit .ensures .2, c .first-digit .ensures .3)
+
+returns-6 : tie.Need-returns-6 Inv-loop μ-loop Inv-loop2 μ-loop2 Inv-loop3 μ-loop3
+returns-6 c =
+    let r = c .before .before .before .before .before .before .before .before .before .before .before .before .before .before .before .args .t1 in
+    let loop = c .before .before .before .before .before .loop3 in
+    let k = c .before .before .first-digit .result in
+    let h = known-true (assignment (loop .rest) k) (c .before .before .first-digit .ensures .1) in
+    sym (loop .inv .0 .rest
+    ∙ one-unfit r (loop .i) k (channel-here r (loop .i) (loop .rest) (loop .j) (loop .left) k (loop .inv .1) (c .before .before .before .before .if6 .left) h)
+    (channel-full r (loop .i) (loop .rest) (loop .j) (loop .left) k (loop .inv .1) (c .before .before .before .before .if6 .left) h (omega (arith, c .before .digit2 .ensures .0, c .if9 .taken))))
+
+with-digit-requires : tie.Need-with-digit-requires Inv-loop μ-loop Inv-loop2 μ-loop2 Inv-loop3 μ-loop3
+with-digit-requires c κs = (c .before .before .first-digit .ensures .2, c .before .before .first-digit .ensures .3, omega arith)
+
+loop3-less-2 : tie.Need-loop3-less-2 Inv-loop μ-loop Inv-loop2 μ-loop2 Inv-loop3 μ-loop3
+loop3-less-2 c =
+    let e = c .before .before .before .first-digit .ensures in
+    omega (arith, lines-fewer (c .before .before .before .before .before .before .loop3 .rest) (c .with-digit .result) (c .before .before .before .first-digit .result) (e .2) (e .3) (e .1) (c .with-digit .ensures), c .before .if9 .left)
+
+loop3-again-2 : tie.Need-loop3-again-2 Inv-loop μ-loop Inv-loop2 μ-loop2 Inv-loop3 μ-loop3
+loop3-again-2 c =
+    let r = c .before .before .before .before .before .before .before .before .before .before .before .before .before .before .before .before .args .t1 in
+    let loop = c .before .before .before .before .before .before .loop3 in
+    let k = c .before .before .before .first-digit .result in
+    let h = known-true (assignment (loop .rest) k) (c .before .before .before .first-digit .ensures .1) in
+    let few : assignment (loop .rest) k ≤ 8 = omega (arith, c .before .before .digit2 .ensures .0, c .before .if9 .left) in (
+      loop .inv .0,
+      rw (c .before .before .digit2 .ensures .0) (channel-next r (loop .i) (loop .rest) (loop .j) (loop .left) k (loop .inv .1) (c .before .before .before .before .before .if6 .left) h (c .with-digit .result) few (c .with-digit .ensures)),
+    )
+
+cast-lines-of : tie.Need-cast-lines-of Inv-loop μ-loop Inv-loop2 μ-loop2 Inv-loop3 μ-loop3
+cast-lines-of c = search needs
+
+mul-lines-of : tie.Need-mul-lines-of Inv-loop μ-loop Inv-loop2 μ-loop2 Inv-loop3 μ-loop3
+mul-lines-of c = search needs
+
+element-copy-out-lines-of : tie.Need-element-copy-out-lines-of Inv-loop μ-loop Inv-loop2 μ-loop2 Inv-loop3 μ-loop3
+element-copy-out-lines-of c = search needs
+
+add-lines-of : tie.Need-add-lines-of Inv-loop μ-loop Inv-loop2 μ-loop2 Inv-loop3 μ-loop3
+add-lines-of c = search needs
+
+lines-of-requires : tie.Need-lines-of-requires Inv-loop μ-loop Inv-loop2 μ-loop2 Inv-loop3 μ-loop3
+lines-of-requires c κs = (omega arith, omega (arith, c .before .if10 .taken))
+
+add-i-2 : tie.Need-add-i-2 Inv-loop μ-loop Inv-loop2 μ-loop2 Inv-loop3 μ-loop3
+add-i-2 c = search needs
+
+loop3-less-3 : tie.Need-loop3-less-3 Inv-loop μ-loop Inv-loop2 μ-loop2 Inv-loop3 μ-loop3
+loop3-less-3 c = omega (arith, lines-few (c .lines-of .result), c .before .before .if10 .taken)
+
+loop3-again-3 : tie.Need-loop3-again-3 Inv-loop μ-loop Inv-loop2 μ-loop2 Inv-loop3 μ-loop3
+loop3-again-3 c =
+    let loop = c .before .before .before .before .before .loop3 in
+    (loop .inv .0, sender-next (c .before .before .before .before .before .before .before .before .before .before .before .before .before .before .before .args .t1) (loop .i) (loop .rest) (loop .j) (loop .left) (loop .inv .1) (c .before .before .before .before .if6 .left) (c .before .before .before .if8 .left) (c .lines-of .result) (c .before .before .if10 .taken) (c .lines-of .ensures))
+
+returns-7 : tie.Need-returns-7 Inv-loop μ-loop Inv-loop2 μ-loop2 Inv-loop3 μ-loop3
+returns-7 c =
+    let loop = c .before .before .before .loop3 in
+    sym (loop .inv .0 .rest ∙ swept (c .before .before .before .before .before .before .before .before .before .before .before .before .before .args .t1) (loop .i) (loop .rest) (loop .j) (loop .left) (loop .inv .1) (c .before .before .if6 .left) (c .before .if8 .left) (c .if10 .left))
+
+pub in-shape-spec : {M : Type 1} → statement M
+in-shape-spec =
+    tie.close
+    (tie.spec
+    Inv-loop
+    μ-loop
+    Inv-loop2
+    μ-loop2
+    Inv-loop3
+    μ-loop3
+    in-range-requires
+    returns
+    loop-holds
+    mul-a
+    element-copy-out-a
+    mul-listens
+    array-write-listens
+    mul-informs
+    array-write-informs
+    add-k
+    loop-less
+    loop-again
+    loop2-holds
+    cast-a
+    mul-a-2
+    element-copy-out-a-2
+    add-i
+    unused-requires
+    returns-2
+    loop2-less
+    loop2-again
+    links-in-shape-requires
+    returns-3
+    holds-in-shape-requires
+    returns-4
+    loop2-less-2
+    loop2-again-2
+    loop3-holds
+    sub-left
+    cast-digit
+    sub-digit
+    mul-digit
+    element-copy-out-digit
+    digit-requires
+    channel-at-requires
+    place-at-requires
+    mul-place
+    element-copy-out-place
+    message-fits-requires
+    returns-5
+    loop3-less
+    loop3-again
+    first-digit-requires
+    digit-requires-2
+    returns-6
+    with-digit-requires
+    loop3-less-2
+    loop3-again-2
+    cast-lines-of
+    mul-lines-of
+    element-copy-out-lines-of
+    add-lines-of
+    lines-of-requires
+    add-i-2
+    loop3-less-3
+    loop3-again-3
+    returns-7)

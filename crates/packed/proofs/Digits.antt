@@ -1,0 +1,115 @@
+-- A packed word with one digit changed is the assignment changed at one agent, and the `|` of two that agree is their join.
+use Prim.Native.Nat.{ℕ, zero, suc, _*_, _-_, _/_, _%_, _^_, _<_, _≤_}
+use mathlib.Core.Path.{_≡_, refl, sym, fun-ext}
+use mathlib.Core.Bool.{true, cond}
+use native.Mathlib.Nat.{mul-suc, not-suc-le-zero, pow-suc, pow-succ', div-one, zero-div, div-div-eq-div-mul, div-eq-of-lt, lt-of-lt-of-le, pow-le-pow-right}
+use native.Mathlib.Omega.{arith}
+use lib.Dec.{leb}
+use lib.Bits.{bitOr, or-shr, or-mod, or-zero-r, or-self}
+use lib.Pow.{pow-add}
+use borrow.Author.Tests.{leb-true, leb-false}
+use Rattle.base.specs.Finite.{at, fromOne}
+use Rattle.base.proofs.Tests.{test, eq-test}
+use Rattle.base.proofs.Search.{at-same, at-other}
+use Rattle.agent_rules.specs.Message.{known, nobody}
+use Rattle.agent_rules.specs.Choosing.{join}
+use Rattle.agent_rules.specs.Shape.{maxNamed}
+use Rattle.packed.specs.Packed.{digit, assignment, Compatible}
+use Rattle.packed.proofs.Known.{known-suc}
+use Rattle.packed.proofs.Fields.{exchanged, same, others}
+
+-- ---- digits, lowest first
+
+pub digit-zero : (x : ℕ) → digit x 0 ≡ x % 16
+unfolding digit
+digit-zero x = rw div-one
+
+pub digit-suc : (x k : ℕ) → digit x (suc k) ≡ digit (x / 16) k
+unfolding digit
+digit-suc x k = rw (pow-succ' 16 k, ← div-div-eq-div-mul x 16 (16 ^ k))
+
+pub digit-lt : (x k : ℕ) → digit x k < 16
+unfolding digit
+digit-lt x k = omega arith
+
+pub pow16 : (k : ℕ) → 16 ^ k ≡ 2 ^ (4 * k)
+pow16 zero = refl
+pow16 (suc k) = rw (pow-suc 16 k, pow16 k, mul-suc 4 k, pow-add 2 (4 * k) 4)
+
+pub digit-shr : (x k : ℕ) → digit x k ≡ x / 2 ^ (4 * k) % 16
+unfolding digit
+digit-shr x k = rw (pow16 k)
+
+-- as the code has it
+pub value-at : (x k : ℕ) → 1 ≤ k → x / 2 ^ (4 * (k - 1)) % 16 ≡ assignment x k
+unfolding assignment fromOne
+value-at x zero h = absurd (not-suc-le-zero h)
+value-at x (suc k) h = let e : suc k - 1 ≡ k = omega arith in rw e (sym (digit-shr x k))
+
+pub nobody-assigned : assignment 0 ≡ nobody
+unfolding assignment fromOne digit nobody
+nobody-assigned = fun-ext λ k. go k
+  where
+    go : (k : ℕ) → assignment 0 k ≡ 0
+    go zero = refl
+    go (suc k) = rw (zero-div (16 ^ k))
+
+-- ---- one digit changed
+
+pub digit-changed : (x k v : ℕ) → 1 ≤ k → v < 16 → assignment (exchanged 4 (4 * (k - 1)) x v) ≡ at (assignment x) k v
+unfolding assignment fromOne
+digit-changed x zero v l h = absurd (not-suc-le-zero l)
+digit-changed x (suc k) v l h =
+    let e : suc k - 1 ≡ k = omega arith in
+    rw e (fun-ext λ j. go j)
+  where
+    go : (j : ℕ) → assignment (exchanged 4 (4 * k) x v) j ≡ at (assignment x) (suc k) v j
+    go zero = sym (at-other (assignment x) (suc k) v zero (λ e. omega arith))
+    go (suc j) =
+        eq-test j k
+        (λ e. rw (e, at-same (assignment x) (suc k) v, digit-shr (exchanged 4 (4 * k) x v) k) (same 4 (4 * k) x v h))
+        (λ n. rw (
+          at-other (assignment x) (suc k) v (suc j) (λ u. n (omega arith)),
+          digit-shr (exchanged 4 (4 * k) x v) j,
+          digit-shr x j,
+        ) (others 4 k x v h j n))
+
+-- ---- both sides' agents
+
+pub digit-above : (n x k : ℕ) → x < 16 ^ n → n ≤ k → digit x k ≡ 0
+unfolding digit
+digit-above n x k h l =
+    let e : x / 16 ^ k ≡ 0 = div-eq-of-lt (lt-of-lt-of-le h (pow-le-pow-right {n = 16} (omega arith) l)) in rw e
+
+pub assignment-above : (x k : ℕ) → x < 2 ^ 64 → 16 < k → assignment x k ≡ 0
+unfolding assignment fromOne
+assignment-above x zero h l = refl
+assignment-above x (suc k) h l = digit-above 16 x k h (omega arith)
+
+digit-or : (x y k : ℕ) → digit (bitOr x y) k ≡ bitOr (digit x k) (digit y k)
+digit-or x y k =
+    rw (digit-shr (bitOr x y) k, digit-shr x k, digit-shr y k, or-shr x y (4 * k)) (or-mod (x / 2 ^ (4 * k)) (y / 2 ^ (4 * k)) 4)
+
+or-agree : (a b : ℕ) → (known a ≡ true → known b ≡ true → a ≡ b) → bitOr a b ≡ cond (known a) a b
+unfolding known
+or-agree zero b h = refl
+or-agree (suc a) zero h = rw (known-suc a) (or-zero-r (suc a))
+or-agree (suc a) (suc b) h = rw (known-suc a, ← h (known-suc a) (known-suc b)) (or-self (suc a))
+
+pub or-assigned : (x y : ℕ) → x < 2 ^ 64 → y < 2 ^ 64 → Compatible (assignment x) (assignment y)
+    → assignment (bitOr x y) ≡ join (assignment x) (assignment y)
+unfolding assignment fromOne join known maxNamed
+or-assigned x y hx hy h = fun-ext λ k. go k
+  where
+    go : (k : ℕ) → assignment (bitOr x y) k ≡ join (assignment x) (assignment y) k
+    go zero = refl
+    go (suc k) =
+        rw (digit-or x y k)
+        (or-agree (digit x k) (digit y k)
+        (λ a b.
+        test (leb (suc k) 16)
+        (λ l. h (suc k) (omega arith) (leb-true (suc k) 16 l) a b)
+        (λ l. rw (
+          digit-above 16 x k hx (omega (arith, leb-false (suc k) 16 l)),
+          digit-above 16 y k hy (omega (arith, leb-false (suc k) 16 l)),
+        ))))

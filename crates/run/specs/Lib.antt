@@ -1,0 +1,3 @@
+pub mod Abstract
+pub mod Parts
+pub mod Barred
