@@ -3,7 +3,7 @@
 
 use plain::{Network, Problem, Word};
 
-/// One side. What each entry gives is said at `crates/bench_entry/src/lib.rt`.
+/// One side. What each entry gives is said at `crates/bench_entry/specs/Giving.antt`.
 pub trait Side {
     /// Decoding alone.
     fn decode(&mut self, sheet: &[u8], word: usize) -> u64;
@@ -97,9 +97,9 @@ impl Side for Plain {
         };
         let mut values = 0;
         for agent in self.network.agents() {
-            values = values * 8 + u64::from(agent.value().unwrap_or(0) % 8);
+            values = values * 9 + u64::from(agent.value().unwrap_or(0));
         }
-        values <<= 3 * (12 - self.network.n());
+        values *= 9_u64.pow(12 - self.network.n() as u32);
         (values << 20 | rounds) << 4 | ending
     }
 

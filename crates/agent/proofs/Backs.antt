@@ -1,6 +1,6 @@
--- A Back that holds leaves a coherent record.
+-- A Back that holds leaves a view and nogoods that agree.
 -- A named agent that is listened to has its value in the view by the test; another gets it now.
-use Prim.Native.Nat.{ℕ, pred, _<_, _≤_}
+use Prim.Native.Nat.{ℕ, pred, _≤_}
 use mathlib.Core.Path.{_≡_, sym, _∙_}
 use mathlib.Core.Bool.{true, and-eq-true-iff, and-false}
 use mathlib.Core.Option.{some}
@@ -12,29 +12,32 @@ use Rattle.base.proofs.Tests.{test, within-true}
 use Rattle.base.proofs.Search.{at-same, at-other, allTo-at}
 use Rattle.problem.specs.Problem.{maxDomain}
 use Rattle.agent_rules.specs.Message.{Assignment, known, Back as Back′}
-use Rattle.agent_rules.specs.Agent.{Self, Agent as Agent′, above}
+use Rattle.agent_rules.specs.Agent.{Agent as Agent′, above}
 use Rattle.agent_rules.specs.Receiving.{matches, holds, unheard, accepting}
-use Rattle.agent_rules.specs.Shape.{maxNamed, EachNamed, RecordFits, MessageFits, anyValue}
+use Rattle.agent_rules.specs.Shape.{maxNamed, RecordFits, MessageFits, anyValue}
+use Rattle.agent.specs.Abstract.{selfOf}
+use Rattle.agent.specs.Entries.{ViewFits}
 use Rattle.agent.specs.Parts.{Agreed, Coherent}
+use Rattle.agent.specs.declared.Own.{Own}
 
-module _ (s : Self) (a : Agent′) (from : ℕ) (lhs : Assignment) (v : ℕ) (fits : RecordFits anyValue s a)
-    (message : MessageFits anyValue s a from (Back′ lhs v)) (held : holds s a lhs v ≡ true) where
+module _ (own : Own) (a : Agent′) (from : ℕ) (lhs : Assignment) (v : ℕ) (fits : RecordFits anyValue (selfOf own) a)
+    (message : MessageFits anyValue (selfOf own) a from (Back′ lhs v)) (held : holds (selfOf own) a lhs v ≡ true) where
   -- a named agent that is listened to has its value in the view
   matched : (k : ℕ) → 1 ≤ k → k ≤ maxNamed → known (lhs k) ≡ true → a .listens k ≡ true → lhs k ≡ a .view k
-  unfolding holds matches above
+  unfolding holds matches above selfOf
   matched k lo hi e l =
-      let b = and-eq-true-iff (eqb v (a .value)) (allTo (above s) (matches a lhs)) .0 held in
+      let b = and-eq-true-iff (eqb v (a .value)) (allTo (above (selfOf own)) (matches a lhs)) .0 held in
       let n = message .3 k lo hi e .0 in
-      let near : k ≤ pred (s .number) = omega arith in
-      eqb-true (lhs k) (a .view k) (rw (e, l) at (allTo-at (above s) (matches a lhs) (b .1) k lo near))
+      let near : k ≤ pred (own .number) = omega arith in
+      eqb-true (lhs k) (a .view k) (rw (e, l) at (allTo-at (above (selfOf own)) (matches a lhs) (b .1) k lo near))
 
   -- whom it listens to it sees as before
   as-before : (k : ℕ) → a .listens k ≡ true → accepting a lhs v .view k ≡ a .view k
   unfolding accepting unheard
   as-before k l = rw (l, and-false)
 
-  viewed : EachNamed (accepting a lhs v .view) (λ k u. (k < s .number) × (u ≤ maxDomain))
-  unfolding accepting anyValue
+  viewed : ViewFits own (accepting a lhs v .view)
+  unfolding accepting anyValue selfOf
   viewed k lo hi e =
       test (unheard a lhs k)
       (λ t. let m = message .3 k lo hi (rw t at e) in rw t (m .0, within-true maxDomain (lhs k) (m .1) .1))
@@ -65,6 +68,6 @@ module _ (s : Self) (a : Agent′) (from : ℕ) (lhs : Assignment) (v : ℕ) (fi
       rw (← d) new-agreed)
       (λ t. old-agreed l (fits .agreed w l lo hi (sym (at-other (a .nogoods) v (some lhs) w (eqb-false w v t)) ∙ e) .1))
 
-  pub coherent-accepting : Coherent s (accepting a lhs v)
+  pub coherent-accepting : Coherent own (accepting a lhs v .view) (accepting a lhs v .nogoods)
   unfolding accepting
-  coherent-accepting = record { viewed = viewed; agreed = agreed; downward = fits .downward }
+  coherent-accepting = record { viewed = viewed; agreed = agreed }

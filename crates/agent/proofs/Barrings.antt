@@ -1,54 +1,45 @@
--- What a view bars, read off the bytes: whom to blame for an own value, whether there is somebody, and the bytes after a change of the view.
-use Prim.Native.Nat.{ℕ, zero, suc, pred, _*_, _-_, _^_, _≤_, _<_}
-use mathlib.Core.Path.{_≡_, ap, _∙_}
+-- What a view bars, read off the bytes: whom to blame for an own value, and the bytes after a change of the view.
+use Prim.Native.Nat.{ℕ, pred, _*_, _-_, _^_, _≤_}
+use mathlib.Core.Path.{_≡_, _∙_}
 use mathlib.Core.Bool.{false, _&&_}
 use mathlib.Core.List.{List}
 use native.Mathlib.Nat.{zero-div}
+use native.Mathlib.Numerals.{sub-one}
 use native.Mathlib.Omega.{arith}
 use lib.Dec.{leb}
 use lib.ListN.{length, getD}
-use Rattle.base.specs.Finite.{at, lowest, isSome}
+use Rattle.base.specs.Finite.{at, lowest}
 use Rattle.base.specs.Bits.{bit}
 use Rattle.base.proofs.Tests.{test, eq-test, to-within}
 use Rattle.base.proofs.Search.{at-same, at-other}
 use Rattle.base.proofs.Bits.{bit-of-zero, bit-field}
 use Rattle.problem.specs.Problem.{maxDomain, bitAt}
 use Rattle.agent_rules.specs.Message.{Assignment, known}
-use Rattle.agent_rules.specs.Agent.{Self, Bans, above}
+use Rattle.agent_rules.specs.Agent.{Bans, above}
 use Rattle.agent_rules.specs.Choosing.{bars, blame}
-use Rattle.agent_rules.specs.Receiving.{conflicts}
-use Rattle.agent_rules.specs.Shape.{maxNamed, EachNamed}
-use Rattle.agent.specs.Abstract.{byte, byteOf, bansIn}
-use Rattle.agent.specs.Entries.{Barring}
+use Rattle.agent_rules.specs.Shape.{maxNamed}
+use Rattle.agent.specs.Abstract.{selfOf, byte, byteOf, bansIn}
+use Rattle.agent.specs.Entries.{OwnFits, ViewFits, Barring}
 use Rattle.agent.specs.Parts.{barredAt}
 use Rattle.agent.specs.declared.Bars.{Bars}
-use Rattle.packed.proofs.Known.{known-suc}
+use Rattle.agent.specs.declared.Own.{Own}
+use Rattle.packed.proofs.Known.{known-from}
 use Rattle.base.proofs.Searches.{lowest-shorter}
 
 -- an agent that is not above bars nothing
-unnamed : (s : Self) (bans : Bans) (view : Assignment) → EachNamed view (λ k v. (k < s .number) × (v ≤ maxDomain))
-    → (w k : ℕ) → 1 ≤ k → k ≤ maxNamed → s .number ≤ k → bars bans view w k ≡ false
+unnamed : (own : Own) (bans : Bans) (view : Assignment) → ViewFits own view
+    → (w k : ℕ) → 1 ≤ k → k ≤ maxNamed → own .number ≤ k → bars bans view w k ≡ false
 unfolding bars
-unnamed s bans view upward w k low high over =
-    test (known (view k)) (λ t. absurd (omega (arith, upward k low high t .0))) (λ t. rw t)
+unnamed own bans view viewed w k low high over =
+    test (known (view k)) (λ t. absurd (omega (arith, viewed k low high t .0))) (λ t. rw t)
 
-pub blamed : (s : Self) (bans : Bans) (view : Assignment) (b : Bars) → Barring bans view b → 1 ≤ s .number → s .number ≤ 12
-    → EachNamed view (λ k v. (k < s .number) × (v ≤ maxDomain)) → (w : ℕ) → 1 ≤ w → w ≤ maxDomain
-    → lowest maxNamed 1 (λ k. bit (byteOf b k) (pred w)) ≡ blame s bans view w
-unfolding blame above maxNamed
-blamed s bans view b barring first last upward w low high =
-    lowest-shorter 16 (pred (s .number)) 1 (λ k. bit (byteOf b k) (pred w)) (bars bans view w) (omega arith)
-    (λ k l h. barring k w l (omega arith) low high)
-    (λ k l h. barring k w (omega arith) (omega arith) low high ∙ unnamed s bans view upward w k (omega arith) (omega arith) (omega arith))
-
--- a mask of the own values that some byte bars is that of the conflicts
-pub conflicting : (s : Self) (bans : Bans) (view : Assignment) (b : Bars) → Barring bans view b → 1 ≤ s .number → s .number ≤ 12
-    → EachNamed view (λ k v. (k < s .number) × (v ≤ maxDomain)) → (m : ℕ)
-    → ((w : ℕ) → 1 ≤ w → w ≤ 8 → bit m (pred w) ≡ isSome (lowest maxNamed 1 (λ k. bit (byteOf b k) (pred w))))
-    → (w : ℕ) → 1 ≤ w → w ≤ maxDomain → bit m (pred w) ≡ conflicts s bans view w
-unfolding conflicts maxDomain
-conflicting s bans view b barring first last upward m masks w low high =
-    masks w low high ∙ ap isSome (blamed s bans view b barring first last upward w low high)
+pub blamed : (own : Own) (bans : Bans) (view : Assignment) (b : Bars) → Barring bans view b → OwnFits own → ViewFits own view
+    → (w : ℕ) → 1 ≤ w → w ≤ maxDomain → lowest maxNamed 1 (λ k. bit (byteOf b k) (pred w)) ≡ blame (selfOf own) bans view w
+unfolding blame above maxNamed selfOf
+blamed own bans view b barring fits viewed w low high =
+    lowest-shorter 16 (pred (own .number)) 1 (λ k. bit (byteOf b k) (pred w)) (bars bans view w) (omega (arith, fits .last))
+    (λ k l h. barring k w l (omega (arith, fits .last)) low high)
+    (λ k l h. barring k w (omega arith) (omega arith) low high ∙ unnamed own bans view viewed w k (omega arith) (omega arith) (omega arith))
 
 -- ---- a changed view
 
@@ -64,14 +55,12 @@ seen bans view b b′ k v barred barring changed bits j w first last low high =
     (λ n. rw (changed j first last, at-other (byteOf b) k barred j n, at-other view k v j n) (barring j w first last low high))
 
 -- such a byte is one of agent k's word of bans
-pub barred-at-bits : (words : List ℕ) (k v : ℕ) → 1 ≤ k → k ≤ length words → v ≤ maxDomain
-    → (w : ℕ) → 1 ≤ w → w ≤ maxDomain → bit (barredAt (getD words (pred k) 0) v) (pred w) ≡ known v && bansIn words k v w
-unfolding barredAt bansIn maxDomain bitAt known
-barred-at-bits words k zero first last few w low high = bit-of-zero (pred w)
-barred-at-bits words k (suc v) first last few w low high =
-    let e : suc v - 1 ≡ v = omega arith in
-    rw (known-suc v, e, to-within (length words) k first last, to-within 8 (suc v) (omega arith) few, to-within 8 w low high)
-    (bit-field (getD words (pred k) 0) (8 * v) 8 (pred w) (omega arith))
+pub barred-at-bits : (words : List ℕ) (k v : ℕ) → 1 ≤ k → k ≤ length words → 1 ≤ v → v ≤ maxDomain
+    → (w : ℕ) → 1 ≤ w → w ≤ maxDomain → bit (barredAt (getD words (k - 1) 0) v) (pred w) ≡ known v && bansIn words k v w
+unfolding barredAt bansIn maxDomain bitAt
+barred-at-bits words k v first last some few w low high =
+    rw (known-from v some, ← sub-one k, ← sub-one v, to-within (length words) k first last, to-within 8 v some few, to-within 8 w low high)
+    (bit-field (getD words (k - 1) 0) (8 * (v - 1)) 8 (pred w) (omega arith))
 
 -- .. and 0 for a value that is unknown
 pub unknown-bits : (bans : Bans) (k w : ℕ) → bit 0 (pred w) ≡ known 0 && bans k 0 w

@@ -27,11 +27,11 @@ pow256 (suc k) = rw (pow-suc 256 k, pow256 k, mul-suc 8 k, pow-add 2 (8 * k) 8)
 
 -- ---- as the code has them
 
-pub byte-low : (b : Bars) (k : ℕ) → k ≤ 8 → byteOf b k ≡ b .low / 2 ^ (8 * (k - 1)) % 256
+byte-low : (b : Bars) (k : ℕ) → k ≤ 8 → byteOf b k ≡ b .low / 2 ^ (8 * (k - 1)) % 256
 unfolding byteOf byte
 byte-low b k h = rw (le-leb k 8 h, byteOf, pow256 (pred k), sub-one k)
 
-pub byte-high : (b : Bars) (k : ℕ) → 8 < k → byteOf b k ≡ b .high / 2 ^ (8 * (k - 9)) % 256
+byte-high : (b : Bars) (k : ℕ) → 8 < k → byteOf b k ≡ b .high / 2 ^ (8 * (k - 9)) % 256
 unfolding byteOf byte
 byte-high b k h = rw (lt-leb k 8 h, byteOf, pow256 (k - 9))
 
@@ -79,7 +79,7 @@ half-over n x i =
     let e : 8 * (j + n - 1) + i ≡ 8 * n + (8 * (j - 1) + i) = omega arith in
     rw (bit-or x (x / 2 ^ (8 * n)) (8 * (j - 1) + i), bit-shr x (8 * n) (8 * (j - 1) + i), e))
 
-words-over : (b : Bars) (i : ℕ) → i < 8 → isSome (lowest maxNamed 1 (λ k. bit (byteOf b k) i))
+pub words-over : (b : Bars) (i : ℕ) → i < 8 → isSome (lowest maxNamed 1 (λ k. bit (byteOf b k) i))
     ≡ isSome (lowest 8 1 (λ k. bit (bitOr (b .low) (b .high)) (8 * (k - 1) + i)))
 unfolding maxNamed
 words-over b i h =

@@ -1,4 +1,4 @@
--- A reason that choosing gives agrees with the view, and a changed view keeps a record coherent.
+-- A reason that choosing gives agrees with the view, and a changed view stays coherent with what it leaves of the nogoods.
 -- The reason names one agent at its value in the view; a changed view drops what would disagree.
 use Prim.Native.Nat.{ℕ, _<_, _≤_}
 use mathlib.Core.Path.{_≡_}
@@ -11,11 +11,12 @@ use Rattle.base.proofs.Tests.{test, no-some}
 use Rattle.base.proofs.Search.{at-same, at-other}
 use Rattle.problem.specs.Problem.{maxDomain}
 use Rattle.agent_rules.specs.Message.{Assignment, known, nobody}
-use Rattle.agent_rules.specs.Agent.{Self, Agent as Agent′}
+use Rattle.agent_rules.specs.Agent.{Nogoods}
 use Rattle.agent_rules.specs.Choosing.{only}
 use Rattle.agent_rules.specs.Receiving.{keepIf}
 use Rattle.agent_rules.specs.Shape.{maxNamed}
-use Rattle.agent.specs.Parts.{Agreed, Coherent, keeping, seeing}
+use Rattle.agent.specs.Parts.{Agreed, Coherent, keeping}
+use Rattle.agent.specs.declared.Own.{Own}
 
 pub only-agreed : (view : Assignment) (k : ℕ) → Agreed view (only k (view k))
 unfolding only nobody known
@@ -38,21 +39,21 @@ keeping-some k v (some l) lhs e =
     (q, λ n. eqb-true (lhs k) v (rw (d, n) at t)))
     (λ t. no-some (rw (t, keepIf) at e))
 
-pub coherent-seeing : (s : Self) (a : Agent′) (k v : ℕ) → (known v ≡ true → (k < s .number) × (v ≤ maxDomain)) → Coherent s a
-    → Coherent s (seeing k v a)
-unfolding seeing
-coherent-seeing s a k v h c =
-    record { viewed = λ j lo hi e. viewed j lo hi e; agreed = λ w lhs lo hi e. agreed w lhs lo hi e; downward = c .downward }
+pub coherent-keeping : (own : Own) (view : Assignment) (nogoods : Nogoods) (k v : ℕ)
+    → (known v ≡ true → (k < own .number) × (v ≤ maxDomain)) → Coherent own view nogoods
+    → Coherent own (at view k v) (λ w. keeping k v (nogoods w))
+coherent-keeping own view nogoods k v h c =
+    record { viewed = λ j lo hi e. viewed j lo hi e; agreed = λ w lhs lo hi e. agreed w lhs lo hi e }
   where
-    viewed : (j : ℕ) → 1 ≤ j → j ≤ maxNamed → known (at (a .view) k v j) ≡ true → (j < s .number) × (at (a .view) k v j ≤ maxDomain)
+    viewed : (j : ℕ) → 1 ≤ j → j ≤ maxNamed → known (at view k v j) ≡ true → (j < own .number) × (at view k v j ≤ maxDomain)
     viewed j lo hi e =
         test (eqb j k)
-        (λ t. let p = eqb-true j k t in rw (p, at-same (a .view) k v) (h (rw (p, at-same (a .view) k v) at e)))
-        (λ t. let p = at-other (a .view) k v j (eqb-false j k t) in rw p (c .viewed j lo hi (rw p at e)))
+        (λ t. let p = eqb-true j k t in rw (p, at-same view k v) (h (rw (p, at-same view k v) at e)))
+        (λ t. let p = at-other view k v j (eqb-false j k t) in rw p (c .viewed j lo hi (rw p at e)))
 
-    agreed : (w : ℕ) (lhs : Assignment) → 1 ≤ w → w ≤ maxDomain → keeping k v (a .nogoods w) ≡ some lhs → Agreed (at (a .view) k v) lhs
+    agreed : (w : ℕ) (lhs : Assignment) → 1 ≤ w → w ≤ maxDomain → keeping k v (nogoods w) ≡ some lhs → Agreed (at view k v) lhs
     agreed w lhs lo hi e j l u n =
-        let s = keeping-some k v (a .nogoods w) lhs e in
+        let s = keeping-some k v (nogoods w) lhs e in
         test (eqb j k)
-        (λ t. let p = eqb-true j k t in rw (p, at-same (a .view) k v) (s .1 (rw p at n)))
-        (λ t. rw (at-other (a .view) k v j (eqb-false j k t)) (c .agreed w lhs lo hi (s .0) j l u n))
+        (λ t. let p = eqb-true j k t in rw (p, at-same view k v) (s .1 (rw p at n)))
+        (λ t. rw (at-other view k v j (eqb-false j k t)) (c .agreed w lhs lo hi (s .0) j l u n))

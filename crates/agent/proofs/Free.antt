@@ -10,7 +10,7 @@ use lib.Bits.{bitAnd, bitOr, and-le-l, or-lt}
 use lib.Pow.{shr-lt}
 use Rattle.base.specs.Bits.{bit}
 use Rattle.base.specs.Finite.{isSome, lowest, fromOne}
-use Rattle.base.proofs.Bits.{bit-or}
+use Rattle.base.proofs.Bits.{bit-or, bit-and}
 use Rattle.base.proofs.Peeling.{bit-shr}
 use Rattle.base.proofs.Tests.{test}
 use Rattle.problem.specs.Problem.{maxDomain}
@@ -18,15 +18,13 @@ use Rattle.agent_rules.specs.Message.{Assignment}
 use Rattle.agent_rules.specs.Agent.{Bans}
 use Rattle.agent_rules.specs.Choosing.{reason, reasonOf, blaming}
 use Rattle.agent_rules.specs.Shape.{maxNamed}
-use Rattle.agent.specs.Abstract.{byteOf, nogoodAt, assigned, agentOf, selfOf}
-use Rattle.agent.specs.Entries.{Sized, Barring}
+use Rattle.agent.specs.Abstract.{byteOf, nogoodAt, selfOf}
+use Rattle.agent.specs.Entries.{OwnFits, ViewFits, Barring}
 use Rattle.packed.specs.Packed.{maskFrom}
-use Rattle.agent.specs.Parts.{Coherent, leftFree}
-use Rattle.agent.specs.declared.Agent.{Agent}
+use Rattle.agent.specs.Parts.{nogoodsOf, leftFree}
 use Rattle.agent.specs.declared.Own.{Own}
 use Rattle.agent.specs.declared.Bars.{Bars}
 use Rattle.agent.proofs.Barrings.{blamed}
-use Rattle.agent.proofs.Marks.{bit-and}
 use Rattle.packed.proofs.Bitwise.{bit-not, bit-ones}
 use Rattle.packed.proofs.Masks.{mask-is}
 use Rattle.agent.proofs.Records.{nogood-stored, nogood-none}
@@ -72,15 +70,10 @@ isSome-stored stored nogoods i =
     (λ e. rw (nogood-stored stored nogoods i e, e))
     (λ e. rw (nogood-none stored nogoods i e, e))
 
-pub left-free : (own : Own) (bans : Bans) (a : Agent) (b : Bars) → Sized own → Coherent (selfOf own) (agentOf a)
-    → Barring bans (assigned (a .view)) b → (v : ℕ) → 1 ≤ v → v ≤ 8
-    → leftFree (a .stored) b v ≡ not (isSome (reason (selfOf own) bans (agentOf a .view) (agentOf a .nogoods) v))
-unfolding leftFree reason agentOf selfOf fromOne maxDomain
-left-free own bans a b sized c barring zero l h = absurd (not-suc-le-zero l)
-left-free own bans a b sized c barring (suc v) l h =
-    rw (
-      isSome-reason,
-      isSome-stored,
-      isSome-blaming,
-      ← blamed (selfOf own) bans (assigned (a .view)) b barring (sized .first) (sized .last) (c .viewed) (suc v) l h,
-    )
+pub left-free : (own : Own) (bans : Bans) (view : Assignment) (b : Bars) (stored : ℕ) (nogoods : List ℕ) → OwnFits own → ViewFits own view
+    → Barring bans view b → (v : ℕ) → 1 ≤ v → v ≤ 8
+    → leftFree stored b v ≡ not (isSome (reason (selfOf own) bans view (nogoodsOf stored nogoods) v))
+unfolding leftFree reason nogoodsOf fromOne maxDomain
+left-free own bans view b stored nogoods fits viewed barring zero l h = absurd (not-suc-le-zero l)
+left-free own bans view b stored nogoods fits viewed barring (suc v) l h =
+    rw (isSome-reason, isSome-stored, isSome-blaming, ← blamed own bans view b barring fits viewed (suc v) l h)

@@ -1,7 +1,7 @@
 -- On an Info the code drops exactly the nogoods that disagree with the changed view, and chooses where the rule does.
 -- The nogoods agreed with the view before, so they can disagree only at the sender.
 use Prim.Native.Nat.{ℕ, zero, suc, pred, _-_, _^_, _<_, _≤_}
-use mathlib.Core.Path.{_≡_, refl, sym, ap, _∙_, fun-ext}
+use mathlib.Core.Path.{_≡_, refl, sym, ap, ap₂, _∙_, fun-ext}
 use mathlib.Core.Logic.{_≢_}
 use mathlib.Core.Bool.{Bool, true, false, not, _||_, false≢true}
 use mathlib.Core.Option.{Option, none, some}
@@ -16,21 +16,22 @@ use Rattle.base.proofs.Tests.{test, no-some, within-true}
 use Rattle.base.proofs.Search.{at-same, at-other, allTo-at, to-allTo}
 use Rattle.problem.specs.Problem.{maxDomain}
 use Rattle.agent_rules.specs.Message.{Assignment, known, Info as Info′}
-use Rattle.agent_rules.specs.Agent.{Self, Nogoods, Agent as Agent′, above, agrees}
-use Rattle.agent_rules.specs.Choosing.{after}
+use Rattle.agent_rules.specs.Agent.{Self, Nogoods, above, agrees}
+use Rattle.agent_rules.specs.Choosing.{blame, after}
 use Rattle.agent_rules.specs.Receiving.{agreeing, updated, conflicts, onInfo}
-use Rattle.agent_rules.specs.Shape.{maxNamed, RecordFits, MessageFits, anyValue}
+use Rattle.agent_rules.specs.Shape.{maxNamed, anyValue}
+use Rattle.packed.specs.Packed.{assignment, members}
 use Rattle.agent.specs.Abstract.{assigned, byteOf, agentOf, selfOf, bansIn}
-use Rattle.agent.specs.Entries.{Able, Barring}
-use Rattle.agent.specs.Parts.{barredAt, Agreed, Coherent, keeping, seeing, takenAs, Takes}
-use Rattle.agent.specs.declared.Agent.{Agent}
-use Rattle.agent.specs.declared.Own.{Own}
+use Rattle.agent.specs.Entries.{Barring}
+use Rattle.agent.specs.Parts.{barredAt, nogoodsOf, agentIn, Agreed, Coherent, Sound, keeping, Handed, takenAs, Takes}
 use Rattle.agent.specs.declared.Bars.{Bars}
-use Rattle.agent.proofs.Barrings.{conflicting, seen as seen-bytes, barred-at-bits}
-use Rattle.agent.proofs.Posts.{none-in, links-none, news-none}
-use Rattle.agent.proofs.Fits.{member-range, fits-coherent}
+use Rattle.agent.specs.declared.Own.{Own}
+use Rattle.agent.specs.declared.State.{State}
+use Rattle.agent.proofs.Barrings.{blamed, seen as seen-bytes, barred-at-bits}
+use Rattle.agent.proofs.ToSet.{none-in, links-none, news-none}
+use Rattle.agent.proofs.Fits.{member-range, fits-sound}
 use Rattle.agent.proofs.Records.{nogoods-beyond}
-use Rattle.agent.proofs.Coherence.{coherent-seeing}
+use Rattle.agent.proofs.Coherence.{coherent-keeping}
 
 -- ---- the nogoods that disagree
 
@@ -67,107 +68,89 @@ module _ (s : Self) (view : Assignment) (few : above s ≤ 16) (from v : ℕ) (l
   kept none f = refl
   kept (some lhs) f = rw (agrees-there lhs (f lhs refl))
 
-updated-seeing : (s : Self) (a : Agent) (from v : ℕ) → Coherent s (agentOf a) → a .stored < 2 ^ 8 → above s ≤ 16 → 1 ≤ from
-    → from ≤ above s
-    → seeing from v (agentOf a) ≡ updated s (agentOf a) from v
-unfolding seeing updated maxDomain agentOf fromOne
-updated-seeing s a from v c h few lo hi =
-    ap (λ (n : Nogoods). record {
-      value = agentOf a .value;
-      listens = agentOf a .listens;
-      informs = agentOf a .informs;
-      view = at (agentOf a .view) from v;
-      nogoods = n;
-    })
-    (fun-ext λ w. sym (go w))
-  where
-    none-there : (w : ℕ) → agentOf a .nogoods w ≡ none
-        → agreeing s (at (agentOf a .view) from v) (agentOf a .nogoods w) ≡ keeping from v (agentOf a .nogoods w)
-    none-there w e = rw e (kept s (agentOf a .view) few from v lo hi none (λ lhs q. no-some q))
-
-    go : (w : ℕ) → agreeing s (at (agentOf a .view) from v) (agentOf a .nogoods w) ≡ keeping from v (agentOf a .nogoods w)
-    go zero = none-there 0 refl
-    go (suc w) =
-        test (leb (suc w) 8)
-        (λ t.
-        kept s (agentOf a .view) few from v lo hi (agentOf a .nogoods (suc w))
-        (λ lhs q. c .agreed (suc w) lhs (omega arith) (leb-true (suc w) 8 t) q))
-        (λ t. none-there (suc w) (nogoods-beyond a (suc w) h (leb-false (suc w) 8 t)))
+  kept-all : (own : Own) (stored : ℕ) (nogoods : List ℕ) → Coherent own view (nogoodsOf stored nogoods) → stored < 2 ^ 8
+      → (w : ℕ) → agreeing s (at view from v) (nogoodsOf stored nogoods w) ≡ keeping from v (nogoodsOf stored nogoods w)
+  unfolding nogoodsOf fromOne maxDomain
+  kept-all own stored nogoods c h zero = kept none (λ lhs q. no-some q)
+  kept-all own stored nogoods c h (suc w) =
+      test (leb (suc w) 8)
+      (λ t. kept (nogoodsOf stored nogoods (suc w)) (λ lhs q. c .agreed (suc w) lhs (omega arith) (leb-true (suc w) 8 t) q))
+      (λ t. rw (nogoods-beyond stored nogoods (suc w) h (leb-false (suc w) 8 t)) (kept none (λ lhs q. no-some q)))
 
 -- ---- what the code does
 
-module _ (own : Own) (words : List ℕ) (self : Agent) (from v : ℕ) (able : Able own words)
-    (fits : RecordFits anyValue (selfOf own) (agentOf self))
-    (message : MessageFits anyValue (selfOf own) (agentOf self) from (Info′ v)) (small : self .listens < 2 ^ 16) where
+module _ (own : Own) (words : List ℕ) (s : State) (nogoods : List ℕ) (from v : ℕ) (h : Handed own words s nogoods from (Info′ v))
+    (small : s .listens < 2 ^ 16) where
   pub sender : (1 ≤ from) × (from < own .number) × (1 ≤ v) × (v ≤ 8)
   unfolding agentOf selfOf anyValue maxDomain maxNamed
   sender =
-      let r = within-true 8 v (message .2) in
-      (message .0, fits .upward from (message .0) (member-range (self .listens) from small (message .1)) (message .1), r .0, r .1)
+      let m = h .message in
+      let r = within-true 8 v (m .2) in
+      (m .0, h .agent .upward from (m .0) (member-range (s .listens) from small (m .1)) (m .1), r .0, r .1)
 
-  pub valued : (1 ≤ self .value) × (self .value ≤ 8)
+  pub valued : (1 ≤ s .value) × (s .value ≤ 8)
   unfolding agentOf selfOf
-  valued = let r = within-true (own .domain) (self .value) (fits .valued) in (r .0, omega (arith, r .1, able .sized .few))
+  valued = let r = within-true (own .domain) (s .value) (h .agent .valued) in (r .0, omega (arith, r .1, h .able .fits .few))
 
-  -- the bytes after the change
-  pub barring-info : (b b′ : Bars) (barred : ℕ) → Barring (bansIn words) (assigned (self .view)) b
-      → barred ≡ barredAt (getD words (from - 1) 0) v → ((j : ℕ) → 1 ≤ j → j ≤ 16 → byteOf b′ j ≡ at (byteOf b) from barred j)
-      → Barring (bansIn words) (at (assigned (self .view)) from v) b′
-  unfolding maxDomain
-  barring-info b b′ barred barring e changed =
-      let p : from - 1 ≡ pred from = omega (arith, sender .0) in
-      let near : from ≤ length words = omega (arith, sender .1, able .bans) in
-      seen-bytes (bansIn words) (assigned (self .view)) b b′ from v barred barring changed
-      (λ w lo hi. rw (e, p) (barred-at-bits words from v (sender .0) near (sender .3) w lo hi))
+  sound : Sound own s nogoods
+  sound = fits-sound own s nogoods (h .places) (h .agent)
 
-  module _ (mask : self .stored < 2 ^ 8) (a : Agent) (e : agentOf a ≡ seeing from v (agentOf self)) where
-    coherent : Coherent (selfOf own) (agentOf a)
-    unfolding maxDomain selfOf
+  -- the view, its nogoods and its bytes after the change
+  module _ (stored view : ℕ) (b : Bars) (mask : s .stored < 2 ^ 8)
+      (kept-now : nogoodsOf stored nogoods ≡ (λ w. keeping from v (nogoodsOf (s .stored) nogoods w)))
+      (seen-now : assignment view ≡ at (assignment (s .view)) from v)
+      (changed : (j : ℕ) → 1 ≤ j → j ≤ 16 → byteOf b j ≡ at (byteOf (s .bars)) from (barredAt (getD words (from - 1) 0) v) j) where
+    abbrev now : State
+    now = record { value = s .value; stored = stored; listens = s .listens; informs = s .informs; view = view; bars = b }
+
+    coherent : Coherent own (at (assignment (s .view)) from v) (nogoodsOf stored nogoods)
+    unfolding maxDomain
     coherent =
-        rw e
-        (coherent-seeing (selfOf own) (agentOf self) from v (λ k. (sender .1, sender .3)) (fits-coherent (selfOf own) (agentOf self) fits))
+        rw kept-now
+        (coherent-keeping own (assignment (s .view)) (nogoodsOf (s .stored) nogoods) from v (λ k. (sender .1, sender .3)) (sound .coherent))
 
-    seen : agentOf a ≡ updated (selfOf own) (agentOf self) from v
-    unfolding selfOf above
-    seen =
-        let few : pred (own .number) ≤ 16 = omega (arith, able .sized .last) in
+    barring : Barring (bansIn words) (at (assignment (s .view)) from v) b
+    unfolding maxDomain
+    barring =
+        let near : from ≤ length words = omega (arith, sender .1, h .able .bans) in
+        seen-bytes (bansIn words) (assignment (s .view)) (s .bars) b from v _ (h .barring) changed
+        (λ w lo hi. barred-at-bits words from v (sender .0) near (sender .2) (sender .3) w lo hi)
+
+    is-updated : agentIn now nogoods ≡ updated (selfOf own) (agentIn s nogoods) from v
+    unfolding agentOf assigned updated selfOf above nogoodsOf
+    is-updated =
+        let few : pred (own .number) ≤ 16 = omega (arith, h .able .fits .last) in
         let near : from ≤ pred (own .number) = omega (arith, sender .1) in
-        e ∙ updated-seeing (selfOf own) self from v (fits-coherent (selfOf own) (agentOf self) fits) mask few (sender .0) near
+        ap₂ (λ (f : Assignment) (n : Nogoods). record {
+          value = s .value;
+          listens = members (s .listens);
+          informs = members (s .informs);
+          view = f;
+          nogoods = n;
+        }) seen-now
+        (kept-now
+        ∙ fun-ext λ w. sym (kept-all (selfOf own) (assignment (s .view)) few from v (sender .0) near own (s .stored) nogoods (sound .coherent) mask w))
 
     -- the own value is barred, or not
-    taken : (b : Bars) (chooses : Bool)
-        → chooses ≡ conflicts (selfOf own) (bansIn words) (at (agentOf self .view) from v) (agentOf self .value)
-        → takenAs (selfOf own) (bansIn words) record { agent = a; bars = b; chooses = chooses; links = 0; told = 0; value = 0 }
-        ≡ onInfo (selfOf own) (bansIn words) (agentOf self) from v
+    taken : (chooses : Bool) → chooses ≡ conflicts (selfOf own) (bansIn words) (at (agentIn s nogoods .view) from v) (agentIn s nogoods .value)
+        → takenAs (selfOf own) (bansIn words) record { state = now; chooses = chooses; links = 0; told = 0 } nogoods
+        ≡ onInfo (selfOf own) (bansIn words) (agentIn s nogoods) from v
     unfolding takenAs onInfo after
-    taken b true q = rw (← q, onInfo, ← seen, links-none)
-    taken b false q = rw (← q, onInfo, ← seen, news-none 0)
+    taken true q = rw (← q, onInfo, ← is-updated, links-none)
+    taken false q = rw (← q, onInfo, ← is-updated, news-none (s .value))
 
-    in-view : assigned (a .view) ≡ at (assigned (self .view)) from v
-    unfolding agentOf seeing
-    in-view = ap (λ (x : Agent′). x .view) e
-
-    -- the mask of all own values that are barred says whether this one is
-    choosing : (b : Bars) (m : ℕ) → Barring (bansIn words) (at (assigned (self .view)) from v) b
-        → ((w : ℕ) → 1 ≤ w → w ≤ 8 → bit m (pred w) ≡ isSome (lowest maxNamed 1 (λ k. bit (byteOf b k) (pred w))))
-        → bit m (self .value - 1) ≡ conflicts (selfOf own) (bansIn words) (at (agentOf self .view) from v) (agentOf self .value)
-    unfolding agentOf selfOf maxDomain
-    choosing b m barring masks =
-        let p : self .value - 1 ≡ pred (self .value) = omega (arith, valued .0) in
-        rw p
-        (conflicting (selfOf own) (bansIn words) (at (assigned (self .view)) from v) b barring (able .sized .first) (able .sized .last)
-        (rw in-view at (coherent .viewed)) m masks (self .value) (valued .0) (valued .1))
-
-    pub takes-info : (b : Bars) (m : ℕ) → Barring (bansIn words) (at (assigned (self .view)) from v) b
-        → ((w : ℕ) → 1 ≤ w → w ≤ 8 → bit m (pred w) ≡ isSome (lowest maxNamed 1 (λ k. bit (byteOf b k) (pred w))))
-        → Takes own (bansIn words)
-        record { agent = a; bars = b; chooses = bit m (self .value - 1); links = 0; told = 0; value = 0 }
-        (onInfo (selfOf own) (bansIn words) (agentOf self) from v)
-    takes-info b m barring masks =
+    pub takes-info : (chooses : Bool) → chooses ≡ isSome (lowest maxNamed 1 (λ k. bit (byteOf b k) (pred (s .value))))
+        → Takes own (bansIn words) record { state = now; chooses = chooses; links = 0; told = 0 } nogoods
+        (onInfo (selfOf own) (bansIn words) (agentIn s nogoods) from v)
+    unfolding conflicts blame agentOf assigned maxDomain
+    takes-info chooses e =
         record {
-          taken = taken b (bit m (self .value - 1)) (choosing b m barring masks);
-          coherent = coherent;
-          barring = rw in-view barring;
+          taken =
+              taken chooses
+              (e ∙ ap isSome (blamed own (bansIn words) (at (assignment (s .view)) from v) b barring (h .able .fits) (coherent .viewed) (s .value)
+              (valued .0) (valued .1)));
+          sound = record { places = h .places; coherent = rw seen-now coherent; downward = sound .downward };
+          barring = rw seen-now barring;
           links = none-in _;
           told = none-in _;
         }

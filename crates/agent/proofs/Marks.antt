@@ -1,40 +1,27 @@
 -- The lowest byte that has one bit set: that bit of each byte is kept, and the zeros at the low end are counted.
-use Prim.Native.Nat.{ℕ, zero, suc, pred, _+_, _*_, _-_, _/_, _%_, _^_, _≤_, _<_}
+use Prim.Native.Nat.{ℕ, suc, pred, _+_, _*_, _-_, _/_, _%_, _^_, _≤_, _<_}
 use mathlib.Core.Path.{_≡_, refl, sym, ap, _∙_}
-use mathlib.Core.Bool.{true, false, not, _&&_, _||_, and-true}
+use mathlib.Core.Bool.{true, false, not, _||_, and-true, false≢true}
 use mathlib.Core.Option.{none}
 use native.Mathlib.Nat.{lt-of-le-of-lt}
 use native.Mathlib.Omega.{arith}
-use lib.Bits.{bitAnd, and-shr, and-mod, and-le-r}
+use lib.Bits.{bitAnd, bitOr, and-le-r}
 use lib.Count.{trailingZeros}
 use lib.Dec.{eqb, leb}
-use borrow.Author.Tests.{eqb-true, leb-true, leb-false}
-use Rattle.base.specs.Finite.{lowest, allTo}
+use borrow.Author.Tests.{eqb-true, eq-eqb, ne-eqb, leb-true, leb-false}
+use Rattle.base.specs.Finite.{lowest, isSome, allTo}
 use Rattle.base.specs.Bits.{bit}
-use Rattle.base.proofs.Tests.{test, both, implied}
-use Rattle.base.proofs.Search.{allTo-at}
-use Rattle.base.proofs.Bits.{bit-of-zero}
+use Rattle.base.proofs.Tests.{test, eq-test, both, implied, isSome-true}
+use Rattle.base.proofs.Search.{allTo-at, lowest-some, lowest-range}
+use Rattle.base.proofs.Bits.{bit-of-zero, bit-and}
 use Rattle.base.proofs.Peeling.{bit-shr}
 use Rattle.agent_rules.specs.Shape.{maxNamed}
 use Rattle.packed.specs.Packed.{numberOf}
 use Rattle.agent.specs.Abstract.{byteOf}
 use Rattle.agent.specs.declared.Bars.{Bars}
-use Rattle.base.proofs.Searches.{lowest-is, lowest-shorter}
+use Rattle.base.proofs.Searches.{lowest-is, lowest-shorter, isSome-passes}
 use Rattle.base.proofs.Zeros.{trailing-set, trailing-clear}
-use Rattle.agent.proofs.Bytes.{bit-of-low, bit-of-high}
-
--- ---- and, bit by bit
-
-and-bits : (a b : ℕ) → a < 2 → b < 2 → eqb (bitAnd a b) 1 ≡ eqb a 1 && eqb b 1
-and-bits zero b h k = refl
-and-bits (suc zero) zero h k = refl
-and-bits (suc zero) (suc zero) h k = refl
-and-bits (suc zero) (suc (suc b)) h k = absurd (omega arith)
-and-bits (suc (suc a)) b h k = absurd (omega arith)
-
-pub bit-and : (x y k : ℕ) → bit (bitAnd x y) k ≡ bit x k && bit y k
-unfolding bit
-bit-and x y k = rw (and-shr x y k, and-mod (x / 2 ^ k) (y / 2 ^ k) 1) (and-bits (x / 2 ^ k % 2) (y / 2 ^ k % 2) (omega arith) (omega arith))
+use Rattle.agent.proofs.Bytes.{bit-of-low, bit-of-high, words-over}
 
 -- ---- the number that has the lowest bit of each byte
 
@@ -69,7 +56,7 @@ mark-bit x d j h =
     let e : d + 8 * j ≡ 8 * j + d = omega arith in
     rw (bit-and (x / 2 ^ d) lows (8 * j), at-low j h, and-true, bit-shr x d (8 * j), e)
 
-pub unmarked : (x d : ℕ) → marks x d ≡ 0 → (j : ℕ) → j < 8 → bit x (8 * j + d) ≡ false
+unmarked : (x d : ℕ) → marks x d ≡ 0 → (j : ℕ) → j < 8 → bit x (8 * j + d) ≡ false
 unmarked x d z j h = sym (mark-bit x d j h) ∙ rw z (bit-of-zero (8 * j))
 
 pub record Marked (x d k : ℕ) : Type 0 where
@@ -77,7 +64,7 @@ pub record Marked (x d k : ℕ) : Type 0 where
   pub here : bit x (8 * k + d) ≡ true
   pub clear : (j : ℕ) → j < k → bit x (8 * j + d) ≡ false
 
-pub marked : (x d : ℕ) → 1 ≤ marks x d → Marked x d (trailingZeros 64 (marks x d) / 8)
+marked : (x d : ℕ) → 1 ≤ marks x d → Marked x d (trailingZeros 64 (marks x d) / 8)
 unfolding marks
 marked x d l =
     let (few, set) = trailing-set 64 (marks x d) l (lt-of-le-of-lt (and-le-r (x / 2 ^ d) lows) (omega arith)) in
@@ -89,6 +76,28 @@ marked x d l =
       here = sym (mark-bit x d (t / 8) (omega arith)) ∙ ap (λ (i : ℕ). bit (marks x d) i) whole ∙ set;
       clear = λ j h. sym (mark-bit x d j (omega arith)) ∙ trailing-clear 64 (marks x d) (8 * j) (omega arith);
     }
+
+-- ---- some byte of either word has bit d
+
+pub some-marked : (b : Bars) (d : ℕ) → d < 8
+    → not (eqb (marks (bitOr (b .low) (b .high)) d) 0) ≡ isSome (lowest maxNamed 1 (λ k. bit (byteOf b k) d))
+some-marked b d small =
+    let x = bitOr (b .low) (b .high) in
+    eq-test (marks x d) 0
+    (λ z.
+    rw (eq-eqb (marks x d) 0 z, words-over b d small)
+    (sym (test (isSome (lowest 8 1 (λ k. bit x (8 * (k - 1) + d))))
+    (λ t.
+    let f = isSome-true (lowest 8 1 (λ k. bit x (8 * (k - 1) + d))) t in
+    let r = lowest-range 8 1 (λ k. bit x (8 * (k - 1) + d)) (f .0) (f .1) in
+    absurd (false≢true (sym (unmarked x d z (f .0 - 1) (omega arith)) ∙ lowest-some 8 1 (λ k. bit x (8 * (k - 1) + d)) (f .0) (f .1))))
+    (λ t. t))))
+    (λ n.
+    let m = marked x d (omega (arith, n)) in
+    let k = trailingZeros 64 (marks x d) / 8 in
+    let e : k + 1 - 1 ≡ k = omega arith in
+    rw (ne-eqb (marks x d) 0 n, words-over b d small)
+    (sym (isSome-passes 8 1 (λ k. bit x (8 * (k - 1) + d)) (k + 1) (omega arith) (omega (arith, m .few)) (rw e (m .here)))))
 
 -- ---- the lowest agent whose byte has bit d
 

@@ -1,7 +1,7 @@
 -- Backing up, one turn at a time: what the definition does where a value, nobody or an agent to refuse is found.
 -- Whoever is refused was known in the view, so each turn one agent more is unknown.
 use Prim.Native.Nat.{ℕ, zero, suc, pred, _<_, _≤_}
-use mathlib.Core.Path.{_≡_, refl, sym, ap, _∙_, fun-ext}
+use mathlib.Core.Path.{_≡_, refl, sym, ap, _∙_}
 use mathlib.Core.Logic.{_≢_}
 use mathlib.Core.Bool.{Bool, true, false, cond}
 use mathlib.Core.Option.{Option, none, some}
@@ -14,53 +14,67 @@ use Rattle.base.proofs.Tests.{test, eq-test, opt}
 use Rattle.base.proofs.Search.{highest-some, at-same, at-other}
 use Rattle.agent_rules.specs.Message.{Assignment, known, Post}
 use Rattle.agent_rules.specs.Agent.{Self, Bans, Nogoods, Agent, Step, above}
-use Rattle.agent_rules.specs.Choosing.{choice, infoTo, infos, chosen, took, union, failed, refusing, dropIf, without, forget, after, settle}
+use Rattle.agent_rules.specs.Choosing.{Choice, choice, infos, chosen, took, union, failed, refusing, dropIf, without, forget, after, settle}
 use Rattle.agent_rules.specs.Receiving.{keepIf}
 use Rattle.agent_rules.specs.Shape.{maxNamed}
 use Rattle.packed.specs.Packed.{numberOf}
-use Rattle.agent.specs.Parts.{Coherent, valueOf, Chose, keeping, seeing}
+use Rattle.agent.specs.Abstract.{selfOf}
+use Rattle.agent.specs.Entries.{OwnFits}
+use Rattle.agent.specs.Parts.{Coherent, keeping}
+use Rattle.agent.specs.declared.Own.{Own}
 use Rattle.packed.proofs.Known.{known-true}
 use Rattle.agent.proofs.Unions.{union-agreed}
 
--- ---- one turn
-
-module _ (times : ℕ) (s : Self) (bans : Bans) (a : Agent) where
-  settle-took : (v : ℕ) → choice s bans a .value ≡ some v → settle (suc times) s bans a ≡ took s a v (choice s bans a .nogoods)
-  unfolding settle
-  settle-took v e = rw (e, settle)
-
-  settle-failed : choice s bans a .value ≡ none
-      → highest (above s) (λ k. known (union (s .domain) (choice s bans a .nogoods) k)) ≡ none
-      → settle (suc times) s bans a ≡ failed a (choice s bans a .nogoods)
-  unfolding settle
-  settle-failed e f = rw (e, f, settle)
-
-  settle-back : (k : ℕ) → choice s bans a .value ≡ none
-      → highest (above s) (λ k. known (union (s .domain) (choice s bans a .nogoods) k)) ≡ some k
-      → settle (suc times) s bans a
-      ≡ after (refusing k (union (s .domain) (choice s bans a .nogoods)) ∷ []) (settle times s bans (forget k a (choice s bans a .nogoods)))
-  unfolding settle
-  settle-back k e f = rw (e, f, settle)
+-- ---- one turn, once it is known what choosing comes to
 
 pub after-after : (ps qs : List Post) (t : Step) → after ps (after qs t) ≡ after (ps ++ qs) t
 unfolding after
 after-after ps qs t = rw (append-assoc ps qs (t .sent))
 
--- ---- forgetting an agent
+-- the highest-numbered agent in the union of the left sides
+abbrev pub whom : Self → Nogoods → Option ℕ
+whom s nogoods = highest (above s) (λ k. known (union (s .domain) nogoods k))
 
-keeping-none : (k : ℕ) (o : Option Assignment) → without k o ≡ keeping k 0 o
+module _ (times : ℕ) (s : Self) (bans : Bans) (a : Agent) (ps : List Post) (new : Nogoods) where
+  -- the turn that follows a choice
+  turnOf : Choice → Step
+  turnOf c =
+      elim (c .value) [
+        | some v ↦ took s a v (c .nogoods)
+        | none ↦ elim (whom s (c .nogoods)) [
+          | none ↦ failed a (c .nogoods)
+          | some k ↦ after (refusing k (union (s .domain) (c .nogoods)) ∷ []) (settle times s bans (forget k a (c .nogoods)))
+        ]
+      ]
+
+  turns : (c : Choice) → choice s bans a ≡ c → settle (suc times) s bans a ≡ turnOf c
+  unfolding settle turnOf
+  turns c e = ap turnOf e
+
+  pub turn-took : (v : ℕ) → choice s bans a ≡ record { value = some v; nogoods = new }
+      → after ps (settle (suc times) s bans a) ≡ record { agent = chosen a v new; sent = ps ++ infos s a v; verdict = false }
+  unfolding turnOf after took
+  turn-took v e = ap (after ps) (turns _ e)
+
+  module _ (e : choice s bans a ≡ record { value = none; nogoods = new }) where
+    pub turn-failed : whom s new ≡ none → after ps (settle (suc times) s bans a) ≡ record { agent = chosen a 0 new; sent = ps; verdict = true }
+    unfolding turnOf after failed
+    turn-failed f = ap (after ps) (turns _ e) ∙ rw (f, turnOf, append-nil ps)
+
+    pub turn-back : (k : ℕ) → whom s new ≡ some k
+        → after ps (settle (suc times) s bans a) ≡ after (ps ++ (refusing k (union (s .domain) new) ∷ [])) (settle times s bans (forget k a new))
+    unfolding turnOf
+    turn-back k f =
+        ap (after ps) (turns _ e) ∙ rw (f, turnOf) (after-after ps (refusing k (union (s .domain) new) ∷ []) (settle times s bans (forget k a new)))
+
+-- forgetting an agent keeps what a view without it keeps
+pub without-keeping : (k : ℕ) (o : Option Assignment) → without k o ≡ keeping k 0 o
 unfolding without dropIf keeping keepIf
-keeping-none k none = refl
-keeping-none k (some lhs) =
+without-keeping k none = refl
+without-keeping k (some lhs) =
     test (known (lhs k))
     (λ e. rw (e, ne-eqb (lhs k) 0 (λ z. omega (arith, known-true (lhs k) e))))
     (λ e. rw e)
-
-forget-seeing : (k : ℕ) (a : Agent) (nogoods : Nogoods) → forget k a nogoods ≡ seeing k 0 (chosen a (a .value) nogoods)
-unfolding forget seeing chosen
-forget-seeing k a nogoods =
-    ap (λ (n : Nogoods). record { value = a .value; listens = a .listens; informs = a .informs; view = at (a .view) k 0; nogoods = n })
-    (fun-ext λ v. keeping-none k (nogoods v))
 
 -- ---- how many of the agents 1 to m have a known value
 
@@ -96,30 +110,7 @@ named-forget (suc m) view k l h e =
     rw (at-other view k 0 (suc m) (λ u. eqb-false k (suc m) t (sym u)), ← n)
     (test (known (view (suc m))) (λ u. rw u) (λ u. rw u)))
 
--- ---- what choosing came to, and the turn that follows
-
-value-some : (v : ℕ) → v ≢ 0 → valueOf v ≡ some v
-unfolding valueOf
-value-some zero h = absurd (h refl)
-value-some (suc v) h = refl
-
--- the highest-numbered agent in the union of an agent's left sides
-abbrev pub whom : Self → Agent → Option ℕ
-whom s r = highest (above s) (λ k. known (union (s .domain) (r .nogoods) k))
-
-whom-none : (s : Self) (r : Agent) → numberOf (whom s r) ≡ 0 → whom s r ≡ none
-unfolding numberOf
-whom-none s r e =
-    opt (highest (above s) (λ k. known (union (s .domain) (r .nogoods) k)))
-    (λ n. n)
-    (λ k f. absurd (let z : k ≡ 0 = rw f at e in omega (arith, highest-some (above s) _ k f .1)))
-
-whom-some : (s : Self) (r : Agent) (k : ℕ) → k ≢ 0 → k ≡ numberOf (whom s r) → whom s r ≡ some k
-unfolding numberOf
-whom-some s r k h e =
-    opt (highest (above s) (λ j. known (union (s .domain) (r .nogoods) j)))
-    (λ n. absurd (h (rw n at e)))
-    (λ j f. let z : k ≡ j = rw f at e in rw (f, z))
+-- ---- whom to refuse
 
 -- nobody else than the agents above is named, so the search can go on to 16
 highest-to : (m n : ℕ) (p : ℕ → Bool) → m ≤ n → ((j : ℕ) → m < j → j ≤ n → p j ≡ false) → highest n p ≡ highest m p
@@ -130,58 +121,45 @@ highest-to m (suc n) p h f =
     (λ e. rw e)
     (λ e. rw (f (suc n) (omega (arith, e)) (omega arith), highest) (highest-to m n p (omega (arith, e)) (λ j l u. f j l (omega arith))))
 
-module _ (s : Self) (r : Agent) (c : Coherent s r) (few : s .domain ≤ 8) (first : 1 ≤ s .number) (last : s .number ≤ 12) where
+-- a number for one of them, 0 for none
+whom-number : (m : ℕ) (p : ℕ → Bool) (k : ℕ) → k ≡ numberOf (highest m p) → k ≡ 0 → highest m p ≡ none
+unfolding numberOf
+whom-number m p k e z =
+    opt (highest m p) (λ n. n) (λ j f. absurd (let q : k ≡ j = rw f at e in omega (arith, highest-some m p j f .1)))
+
+whom-some : (m : ℕ) (p : ℕ → Bool) (k : ℕ) → k ≡ numberOf (highest m p) → k ≢ 0 → highest m p ≡ some k
+unfolding numberOf
+whom-some m p k e n = opt (highest m p) (λ f. absurd (n (rw f at e))) (λ j f. let z : k ≡ j = rw f at e in rw (f, z))
+
+module _ (own : Own) (fits : OwnFits own) (view : Assignment) (nogoods : Nogoods) (c : Coherent own view nogoods) where
   -- whom the union names is known in the view, and above
-  pub named-above : (k : ℕ) → 1 ≤ k → k ≤ 16 → known (union (s .domain) (r .nogoods) k) ≡ true
-      → (known (r .view k) ≡ true) × (k < s .number)
+  pub named-above : (k : ℕ) → 1 ≤ k → k ≤ 16 → known (union (own .domain) nogoods k) ≡ true → (known (view k) ≡ true) × (k < own .number)
   unfolding maxNamed
   named-above k l h e =
-      let g : union (s .domain) (r .nogoods) k ≡ r .view k = union-agreed s r c (s .domain) few k l h e in
-      let n : known (r .view k) ≡ true = rw (← g) e in
+      let g : union (own .domain) nogoods k ≡ view k = union-agreed own view nogoods c (own .domain) (fits .few) k l h e in
+      let n : known (view k) ≡ true = rw (← g) e in
       (n, c .viewed k l h n .0)
 
-  pub whom-to : highest maxNamed (λ k. known (union (s .domain) (r .nogoods) k)) ≡ whom s r
-  unfolding maxNamed above
-  whom-to =
-      highest-to (pred (s .number)) 16 (λ k. known (union (s .domain) (r .nogoods) k)) (omega arith)
-      (λ j l u. test (known (union (s .domain) (r .nogoods) j)) (λ t. absurd (omega (arith, named-above j (omega arith) u t .1))) (λ t. t))
+  module _ (k : ℕ) (top : k ≡ numberOf (highest maxNamed (λ j. known (union (own .domain) nogoods j)))) where
+    whom-is : k ≡ numberOf (whom (selfOf own) nogoods)
+    unfolding maxNamed above selfOf
+    whom-is =
+        top ∙ ap numberOf
+        (highest-to (pred (own .number)) 16 (λ j. known (union (own .domain) nogoods j)) (omega (arith, fits .last))
+        (λ j l u. test (known (union (own .domain) nogoods j)) (λ t. absurd (omega (arith, named-above j (omega arith) u t .1))) (λ t. t)))
 
-  -- the refused agent
-  pub refused-known : (k : ℕ) → k ≢ 0 → k ≡ numberOf (whom s r)
-      → (1 ≤ k) × (k < s .number) × (known (r .view k) ≡ true) × (known (union (s .domain) (r .nogoods) k) ≡ true)
-  unfolding above
-  refused-known k n e =
-      let f = highest-some (above s) (λ j. known (union (s .domain) (r .nogoods) j)) k (whom-some s r k n e) in
-      let u : k ≤ pred (s .number) = f .2 in
-      let g = named-above k (f .1) (omega arith) (f .0) in
-      (f .1, g .1, g .0, f .0)
+    pub refuses-nobody : k ≡ 0 → whom (selfOf own) nogoods ≡ none
+    refuses-nobody z = whom-number (above (selfOf own)) _ k whom-is z
 
-module _ (times : ℕ) (s : Self) (bans : Bans) (a r : Agent) (ps : List Post) where
-  pub turn-took : (v : ℕ) → v ≢ 0 → Chose s bans a v r
-      → after ps (settle (suc times) s bans a) ≡ record { agent = chosen r v (r .nogoods); sent = ps ++ infos s r v; verdict = false }
-  unfolding after took chosen infos infoTo
-  turn-took v h c = rw (settle-took times s bans a v (sym (c .value) ∙ value-some v h), c .agent)
+    module _ (one : k ≢ 0) where
+      pub refuses-one : whom (selfOf own) nogoods ≡ some k
+      refuses-one = whom-some (above (selfOf own)) _ k whom-is one
 
-  module _ (c : Chose s bans a 0 r) where
-    no-value : choice s bans a .value ≡ none
-    unfolding valueOf
-    no-value = sym (c .value)
-
-    the-nogoods : r .nogoods ≡ choice s bans a .nogoods
-    unfolding chosen
-    the-nogoods = ap (λ (x : Agent). x .nogoods) (c .agent)
-
-    pub turn-failed : numberOf (whom s r) ≡ 0
-        → after ps (settle (suc times) s bans a) ≡ record { agent = chosen r 0 (r .nogoods); sent = ps; verdict = true }
-    unfolding after failed chosen
-    turn-failed e =
-        let f = rw the-nogoods at (whom-none s r e) in
-        rw (settle-failed times s bans a no-value f, c .agent, append-nil ps)
-
-    pub turn-back : (k : ℕ) → k ≢ 0 → k ≡ numberOf (whom s r)
-        → after ps (settle (suc times) s bans a)
-        ≡ after (ps ++ (refusing k (union (s .domain) (r .nogoods)) ∷ [])) (settle times s bans (seeing k 0 r))
-    turn-back k h e =
-        let f = rw the-nogoods at (whom-some s r k h e) in
-        rw (settle-back times s bans a k no-value f, after-after, forget-seeing k a (choice s bans a .nogoods), ← c .agent)
-        (ap (λ (n : Nogoods). after (ps ++ (refusing k (union (s .domain) n) ∷ [])) (settle times s bans (seeing k 0 r))) (sym the-nogoods))
+      -- the refused agent
+      pub refused-known : (1 ≤ k) × (k < own .number) × (known (view k) ≡ true) × (known (union (own .domain) nogoods k) ≡ true)
+      unfolding above selfOf
+      refused-known =
+          let f = highest-some (above (selfOf own)) (λ j. known (union (own .domain) nogoods j)) k refuses-one in
+          let u : k ≤ pred (own .number) = f .2 in
+          let g = named-above k (f .1) (omega (arith, fits .last)) (f .0) in
+          (f .1, g .1, g .0, f .0)

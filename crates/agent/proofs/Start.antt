@@ -1,26 +1,23 @@
--- The start: an agent that knows nothing takes the lowest value and tells those below, and nothing is barred.
-use Prim.Native.Nat.{ℕ, zero, suc, pred, _^_, _-_, _≤_}
-use mathlib.Core.Path.{_≡_, refl, sym, ap, ap₂, _∙_, fun-ext}
+-- The start: an agent that knows nothing takes the lowest value and tells those below.
+use Prim.Native.Nat.{ℕ, zero, suc, pred, _-_, _≤_}
+use mathlib.Core.Path.{_≡_, refl, ap, ap₂, _∙_, fun-ext}
 use mathlib.Core.Bool.{Bool}
 use mathlib.Core.Option.{none, some}
 use mathlib.Core.List.{List}
-use native.Mathlib.Nat.{zero-div}
 use native.Mathlib.Omega.{arith}
-use lib.Dec.{leb}
 use Rattle.base.specs.Finite.{fromOne, lowest}
 use Rattle.base.proofs.Bits.{bit-of-zero}
-use Rattle.base.proofs.Tests.{test}
-use Rattle.agent_rules.specs.Message.{Assignment, known, nobody, Post as Post′}
-use Rattle.agent_rules.specs.Agent.{Self, Bans, Nogoods, noNogoods, above}
+use Rattle.agent_rules.specs.Message.{Assignment, known, nobody}
+use Rattle.agent_rules.specs.Agent.{Self, Bans, Nogoods, noNogoods, unusedAgent, above}
 use Rattle.agent_rules.specs.Choosing.{bars, blame, blaming, reasonOf, reason, choose, choice, chosen, took, settle, checkView}
-use Rattle.agent_rules.specs.Receiving.{quiet, fresh, begin}
+use Rattle.agent_rules.specs.Receiving.{fresh, begin}
 use Rattle.packed.specs.Packed.{members}
-use Rattle.agent.specs.Abstract.{assigned, nogoodAt, agentOf, selfOf, newsTo, byte, byteOf}
-use Rattle.agent.specs.Entries.{Sized, Below, Barring}
+use Rattle.agent.specs.Abstract.{assigned, nogoodAt, agentOf, selfOf}
+use Rattle.agent.specs.Entries.{OwnFits, Below, BeginsAs}
 use Rattle.agent.specs.declared.Agent.{Agent}
 use Rattle.agent.specs.declared.Own.{Own}
 use Rattle.packed.proofs.Digits.{nobody-assigned}
-use Rattle.agent.proofs.Posts.{news-infos}
+use Rattle.agent.proofs.ToSet.{news-infos}
 
 -- ---- the rule
 
@@ -39,7 +36,7 @@ takes-first m s bans = rw (free-first s bans, choose)
 
 choice-first : (s : Self) (bans : Bans) (listens informs : ℕ → Bool) → 1 ≤ s .domain
     → choice s bans (fresh listens informs) ≡ record { value = some 1; nogoods = noNogoods }
-unfolding choice fresh
+unfolding choice fresh unusedAgent
 choice-first s bans listens informs h =
     let e : s .domain ≡ suc (pred (s .domain)) = omega arith in
     ap (λ (d : ℕ). choose d 1 s bans nobody noNogoods) e ∙ takes-first (pred (s .domain)) s bans
@@ -72,26 +69,15 @@ abbrev first : ℕ → ℕ → List ℕ → Agent
 first listens informs l =
     record { value = 1; stored = 0; listens = listens; informs = informs; view = record { digits = 0 }; nogoods = l }
 
-pub begins-told : (own : Own) (bans : Bans) (listens informs : ℕ) (l : List ℕ) → Sized own → Below own informs
-    → quiet (agentOf (first listens informs l)) (newsTo 1 informs) ≡ begin (selfOf own) bans (members listens) (members informs)
-unfolding quiet agentOf took chosen fresh assigned selfOf
-begins-told own bans listens informs l sized below =
-    ap₂
-    (λ (f : Assignment) (n : Nogoods).
-    quiet record { value = 1; listens = members listens; informs = members informs; view = f; nogoods = n } (newsTo 1 informs))
-    nobody-assigned (none-stored l)
-    ∙ ap (λ (ps : List Post′). quiet (chosen (fresh (members listens) (members informs)) 1 noNogoods) ps)
-    (news-infos (selfOf own) (fresh (members listens) (members informs)) 1 informs (sized .last) refl below)
-    ∙ sym (begins (selfOf own) bans (members listens) (members informs) (sized .first) (sized .some))
-
--- nothing barred, as nothing is known
-no-byte : (k : ℕ) → byteOf record { low = 0; high = 0 } k ≡ 0
-unfolding byteOf byte
-no-byte k =
-    test (leb k 8)
-    (λ e. rw (e, byteOf, zero-div (256 ^ pred k)))
-    (λ e. rw (e, byteOf, zero-div (256 ^ (k - 9))))
-
-pub barring-none : (bans : Bans) → Barring bans (assigned record { digits = 0 }) record { low = 0; high = 0 }
-unfolding bars assigned nobody known
-barring-none bans k w lo hi l h = rw (no-byte k, nobody-assigned) (bit-of-zero (pred w))
+pub begins-told : (own : Own) (bans : Bans) (listens informs : ℕ) (l : List ℕ) → OwnFits own → Below own informs
+    → BeginsAs (first listens informs l) (begin (selfOf own) bans (members listens) (members informs))
+unfolding agentOf took chosen fresh unusedAgent assigned selfOf
+begins-told own bans listens informs l fits below =
+    rw (begins (selfOf own) bans (members listens) (members informs) (fits .first) (fits .some))
+    (record {
+      agent =
+          ap₂ (λ (f : Assignment) (n : Nogoods). record { value = 1; listens = members listens; informs = members informs; view = f; nogoods = n })
+          nobody-assigned (none-stored l);
+      sent = news-infos (selfOf own) (fresh (members listens) (members informs)) 1 informs (fits .last) refl below;
+      verdict = refl;
+    })

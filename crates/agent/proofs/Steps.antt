@@ -1,6 +1,6 @@
--- Steps that do not choose: what a record that tells a set of agents sends, and what it leaves to do.
+-- Steps that do not choose: what an agent that tells a set of agents sends, and what it leaves to do.
 use Prim.Native.Nat.{ℕ, _<_, _≤_}
-use mathlib.Core.Path.{_≡_, ap}
+use mathlib.Core.Path.{_≡_, refl, ap}
 use mathlib.Core.Bool.{true, false}
 use mathlib.Core.List.{List, _++_}
 use native.Mathlib.Nat.{not-suc-le-zero}
@@ -12,72 +12,73 @@ use Rattle.agent_rules.specs.Message.{Post as Post′}
 use Rattle.agent_rules.specs.Agent.{Self, Bans}
 use Rattle.agent_rules.specs.Choosing.{after, checkView}
 use Rattle.agent_rules.specs.Receiving.{quiet, answer}
-use Rattle.packed.specs.Packed.{members}
-use Rattle.agent.specs.Abstract.{assigned, linksTo, newsTo, backsOf, agentOf, selfOf, sentOf, stepOf}
-use Rattle.agent.specs.Entries.{Below, Barring, Answers}
-use Rattle.agent.specs.Parts.{Coherent, takenAs, Takes}
-use Rattle.agent.specs.declared.Agent.{Agent}
-use Rattle.agent.specs.declared.Bars.{Bars}
+use Rattle.packed.specs.Packed.{assignment, members}
+use Rattle.agent.specs.Abstract.{assigned, agentOf}
+use Rattle.agent.specs.Posting.{linksTo, newsTo, backsFrom, postsLeft, stepOf}
+use Rattle.agent.specs.Entries.{OwnFits, Below, Barring, StepsAs}
+use Rattle.agent.specs.Parts.{agentIn, stepWith, Sound, takenAs, Takes}
 use Rattle.agent.specs.declared.Own.{Own}
+use Rattle.agent.specs.declared.State.{State}
 use Rattle.agent.specs.declared.Taken.{Taken}
-use Rattle.agent.proofs.Posts.{none-in, one-in, links-none, news-one}
+use Rattle.agent.proofs.Sending.{steps-as}
+use Rattle.agent.proofs.ToSet.{none-in, one-in, links-none, news-one}
 
-pub answers-quiet : (own : Own) (bans : Bans) (a : Agent) (b : Bars) (backs : List ℕ) (told value : ℕ) → length backs ≡ 11
-    → Below own told → Barring bans (assigned (a .view)) b
-    → Answers own bans
-    record {
-      agent = a;
-      bars = b;
-      outbox = record { backs = backs; links = 0; told = told; value = value; count = 0 };
+pub steps-quiet : (own : Own) (bans : Bans) (s : State) (nogoods backs : List ℕ) (told : ℕ) → OwnFits own → length backs ≡ 11 → Below own told
+    → Barring bans (assignment (s .view)) (s .bars)
+    → StepsAs own bans
+    (stepWith
+    record { state = s; posts = record { links = 0; told = told; value = s .value; next = 0; count = 0 }; verdict = false }
+    nogoods backs)
+    (quiet (agentIn s nogoods) (newsTo (s .value) told))
+unfolding quiet stepOf postsLeft backsFrom assigned
+steps-quiet own bans s nogoods backs told fits long below barring =
+    steps-as own bans _ _ fits
+    (record {
+      links = none-in _;
+      told = below;
+      next = refl;
+      few = omega arith;
+      places = long;
+      wholes = λ i h. absurd (not-suc-le-zero h);
+    })
+    (ap (λ (l : List Post′). record {
+      agent = agentIn s nogoods;
+      sent = l ++ backsFrom 0 0 backs ++ newsTo (s .value) told;
       verdict = false;
-    }
-    (quiet (agentOf a) (newsTo value told))
-unfolding quiet stepOf sentOf backsOf
-answers-quiet own bans a b backs told value long below barring =
-    record {
-      step = ap (λ (l : List Post′). record { agent = agentOf a; sent = l ++ backsOf 0 backs ++ newsTo value told; verdict = false }) links-none;
-      addressed =
-          record {
-            links = none-in _;
-            told = below;
-            few = omega arith;
-            places = long;
-            backs = λ i h. absurd (not-suc-le-zero h);
-          };
-      barring = barring;
-    }
+    }) links-none)
+    barring
 
 -- the same, left to do
-pub takes-quiet : (own : Own) (bans : Bans) (a : Agent) (b : Bars) (told : ℕ) (ps : List Post′) → Coherent (selfOf own) (agentOf a)
-    → Barring bans (assigned (a .view)) b → Below own told → newsTo (a .value) told ≡ ps
-    → Takes own bans record { agent = a; bars = b; chooses = false; links = 0; told = told; value = a .value } (quiet (agentOf a) ps)
+pub takes-quiet : (own : Own) (bans : Bans) (s : State) (nogoods : List ℕ) (told : ℕ) (ps : List Post′) → Sound own s nogoods
+    → Barring bans (assignment (s .view)) (s .bars) → Below own told → newsTo (s .value) told ≡ ps
+    → Takes own bans record { state = s; chooses = false; links = 0; told = told } nogoods (quiet (agentIn s nogoods) ps)
 unfolding takenAs
-takes-quiet own bans a b told ps coherent barring below e =
+takes-quiet own bans s nogoods told ps sound barring below e =
     record {
-      taken = ap (λ (l : List Post′). quiet (agentOf a) l) e;
-      coherent = coherent;
+      taken = ap (λ (l : List Post′). quiet (agentIn s nogoods) l) e;
+      sound = sound;
       barring = barring;
       links = none-in _;
       told = below;
     }
 
 -- the own value, told to one agent below
-pub takes-answer : (own : Own) (bans : Bans) (a : Agent) (b : Bars) (told from : ℕ) → own .number < from → from ≤ maxAgents
-    → members told ≡ at (members 0) from true → Coherent (selfOf own) (agentOf a) → Barring bans (assigned (a .view)) b
-    → Takes own bans record { agent = a; bars = b; chooses = false; links = 0; told = told; value = a .value }
-    (quiet (agentOf a) (answer (agentOf a) from))
+pub takes-answer : (own : Own) (bans : Bans) (s : State) (nogoods : List ℕ) (told from : ℕ) → own .number < from → from ≤ maxAgents
+    → members told ≡ at (members 0) from true → Sound own s nogoods → Barring bans (assignment (s .view)) (s .bars)
+    → Takes own bans record { state = s; chooses = false; links = 0; told = told } nogoods
+    (quiet (agentIn s nogoods) (answer (agentIn s nogoods) from))
 unfolding answer agentOf maxAgents
-takes-answer own bans a b told from l h e coherent barring =
-    takes-quiet own bans a b told _ coherent barring (one-in _ told from e (l, h)) (news-one (a .value) told from (omega arith) h e)
+takes-answer own bans s nogoods told from l h e sound barring =
+    takes-quiet own bans s nogoods told _ sound barring (one-in _ told from e (l, h)) (news-one (s .value) told from (omega arith) h e)
 
 -- ---- what is left to do, done
 
-pub chooses-step : (s : Self) (bans : Bans) (t : Taken) → t .chooses ≡ true
-    → takenAs s bans t ≡ after (linksTo (t .links)) (checkView s bans (agentOf (t .agent)))
+pub chooses-step : (s : Self) (bans : Bans) (t : Taken) (nogoods : List ℕ) → t .chooses ≡ true
+    → takenAs s bans t nogoods ≡ after (linksTo (t .links)) (checkView s bans (agentIn (t .state) nogoods))
 unfolding takenAs
-chooses-step s bans t e = rw (e, takenAs)
+chooses-step s bans t nogoods e = rw (e, takenAs)
 
-pub quiet-step : (s : Self) (bans : Bans) (t : Taken) → t .chooses ≡ false
-    → takenAs s bans t ≡ quiet (agentOf (t .agent)) (newsTo (t .value) (t .told))
+pub quiet-step : (s : Self) (bans : Bans) (t : Taken) (nogoods : List ℕ) → t .chooses ≡ false
+    → takenAs s bans t nogoods ≡ quiet (agentIn (t .state) nogoods) (newsTo (t .state .value) (t .told))
 unfolding takenAs
-quiet-step s bans t e = rw (e, takenAs)
+quiet-step s bans t nogoods e = rw (e, takenAs)

@@ -1,26 +1,23 @@
 -- What the code's values mean: each as the value of the definitions that it stands for. A primed name is the definitions'.
 use Prim.Native.Nat.{ℕ, pred, _+_, _*_, _-_, _/_, _%_, _^_}
-use mathlib.Core.Bool.{Bool, true, false, _&&_}
+use mathlib.Core.Bool.{true, false, _&&_}
 use mathlib.Core.Option.{Option, none, some}
-use mathlib.Core.List.{List, [], _∷_, _++_, map}
-use lib.ListN.{length, getD, take}
+use mathlib.Core.List.{List}
+use lib.ListN.{length, getD}
 use lib.Dec.{leb}
-use Rattle.base.specs.Finite.{fromOne, within, gather, highest}
+use Rattle.base.specs.Finite.{fromOne, within}
 use Rattle.base.specs.Bits.{bit}
-use Rattle.problem.specs.Problem.{maxAgents, maxDomain, bitAt}
+use Rattle.problem.specs.Problem.{maxDomain, bitAt}
 use Rattle.agent_rules.specs.Message.{
   Assignment,
-  known,
   Message as Message′,
   Info as Info′,
   Back as Back′,
   AddLink as AddLink′,
   Post as Post′,
 }
-use Rattle.agent_rules.specs.Agent.{Self, Bans, Agent as Agent′, Step as Step′}
-use Rattle.agent_rules.specs.Choosing.{refusing}
-use Rattle.agent_rules.specs.Shape.{maxNamed}
-use Rattle.packed.specs.Packed.{assignment, members, numberOf}
+use Rattle.agent_rules.specs.Agent.{Self, Bans, Agent as Agent′}
+use Rattle.packed.specs.Packed.{assignment, members}
 use Rattle.agent.specs.declared.Lhs.{Lhs}
 use Rattle.agent.specs.declared.Carried.{Carried}
 use Rattle.agent.specs.declared.Message.{Message}
@@ -28,8 +25,7 @@ use Rattle.agent.specs.declared.Message.the-variants.{Info, Back, AddLin
 use Rattle.agent.specs.declared.Agent.{Agent}
 use Rattle.agent.specs.declared.Own.{Own}
 use Rattle.agent.specs.declared.Bars.{Bars}
-use Rattle.agent.specs.declared.Outbox.{Outbox}
-use Rattle.agent.specs.declared.Step.{Step}
+use Rattle.agent.specs.declared.Post.{Post}
 
 unfoldable pub assigned : Lhs → Assignment
 assigned l = assignment (l .digits)
@@ -42,6 +38,9 @@ unfoldable pub messageOf : Message → Message′
 messageOf (Info v) = Info′ v
 messageOf (Back v p) = Back′ (assignment (unpacked p)) v
 messageOf AddLink = AddLink′
+
+unfoldable pub postOf : Post → Post′
+postOf p = record { to = p .to; message = messageOf (p .message) }
 
 -- what the left side of a nogood that is not stored holds is no part of the agent
 unfoldable pub nogoodAt : ℕ → List ℕ → ℕ → Option Assignment
@@ -72,32 +71,3 @@ byte x i = x / 256 ^ i % 256
 -- the byte of agent k
 unfoldable pub byteOf : Bars → ℕ → ℕ
 byteOf b k = elim (leb k 8) [ true ↦ byte (b .low) (pred k) | false ↦ byte (b .high) (k - 9) ]
-
--- ---- what a step sends
-
-unfoldable pub postIf : Bool → Message′ → ℕ → List Post′
-postIf true m k = record { to = k; message = m } ∷ []
-postIf false m k = []
-
--- the same message to each agent of a set, upward
-unfoldable pub postsTo : Message′ → (ℕ → Bool) → List Post′
-postsTo m set = gather maxAgents 1 (λ k. postIf (set k) m k)
-
-unfoldable pub linksTo : ℕ → List Post′
-linksTo links = postsTo AddLink′ (members links)
-
-unfoldable pub newsTo : ℕ → ℕ → List Post′
-newsTo value told = postsTo (Info′ value) (members told)
-
--- a whole nogood goes to the highest-numbered agent that it names
-unfoldable pub backOf : ℕ → Post′
-backOf x = refusing (numberOf (highest maxNamed (λ k. known (assignment x k)))) (assignment x)
-
-unfoldable pub backsOf : ℕ → List ℕ → List Post′
-backsOf count backs = map backOf (take count backs)
-
-unfoldable pub sentOf : Outbox → List Post′
-sentOf o = linksTo (o .links) ++ backsOf (o .count) (o .backs) ++ newsTo (o .value) (o .told)
-
-unfoldable pub stepOf : Step → Step′
-stepOf t = record { agent = agentOf (t .agent); sent = sentOf (t .outbox); verdict = t .verdict }

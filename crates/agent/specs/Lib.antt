@@ -1,3 +1,4 @@
 pub mod Abstract
+pub mod Posting
 pub mod Entries
 pub mod Parts

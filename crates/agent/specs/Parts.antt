@@ -1,31 +1,78 @@
--- What the parts of an agent's code compute or need, where the rules have no name for it.
-use Prim.Native.Nat.{ℕ, zero, suc, pred, _+_, _*_, _-_, _/_, _%_, _^_, _≤_, _<_}
+-- What the parts of an agent's code compute or need, where the rules have no name for it. A primed name is the definitions'.
+use Prim.Native.Nat.{ℕ, zero, suc, pred, _*_, _-_, _/_, _%_, _^_, _≤_, _<_}
 use mathlib.Core.Path.{_≡_}
 use mathlib.Core.Bool.{Bool, true, false, not, cond, _||_}
 use mathlib.Core.Option.{Option, none, some}
+use mathlib.Core.List.{List, []}
 use lib.Dec.{eqb}
-use Rattle.base.specs.Finite.{at, isSome, lowest}
+use lib.ListN.{length}
+use Rattle.base.specs.Finite.{fromOne, allTo, isSome, lowest}
 use Rattle.base.specs.Bits.{bit}
-use Rattle.problem.specs.Problem.{maxAgents, maxDomain}
-use Rattle.agent_rules.specs.Message.{Assignment, known}
-use Rattle.agent_rules.specs.Agent.{Self, Bans, Agent as Agent′, Step as Step′}
-use Rattle.agent_rules.specs.Choosing.{choose, choice, chosen, after, checkView}
-use Rattle.agent_rules.specs.Receiving.{keepIf, quiet}
-use Rattle.agent_rules.specs.Shape.{maxNamed, EachNamed, EachIn}
-use Rattle.packed.specs.Packed.{members}
-use Rattle.agent.specs.Abstract.{assigned, agentOf, selfOf, byteOf, linksTo, newsTo}
-use Rattle.agent.specs.Entries.{Barring, Above, Below}
-use Rattle.agent.specs.declared.Own.{Own}
+use Rattle.problem.specs.Problem.{maxDomain}
+use Rattle.agent_rules.specs.Message.{Assignment, known, Message as Message′}
+use Rattle.agent_rules.specs.Agent.{Self, Bans, Nogoods, Agent as Agent′, Step as Step′, above}
+use Rattle.agent_rules.specs.Choosing.{choose, after, checkView}
+use Rattle.agent_rules.specs.Receiving.{keepIf, quiet, matches, unheard}
+use Rattle.agent_rules.specs.Shape.{maxNamed, EachNamed, RecordFits, MessageFits, anyValue}
+use Rattle.packed.specs.Packed.{assignment, members}
+use Rattle.agent.specs.Abstract.{nogoodAt, agentOf, selfOf, bansIn, byteOf}
+use Rattle.agent.specs.Posting.{linksTo, newsTo}
+use Rattle.agent.specs.Entries.{OwnFits, Able, ViewFits, Above, Below, Barring}
+use Rattle.agent.specs.declared.Agent.{Agent}
 use Rattle.agent.specs.declared.Bars.{Bars}
+use Rattle.agent.specs.declared.Own.{Own}
+use Rattle.agent.specs.declared.State.{State}
+use Rattle.agent.specs.declared.Step.{Step}
 use Rattle.agent.specs.declared.Taken.{Taken}
+use Rattle.agent.specs.declared.choosing.Done.{Done}
+use Rattle.agent.specs.declared.receiving.Heard.{Heard}
 
--- the agents 1 to m have values that a word of bans has room for
-abbrev pub Ranged : ℕ → Assignment → Type 0
-Ranged m view = (k : ℕ) → 1 ≤ k → k ≤ m → view k ≤ maxDomain
-
--- the own values that an agent with this word of bans bars at value v: one byte of the word. "Unknown scanners ban nothing."
+-- the own values that an agent with this word of bans bars at value v: one byte of the word
 unfoldable pub barredAt : ℕ → ℕ → ℕ
-barredAt word v = cond (known v) (word / 2 ^ (8 * (v - 1)) % 256) 0
+barredAt word v = word / 2 ^ (8 * (v - 1)) % 256
+
+-- ---- an agent taken apart
+
+-- the nogoods of a mask and eight words
+unfoldable pub nogoodsOf : ℕ → List ℕ → Nogoods
+nogoodsOf stored nogoods = fromOne none (nogoodAt stored nogoods)
+
+abbrev pub apart : Agent → Bars → State
+apart a b =
+    record {
+      value = a .value;
+      stored = a .stored;
+      listens = a .listens;
+      informs = a .informs;
+      view = a .view .digits;
+      bars = b;
+    }
+
+-- put together again
+abbrev pub agentWith : State → List ℕ → Agent
+agentWith s nogoods =
+    record {
+      value = s .value;
+      stored = s .stored;
+      listens = s .listens;
+      informs = s .informs;
+      view = record { digits = s .view };
+      nogoods = nogoods;
+    }
+
+abbrev pub agentIn : State → List ℕ → Agent′
+agentIn s nogoods = agentOf (agentWith s nogoods)
+
+-- the same of a step
+abbrev pub stepWith : Done → List ℕ → List ℕ → Step
+stepWith d nogoods backs =
+    record {
+      agent = agentWith (d .state) nogoods;
+      posts = d .posts;
+      backs = backs;
+      bars = d .state .bars;
+      verdict = d .verdict;
+    }
 
 -- ---- what a step may count on
 
@@ -33,11 +80,16 @@ barredAt word v = cond (known v) (word / 2 ^ (8 * (v - 1)) % 256) 0
 abbrev pub Agreed : Assignment → Assignment → Type 0
 Agreed view lhs = EachNamed lhs (λ k u. u ≡ view k)
 
--- the view names agents above, at values that there are, the nogoods agree with it, and those informed are below
-pub record Coherent (s : Self) (a : Agent′) : Type 0 where
-  pub viewed : EachNamed (a .view) (λ k v. (k < s .number) × (v ≤ maxDomain))
-  pub agreed : (v : ℕ) (lhs : Assignment) → 1 ≤ v → v ≤ maxDomain → a .nogoods v ≡ some lhs → Agreed (a .view) lhs
-  pub downward : EachIn (a .informs) (λ k. (s .number < k) × (k ≤ maxAgents))
+-- the view names agents above, at values that there are, and the nogoods agree with it
+pub record Coherent (own : Own) (view : Assignment) (nogoods : Nogoods) : Type 0 where
+  pub viewed : ViewFits own view
+  pub agreed : (v : ℕ) (lhs : Assignment) → 1 ≤ v → v ≤ maxDomain → nogoods v ≡ some lhs → Agreed view lhs
+
+-- .. and those informed are below
+pub record Sound (own : Own) (s : State) (nogoods : List ℕ) : Type 0 where
+  pub places : length nogoods ≡ 8
+  pub coherent : Coherent own (assignment (s .view)) (nogoodsOf (s .stored) nogoods)
+  pub downward : Below own (s .informs)
 
 -- ---- choosing
 
@@ -49,26 +101,44 @@ leftFree stored b v = not (bit stored (pred v) || isSome (lowest maxNamed 1 (λ 
 abbrev pub Barred : ℕ → Bars → ℕ → Type 0
 Barred stored b m = (v : ℕ) → 1 ≤ v → v ≤ m → leftFree stored b v ≡ false
 
--- r is a with other reasons, all of which agree with the view
-pub record Given (s : Self) (a r : Agent′) : Type 0 where
-  pub rest : r ≡ chosen a (a .value) (r .nogoods)
-  pub coherent : Coherent s r
+-- the nogoods with the reasons of the values 1 to m: from there, choosing has only the values above m left to try
+pub record Reasoned (own : Own) (view : Assignment) (b : Bars) (m : ℕ) (old new : Nogoods) : Type 0 where
+  pub coherent : Coherent own view new
+  pub later : (v : ℕ) → m < v → new v ≡ old v
+  pub goes-on : (bans : Bans) → Barring bans view b
+      → choose (own .domain - m) (suc m) (selfOf own) bans view new ≡ choose (own .domain) 1 (selfOf own) bans view old
 
--- a with the reasons of the values 1 to m is r: from there, choosing has only the values above m left to try
-pub record Reasoned (s : Self) (bans : Bans) (m : ℕ) (a r : Agent′) : Type 0 where
-  pub rest : r ≡ chosen a (a .value) (r .nogoods)
-  pub later : (v : ℕ) → m < v → r .nogoods v ≡ a .nogoods v
-  pub goes-on : choose (s .domain - m) (suc m) s bans (a .view) (r .nogoods) ≡ choice s bans a
+-- .. whoever's they are
+abbrev pub ReasonsGiven : Assignment → Bars → ℕ → Nogoods → Nogoods → Type 0
+ReasonsGiven view b m old new = (own : Own) → OwnFits own → m ≤ own .domain → Coherent own view old → Reasoned own view b m old new
 
 -- a value as an option, 0 for none
 unfoldable pub valueOf : ℕ → Option ℕ
 valueOf zero = none
 valueOf (suc v) = some (suc v)
 
--- choosing takes value v and makes r of a
-pub record Chose (s : Self) (bans : Bans) (a : Agent′) (v : ℕ) (r : Agent′) : Type 0 where
-  pub value : valueOf v ≡ choice s bans a .value
-  pub agent : r ≡ chosen a (a .value) (choice s bans a .nogoods)
+-- choosing takes value v and leaves these nogoods
+pub record Chose (own : Own) (view : Assignment) (b : Bars) (old : Nogoods) (v : ℕ) (new : Nogoods) : Type 0 where
+  pub coherent : Coherent own view new
+  pub choice : (bans : Bans) → Barring bans view b
+      → choose (own .domain) 1 (selfOf own) bans view old ≡ record { value = valueOf v; nogoods = new }
+
+-- the step that ends with value v, 0 for the verdict
+abbrev pub ended : State → ℕ → ℕ → ℕ → Done
+ended s v links count =
+    record {
+      state =
+          record {
+            value = v;
+            stored = s .stored;
+            listens = s .listens;
+            informs = s .informs;
+            view = s .view;
+            bars = s .bars;
+          };
+      posts = record { links = links; told = cond (known v) (s .informs) 0; value = v; next = 0; count = count };
+      verdict = not (known v);
+    }
 
 -- ---- a changed view
 
@@ -76,40 +146,44 @@ unfoldable pub keeping : ℕ → ℕ → Option Assignment → Option Assignment
 keeping k v none = none
 keeping k v (some lhs) = keepIf (not (known (lhs k)) || eqb (lhs k) v) lhs
 
--- the view with value v for agent k, less the nogoods that name k at another value
-unfoldable pub seeing : ℕ → ℕ → Agent′ → Agent′
-seeing k v a =
-    record {
-      value = a .value;
-      listens = a .listens;
-      informs = a .informs;
-      view = at (a .view) k v;
-      nogoods = λ w. keeping k v (a .nogoods w);
-    }
-
 -- ---- Backs
 
--- as `matches`, for the set of agents listened to and the view
-unfoldable pub matching : Assignment → ℕ → Assignment → ℕ → Bool
-matching lhs listens view k = not (known (lhs k)) || not (members listens k) || eqb (lhs k) (view k)
+-- the agent, as far as its nogoods do not matter
+abbrev pub listener : State → Agent′
+listener s = agentIn s []
 
--- a left side names only agents above
-abbrev pub Upward : Own → Assignment → Type 0
-Upward own lhs = EachNamed lhs (λ k u. k < own .number)
+-- whom the view names is listened to
+abbrev pub Listening : State → Type 0
+Listening s = EachNamed (assignment (s .view)) (λ k v. members (s .listens) k ≡ true)
+
+-- what a left side says to an agent
+pub record Hears (own : Own) (bans : Bans) (s : State) (lhs : Assignment) (h : Heard) : Type 0 where
+  pub holds : h .holds ≡ allTo (above (selfOf own)) (matches (listener s) lhs)
+  pub links : h .holds ≡ true → (k : ℕ) → members (h .links) k ≡ unheard (listener s) lhs k
+  pub view : h .holds ≡ true → (k : ℕ) → assignment (h .view) k ≡ cond (unheard (listener s) lhs k) (lhs k) (assignment (s .view) k)
+  pub barring : h .holds ≡ true → Barring bans (assignment (h .view)) (h .bars)
 
 -- ---- a message taken in
 
-unfoldable pub takenAs : Self → Bans → Taken → Step′
-takenAs s bans t =
+-- a message finds an agent
+pub record Handed (own : Own) (bans : List ℕ) (s : State) (nogoods : List ℕ) (from : ℕ) (m : Message′) : Type 0 where
+  pub able : Able own bans
+  pub places : length nogoods ≡ 8
+  pub agent : RecordFits anyValue (selfOf own) (agentIn s nogoods)
+  pub message : MessageFits anyValue (selfOf own) (agentIn s nogoods) from m
+  pub barring : Barring (bansIn bans) (assignment (s .view)) (s .bars)
+
+unfoldable pub takenAs : Self → Bans → Taken → List ℕ → Step′
+takenAs s bans t nogoods =
     elim (t .chooses) [
-      | true ↦ after (linksTo (t .links)) (checkView s bans (agentOf (t .agent)))
-      | false ↦ quiet (agentOf (t .agent)) (newsTo (t .value) (t .told))
+      | true ↦ after (linksTo (t .links)) (checkView s bans (agentIn (t .state) nogoods))
+      | false ↦ quiet (agentIn (t .state) nogoods) (newsTo (t .state .value) (t .told))
     ]
 
 -- the step that the rules give is what is left to do
-pub record Takes (own : Own) (bans : Bans) (t : Taken) (step : Step′) : Type 0 where
-  pub taken : takenAs (selfOf own) bans t ≡ step
-  pub coherent : Coherent (selfOf own) (agentOf (t .agent))
-  pub barring : Barring bans (assigned (t .agent .view)) (t .bars)
+pub record Takes (own : Own) (bans : Bans) (t : Taken) (nogoods : List ℕ) (step : Step′) : Type 0 where
+  pub taken : takenAs (selfOf own) bans t nogoods ≡ step
+  pub sound : Sound own (t .state) nogoods
+  pub barring : Barring bans (assignment (t .state .view)) (t .state .bars)
   pub links : Above own (t .links)
   pub told : Below own (t .told)

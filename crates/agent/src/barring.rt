@@ -1,51 +1,41 @@
 // What the bans and a view bar.
 ghost use mathlib.Core.Path.{_≡_};
-ghost use Prim.Native.Nat.{ℕ, pred, _+_, _*_, _-_, _≤_, _<_, _^_};
+ghost use Prim.Native.Nat.{ℕ, pred, _+_, _*_, _-_, _≤_, _<_};
 ghost use Rattle.base.specs.Finite.{at, isSome, lowest};
 ghost use Rattle.base.specs.Bits.{bit};
 ghost use Rattle.agent_rules.specs.Shape.{maxNamed};
 ghost use Rattle.packed.specs.Packed.{numberOf};
 ghost use Rattle.agent.specs.Abstract.{byteOf, assigned, bansIn};
-ghost use Rattle.agent.specs.Entries.{Barring, Able};
-ghost use Rattle.agent.specs.Parts.{Ranged, barredAt};
+ghost use Rattle.agent.specs.Entries.{Able, ViewFits, Barring};
+ghost use Rattle.agent.specs.Parts.{barredAt};
 use crate::Bars;
 use crate::Lhs;
 use crate::Own;
+use packed::digit;
+use packed::first_digit;
+use packed::with_digit;
 
-// The own values, as a mask, that an agent with this word of bans bars at value v: one byte of it. An unknown value bars nothing.
+// The own values, as a mask, that an agent with this word of bans bars at value v: one byte of it.
 pub(crate) fn barred_at(word: u64, v: u8) -> u8
-    requires { ⌜ v ≤ 8 ⌝ }
+    requires { ⌜ (1 ≤ v) × (v ≤ 8) ⌝ }
     ensures { λ r. ⌜ r ≡ barredAt word v ⌝ }
 {
-    if v == 0 {
-        return 0;
-    }
     ((word >> (8 * (v - 1))) % 256) as u8
 }
 
 impl Bars {
-    // The byte of agent k.
-    fn byte(self, k: u8) -> u8
-        requires { ⌜ (1 ≤ k) × (k ≤ 16) ⌝ }
-        ensures { λ r. ⌜ r ≡ byteOf self k ⌝ }
-    {
-        if k <= 8 {
-            return ((self.low >> (8 * (k - 1))) % 256) as u8;
-        }
-        ((self.high >> (8 * (k - 9))) % 256) as u8
-    }
-
     // The same with another byte for agent k.
     pub(crate) fn with(self, k: u8, byte: u8) -> Bars
         requires { ⌜ (1 ≤ k) × (k ≤ 16) ⌝ }
         ensures { λ r. ⌜ ((j : ℕ) → 1 ≤ j → j ≤ 16 → byteOf r j ≡ at (byteOf self) k byte j) ⌝ }
     {
-        let old = self.byte(k) as u64;
         let mut b = self;
         if k <= 8 {
-            b.low = self.low - (old << (8 * (k - 1))) + ((byte as u64) << (8 * (k - 1)));
+            let place = 8 * (k - 1);
+            b.low = self.low - (self.low & (255u64 << place)) + ((byte as u64) << place);
         } else {
-            b.high = self.high - (old << (8 * (k - 9))) + ((byte as u64) << (8 * (k - 9)));
+            let place = 8 * (k - 9);
+            b.high = self.high - (self.high & (255u64 << place)) + ((byte as u64) << place);
         }
         b
     }
@@ -53,16 +43,25 @@ impl Bars {
     // What a view bars.
     pub fn of(view: Lhs, own: Own, bans: &[u64]) -> Bars
         requires { ⌜ Able own (now bans) ⌝ }
-        requires { ⌜ Ranged (own .number - 1) (assigned view) ⌝ }
+        requires { ⌜ ViewFits own (assigned view) ⌝ }
         ensures { λ r. ⌜ Barring (bansIn (now (bans .entry))) (assigned view) r ⌝ }
     {
         let mut b = Bars { low: 0, high: 0 };
-        let mut k: u8 = 0;
-        while k + 1 < own.number {
-            k += 1;
-            b = b.with(k, barred_at(bans[k as usize - 1], view.value_of(k)));
+        let mut rest = view.digits;
+        while rest != 0 {
+            let k = first_digit(rest);
+            b = b.with(k, barred_at(bans[k as usize - 1], digit(rest, k)));
+            rest = with_digit(rest, k, 0);
         }
         b
+    }
+
+    // Some agent bars own value w. The number has the lowest bit of each byte.
+    pub(crate) fn bars(self, w: u8) -> bool
+        requires { ⌜ (1 ≤ w) × (w ≤ 8) ⌝ }
+        ensures { λ r. ⌜ r ≡ isSome (lowest maxNamed 1 (λ k. bit (byteOf self k) (pred w))) ⌝ }
+    {
+        ((self.low | self.high) >> (w - 1)) & 0x0101_0101_0101_0101 != 0
     }
 
     // The own values, as a mask, that some agent bars; bit w - 1 is value w.
@@ -75,16 +74,16 @@ impl Bars {
         ((two | (two >> 8)) % 256) as u8
     }
 
-    // The lowest-numbered agent that bars own value w, 0 where none does. The number has the lowest bit of each byte.
+    // The lowest-numbered agent that bars own value w, 0 where none does.
     pub(crate) fn first(self, w: u8) -> u8
         requires { ⌜ (1 ≤ w) × (w ≤ 8) ⌝ }
         ensures { λ r. ⌜ r ≡ numberOf (lowest maxNamed 1 (λ k. bit (byteOf self k) (pred w))) ⌝ }
     {
-        let low = (self.low >> (w - 1)) & 72340172838076673;
+        let low = (self.low >> (w - 1)) & 0x0101_0101_0101_0101;
         if low != 0 {
             return u64::trailing_zeros(low) as u8 / 8 + 1;
         }
-        let high = (self.high >> (w - 1)) & 72340172838076673;
+        let high = (self.high >> (w - 1)) & 0x0101_0101_0101_0101;
         if high != 0 {
             return u64::trailing_zeros(high) as u8 / 8 + 9;
         }

@@ -1,185 +1,197 @@
 // Document 01's rules 'Choosing' and 'Backing up'.
 ghost use mathlib.Core.Path.{_≡_};
 ghost use mathlib.Core.Bool.{not};
-ghost use Prim.Native.Nat.{pred, _+_, _-_, _≤_, _<_};
-ghost use lib.ListN.{getD};
+ghost use mathlib.Core.List.{List};
+ghost use Prim.Native.Nat.{ℕ, pred, _≤_};
+ghost use lib.ListN.{length, getD};
 ghost use Rattle.agent_rules.specs.Agent.{Bans};
 ghost use Rattle.agent_rules.specs.Message.{known};
 ghost use Rattle.agent_rules.specs.Choosing.{union, after, checkView};
+ghost use Rattle.agent_rules.specs.Receiving.{quiet};
 ghost use Rattle.packed.specs.Packed.{assignment, maskFrom};
-ghost use Rattle.agent.specs.Abstract.{assigned, linksTo, agentOf, selfOf};
-ghost use Rattle.agent.specs.Entries.{Sized, Above, Barring, Answers};
-ghost use Rattle.agent.specs.Parts.{Coherent, leftFree, Barred, Given, Reasoned, Chose, seeing};
-use crate::Agent;
+ghost use Rattle.agent.specs.Abstract.{selfOf};
+ghost use Rattle.agent.specs.Posting.{linksTo, newsTo};
+ghost use Rattle.agent.specs.Entries.{OwnFits, Above, Below, Barring, StepsAs};
+ghost use Rattle.agent.specs.Parts.{nogoodsOf, agentIn, stepWith, Coherent, Sound, leftFree, Barred, ReasonsGiven, Chose, ended};
 use crate::Bars;
-use crate::Lhs;
-use crate::Outbox;
 use crate::Own;
-use crate::Step;
+use crate::Posts;
+use crate::State;
+use packed::digit;
 use packed::last_digit;
+use packed::with_digit;
 
-// What choosing comes to: the value taken, 0 where none is free, and the agent with the reasons given on the way.
-struct Chosen {
-    pub value: u8,
-    pub agent: Agent,
+// What going through own values comes to: the mask of the own values that have a reason then, and the join of the left sides met.
+struct Tried {
+    pub stored: u8,
+    pub whole: u64,
 }
 
-impl Agent {
-    // The mask of the own values left free by bans and nogoods; bit v - 1 is value v.
-    fn free(self, own: Own, bars: Bars) -> u8
-        requires { ⌜ Sized own ⌝ }
-        ensures { λ r. ⌜ r ≡ maskFrom (leftFree (self .stored) bars) 1 (own .domain) ⌝ }
+// What choosing comes to: the value taken, 0 where none is free, with what going through the values came to.
+struct Choice {
+    pub value: u8,
+    pub stored: u8,
+    pub whole: u64,
+}
+
+// A step done: the agent less the words of its nogoods, what it sends less the words of its Backs, and whether the verdict "none" fell.
+pub(crate) struct Done {
+    pub state: State,
+    pub posts: Posts,
+    pub verdict: bool,
+}
+
+// The mask of the own values whose nogood does not name agent k; bit v - 1 is value v.
+pub(crate) fn sparing(nogoods: &[u64; 8], k: u8) -> u8
+    requires { ⌜ (1 ≤ k) × (k ≤ 16) ⌝ }
+    ensures { λ r. ⌜ r ≡ maskFrom (λ v. not (known (assignment (getD (now (nogoods .entry)) (pred v) 0) k))) 1 8 ⌝ }
+{
+    let mut mask: u8 = 0;
+    let mut i: usize = 8;
+    while 0 < i {
+        i -= 1;
+        mask = mask * 2 + (digit(nogoods[i], k) == 0) as u8;
+    }
+    mask
+}
+
+// The mask of the own values left free by bans and nogoods; bit v - 1 is value v.
+fn free(own: Own, bars: Bars, stored: u8) -> u8
+    requires { ⌜ OwnFits own ⌝ }
+    ensures { λ r. ⌜ r ≡ maskFrom (leftFree stored bars) 1 (own .domain) ⌝ }
+{
+    let values = 255u8 >> (8 - own.domain);
+    values & !(stored | bars.all())
+}
+
+// The own values 1 to `tried` are gone through upward, none of which is free: "A slot with a stored reason is skipped. A slot banned against a known slot
+// in the view gets the reason "that scanner has that slot", blaming the lowest-numbered such scanner." The left sides met, stored ones and given ones, are
+// joined on the way: after any number of values `whole` is the union of that many.
+fn give_reasons(nogoods: &mut [u64; 8], view: u64, bars: Bars, stored: u8, tried: u8) -> Tried
+    requires { ⌜ (length (now nogoods) ≡ 8) × (tried ≤ 8) × Barred stored bars tried ⌝ }
+    ensures { λ r. ⌜ (length (now (nogoods .exit)) ≡ 8) × ReasonsGiven (assignment view) bars tried (nogoodsOf stored (now (nogoods .entry))) (nogoodsOf (r .stored) (now (nogoods .exit))) ⌝ }
+    ensures { λ r. ⌜ ((own : Own) → OwnFits own → tried ≤ own .domain → Coherent own (assignment view) (nogoodsOf stored (now (nogoods .entry))) → assignment (r .whole) ≡ union tried (nogoodsOf (r .stored) (now (nogoods .exit)))) ⌝ }
+{
+    let mut reasoned = stored;
+    let mut whole: u64 = 0;
+    let mut i: u8 = 0;
+    while i < tried {
+        let mut lhs = nogoods[i as usize];
+        if (stored >> i) % 2 == 0 {
+            let k = bars.first(i + 1);
+            lhs = with_digit(0, k, digit(view, k));
+            nogoods[i as usize] = lhs;
+            reasoned = reasoned | (1u8 << i);
+        }
+        whole = whole | lhs;
+        i += 1;
+    }
+    Tried {
+        stored: reasoned,
+        whole: whole,
+    }
+}
+
+// "The lowest slot still free is taken, those above it are not tried and get no reason." Where none is free, all left sides are joined.
+fn choose(nogoods: &mut [u64; 8], own: Own, view: u64, bars: Bars, stored: u8) -> Choice
+    requires { ⌜ OwnFits own ⌝ }
+    requires { ⌜ (length (now nogoods) ≡ 8) × Coherent own (assignment view) (nogoodsOf stored (now nogoods)) ⌝ }
+    ensures { λ r. ⌜ (length (now (nogoods .exit)) ≡ 8) × Chose own (assignment view) bars (nogoodsOf stored (now (nogoods .entry))) (r .value) (nogoodsOf (r .stored) (now (nogoods .exit))) ⌝ }
+    ensures { λ r. ⌜ (r .value ≡ 0 → assignment (r .whole) ≡ union (own .domain) (nogoodsOf (r .stored) (now (nogoods .exit)))) ⌝ }
+{
+    let mask = free(own, bars, stored);
+    let mut value: u8 = 0;
+    let mut tried = own.domain;
+    if mask != 0 {
+        tried = u8::trailing_zeros(mask) as u8;
+        value = tried + 1;
+    }
+    let t = give_reasons(nogoods, view, bars, stored, tried);
+    Choice {
+        value: value,
+        stored: t.stored,
+        whole: t.whole,
+    }
+}
+
+impl State {
+    // The agent as it is, that tells its value to the agents of a set and does nothing else.
+    pub(crate) fn telling(self, told: u16) -> Done
+        ensures { λ r. ⌜ ((own : Own) (bans : Bans) (nogoods backs : List ℕ) → OwnFits own → length backs ≡ 11 → Below own told → Barring bans (assignment (self .view)) (self .bars) → StepsAs own bans (stepWith r nogoods backs) (quiet (agentIn self nogoods) (newsTo (self .value) told))) ⌝ }
     {
-        let values = 255u8 >> (8 - own.domain);
-        values & !(self.stored | bars.all())
+        let posts = Posts {
+            links: 0,
+            told: told,
+            value: self.value,
+            next: 0,
+            count: 0,
+        };
+        Done {
+            state: self,
+            posts: posts,
+            verdict: false,
+        }
     }
 
-    // The reasons of the own values 1 to `tried`, none of which is free, given upward.
-    fn reasoned(self, own: Own, bars: Bars, tried: u8) -> Agent
-        requires { ⌜ Sized own ⌝ }
-        requires { ⌜ Coherent (selfOf own) (agentOf self) ⌝ }
-        requires { ⌜ (tried ≤ own .domain) × Barred (self .stored) bars tried ⌝ }
-        ensures { λ r. ⌜ Given (selfOf own) (agentOf self) (agentOf r) × ((bans : Bans) → Barring bans (assigned (self .view)) bars → Reasoned (selfOf own) bans tried (agentOf self) (agentOf r)) ⌝ }
+    // The value taken: "news goes to all it informs, even if the slot is the old one". None, 0: the verdict falls, and nobody is told.
+    fn ending(self, value: u8, links: u16, count: u8) -> Done
+        ensures { λ r. ⌜ r ≡ ended self value links count ⌝ }
     {
-        let view = self.view;
-        let mut a = self;
-        let mut rest = ((1u16 << tried) - 1) as u8 & !self.stored;
-        a.stored = self.stored | rest;
-        while rest != 0 {
-            let i = u8::trailing_zeros(rest) as u8;
-            a.nogoods[i as usize] = view.only(bars.first(i + 1)).digits;
-            rest = rest - (1u8 << i);
+        let mut s = self;
+        s.value = value;
+        let mut told: u16 = 0;
+        if value != 0 {
+            told = self.informs;
         }
-        a
-    }
-
-    // "The lowest slot still free is taken, those above it are not tried and get no reason."
-    fn choose(self, own: Own, bars: Bars) -> Chosen
-        requires { ⌜ Sized own ⌝ }
-        requires { ⌜ Coherent (selfOf own) (agentOf self) ⌝ }
-        ensures { λ r. ⌜ Given (selfOf own) (agentOf self) (agentOf (r .agent)) × ((bans : Bans) → Barring bans (assigned (self .view)) bars → Chose (selfOf own) bans (agentOf self) (r .value) (agentOf (r .agent))) ⌝ }
-    {
-        let mask = self.free(own, bars);
-        let mut value: u8 = 0;
-        let mut tried = own.domain;
-        if mask != 0 {
-            tried = u8::trailing_zeros(mask) as u8;
-            value = tried + 1;
-        }
-        Chosen {
+        let posts = Posts {
+            links: links,
+            told: told,
             value: value,
-            agent: self.reasoned(own, bars, tried),
+            next: 0,
+            count: count,
+        };
+        Done {
+            state: s,
+            posts: posts,
+            verdict: value == 0,
         }
     }
 
-    // The join of the left sides of all own values.
-    fn union(self, own: Own) -> Lhs
-        requires { ⌜ own .domain ≤ 8 ⌝ }
-        requires { ⌜ Coherent (selfOf own) (agentOf self) ⌝ }
-        ensures { λ r. ⌜ assigned r ≡ union (own .domain) (agentOf self .nogoods) ⌝ }
-    {
-        let mut whole = Lhs { digits: 0 };
-        let mut i: u8 = 0;
-        while i < own.domain {
-            if (self.stored >> i) % 2 == 1 {
-                let lhs = Lhs {
-                    digits: self.nogoods[i as usize],
-                };
-                whole = whole.join(lhs);
-            }
-            i += 1;
-        }
-        whole
-    }
-
-    // The mask of the own values whose nogood does not name agent k; bit v - 1 is value v.
-    fn sparing(self, k: u8) -> u8
-        requires { ⌜ (1 ≤ k) × (k ≤ 16) ⌝ }
-        ensures { λ r. ⌜ r ≡ maskFrom (λ v. not (known (assignment (getD (self .nogoods) (pred v) 0) k))) 1 8 ⌝ }
-    {
-        let mut mask: u8 = 0;
-        let mut i: usize = 8;
-        while 0 < i {
-            i -= 1;
-            let lhs = Lhs {
-                digits: self.nogoods[i],
-            };
-            mask = mask * 2 + (lhs.value_of(k) == 0) as u8;
-        }
-        mask
-    }
-
-    // The view with value v for agent k, 0 for unknown, less the nogoods that name k at another value. What nogoods name has its value in the
-    // view: they can be left alone where that value stays, and where there was none.
-    pub(crate) fn seeing(self, own: Own, k: u8, v: u8) -> Agent
-        requires { ⌜ (1 ≤ k) × (k ≤ 16) × (v < 16) ⌝ }
-        requires { ⌜ Coherent (selfOf own) (agentOf self) ⌝ }
-        ensures { λ r. ⌜ agentOf r ≡ seeing k v (agentOf self) ⌝ }
-    {
-        let old = self.view.value_of(k);
-        if old == v {
-            return self;
-        }
-        let mut a = self;
-        a.view = self.view.with(k, v);
-        if old != 0 {
-            a.stored = self.stored & self.sparing(k);
-        }
-        a
-    }
-
-    // Choosing, with backing up: "This repeats until a slot is taken." Link requests to the agents of the set `links` are sent before.
-    pub(crate) fn settle(self, own: Own, bars: Bars, links: u16) -> Step
-        requires { ⌜ Sized own ⌝ }
-        requires { ⌜ Coherent (selfOf own) (agentOf self) ⌝ }
+    // Choosing, with backing up: "If no slot is free, join all left sides. .. Otherwise the highest-numbered scanner in it gets a refusal .. The sender sets
+    // that scanner to unknown, drops all reasons naming it, and chooses again. This repeats until a slot is taken." The Backs are put into `backs`, each
+    // as the whole nogood. Link requests to the agents of the set `links` are sent before.
+    pub(crate) fn settle(
+        self,
+        own: Own,
+        nogoods: &mut [u64; 8],
+        backs: &mut [u64; 11],
+        links: u16,
+    ) -> Done
+        requires { ⌜ OwnFits own ⌝ }
+        requires { ⌜ Sound own self (now nogoods) ⌝ }
+        requires { ⌜ length (now backs) ≡ 11 ⌝ }
         requires { ⌜ Above own links ⌝ }
-        ensures { λ r. ⌜ ((bans : Bans) → Barring bans (assigned (self .view)) bars → Answers own bans r (after (linksTo links) (checkView (selfOf own) bans (agentOf self)))) ⌝ }
+        ensures { λ r. ⌜ ((bans : Bans) → Barring bans (assignment (self .view)) (self .bars) → StepsAs own bans (stepWith r (now (nogoods .exit)) (now (backs .exit))) (after (linksTo links) (checkView (selfOf own) bans (agentIn self (now (nogoods .entry)))))) ⌝ }
     {
-        let mut a = self;
-        let mut seen = bars;
-        let mut backs = [0u64; 11];
+        let mut s = self;
         let mut count: u8 = 0;
         loop {
-            let c = a.choose(own, seen);
-            let mut b = c.agent;
+            let bars = s.bars;
+            let c = choose(nogoods, own, s.view, bars, s.stored);
+            s.stored = c.stored;
             if c.value != 0 {
-                b.value = c.value;
-                let outbox = Outbox {
-                    backs: backs,
-                    links: links,
-                    told: b.informs,
-                    value: c.value,
-                    count: count,
-                };
-                return Step {
-                    agent: b,
-                    bars: seen,
-                    outbox: outbox,
-                    verdict: false,
-                };
+                return s.ending(c.value, links, count);
             }
-            let whole = b.union(own);
-            let k = last_digit(whole.digits);
+            let k = last_digit(c.whole);
             if k == 0 {
-                b.value = 0;
-                let outbox = Outbox {
-                    backs: backs,
-                    links: links,
-                    told: 0,
-                    value: 0,
-                    count: count,
-                };
-                return Step {
-                    agent: b,
-                    bars: seen,
-                    outbox: outbox,
-                    verdict: true,
-                };
+                return s.ending(0, links, count);
             }
-            backs[count as usize] = whole.digits;
+            backs[count as usize] = c.whole;
             count += 1;
-            a = b.seeing(own, k, 0);
-            seen = seen.with(k, 0);
+            s.stored = c.stored & sparing(nogoods, k);
+            s.view = with_digit(s.view, k, 0);
+            let now = bars.with(k, 0);
+            s.bars = now;
         }
     }
 }

@@ -5,11 +5,13 @@ ghost use Rattle.agent_rules.specs.Receiving.{receive, begin};
 ghost use Rattle.agent_rules.specs.Shape.{RecordFits, MessageFits, anyValue};
 ghost use Rattle.packed.specs.Packed.{members};
 ghost use Rattle.agent.specs.Abstract.{assigned, messageOf, agentOf, selfOf, bansIn};
-ghost use Rattle.agent.specs.Entries.{Sized, Able, Below, Barring, Answers};
+ghost use Rattle.agent.specs.Entries.{OwnFits, Able, Below, Barring, StepsAs, BeginsAs};
+ghost use Rattle.agent.specs.Parts.{apart};
 
 mod assigning;
 mod barring;
 mod choosing;
+mod posting;
 mod receiving;
 
 // A packed partial assignment: digit k - 1 in base 16 is the value of agent k, 0 where it is unknown or not named. A view, or the left side of
@@ -56,72 +58,127 @@ pub struct Bars {
     pub high: u64,
 }
 
-// What a step sends, in order: link requests to the agents of the set `links`, upward; the Backs; an Info of `value` to the agents of the set
-// `told`, upward. A Back is the whole nogood, packed: it goes to the highest-numbered agent that it names. `count` of them stand in `backs`.
-pub struct Outbox {
-    pub backs: [u64; 11],
+// A message and who gets it.
+pub struct Post {
+    pub to: u8,
+    pub message: Message,
+}
+
+// The posts that are left of what a step sends, in order: link requests to the agents of the set `links`, upward; the Backs from place `next` on, up to
+// `count`; an Info of `value` to the agents of the set `told`, upward.
+pub struct Posts {
     pub links: u16,
     pub told: u16,
     pub value: u8,
+    pub next: u8,
     pub count: u8,
 }
 
-// The agent handed back changed, with what its view bars now, what it sends, and whether the verdict "none" fell.
+// The agent handed back changed, with what it sends, what its view bars now, and whether the verdict "none" fell. A Back stands in `backs` as the whole
+// nogood, packed: it goes to the highest-numbered agent that it names.
 pub struct Step {
     pub agent: Agent,
+    pub posts: Posts,
+    pub backs: [u64; 11],
     pub bars: Bars,
-    pub outbox: Outbox,
     pub verdict: bool,
 }
 
-// The agent with a message taken in. Either it has to choose, after link requests to the agents of the set `links`; or it is done, with an Info of
-// `value` to the agents of the set `told`.
-struct Taken {
-    pub agent: Agent,
+// An agent taken apart: all of it but the words of its nogoods, with what its view bars.
+struct State {
+    pub value: u8,
+    pub stored: u8,
+    pub listens: u16,
+    pub informs: u16,
+    pub view: u64,
     pub bars: Bars,
+}
+
+// An agent with a message taken in. Either it has to choose, after link requests to the agents of the set `links`; or it is done, with an Info of its value
+// to the agents of the set `told`.
+struct Taken {
+    pub state: State,
     pub chooses: bool,
     pub links: u16,
     pub told: u16,
-    pub value: u8,
 }
 
 impl Agent {
+    // The agent taken apart.
+    fn apart(self, bars: Bars) -> State
+        ensures { λ r. ⌜ r ≡ apart self bars ⌝ }
+    {
+        State {
+            value: self.value,
+            stored: self.stored,
+            listens: self.listens,
+            informs: self.informs,
+            view: self.view.digits,
+            bars: bars,
+        }
+    }
+
     // A message is handed over.
     pub fn receive(self, own: Own, bans: &[u64], bars: Bars, from: u8, m: Message) -> Step
         requires { ⌜ Able own (now bans) ⌝ }
         requires { ⌜ RecordFits anyValue (selfOf own) (agentOf self) ⌝ }
         requires { ⌜ MessageFits anyValue (selfOf own) (agentOf self) from (messageOf m) ⌝ }
         requires { ⌜ Barring (bansIn (now bans)) (assigned (self .view)) bars ⌝ }
-        ensures { λ r. ⌜ Answers own (bansIn (now (bans .entry))) r (receive (selfOf own) (bansIn (now (bans .entry))) (agentOf self) from (messageOf m)) ⌝ }
+        ensures { λ r. ⌜ StepsAs own (bansIn (now (bans .entry))) r (receive (selfOf own) (bansIn (now (bans .entry))) (agentOf self) from (messageOf m)) ⌝ }
     {
+        let mut nogoods = self.nogoods;
+        let mut backs = [0u64; 11];
+        let s = self.apart(bars);
         let t = match m {
-            Message::Info(v) => self.on_info(own, bans, bars, from, v),
-            Message::Back(v, lhs) => self.on_back(own, bans, bars, from, lhs.unpack(), v),
-            Message::AddLink => self.on_add_link(own, bars, from),
+            Message::Info(v) => s.on_info(own, &nogoods, bans, from, v),
+            Message::Back(v, lhs) => s.on_back(
+                own,
+                &mut nogoods,
+                bans,
+                from,
+                lhs.unpack().digits,
+                v,
+            ),
+            Message::AddLink => s.on_add_link(own, from),
         };
-        let a = t.agent;
-        let seen = t.bars;
+        let state = t.state;
+        let mut done = state.telling(t.told);
         if t.chooses {
-            return a.settle(own, seen, t.links);
+            done = state.settle(own, &mut nogoods, &mut backs, t.links);
         }
-        a.telling(seen, t.told, t.value)
+        let end = done.state;
+        let now = end.bars;
+        let posts = done.posts;
+        Step {
+            agent: Agent {
+                value: end.value,
+                stored: end.stored,
+                listens: end.listens,
+                informs: end.informs,
+                view: Lhs { digits: end.view },
+                nogoods: nogoods,
+            },
+            posts: posts,
+            backs: backs,
+            bars: now,
+            verdict: done.verdict,
+        }
     }
 
-    // The start: "All views are unknown, each scanner chooses." Nothing is known, so nothing is barred and the lowest value is free.
-    pub fn begin(own: Own, listens: u16, informs: u16) -> Step
-        requires { ⌜ Sized own ⌝ }
+    // The start: "All views are unknown, each scanner chooses." Nothing is known, so nothing is barred, the lowest value is free, and an Info of it goes
+    // to all that are informed.
+    pub fn begin(own: Own, listens: u16, informs: u16) -> Agent
+        requires { ⌜ OwnFits own ⌝ }
         requires { ⌜ Below own informs ⌝ }
-        ensures { λ r. ⌜ ((bans : Bans) → Answers own bans r (begin (selfOf own) bans (members listens) (members informs))) ⌝ }
-        ensures { λ r. ⌜ (r .outbox .links ≡ 0) × (r .outbox .count ≡ 0) ⌝ }
+        ensures { λ r. ⌜ ((bans : Bans) → BeginsAs r (begin (selfOf own) bans (members listens) (members informs))) ⌝ }
     {
-        let a = Agent {
+        Agent {
             value: 1,
             stored: 0,
             listens: listens,
             informs: informs,
             view: Lhs { digits: 0 },
             nogoods: [0; 8],
-        };
-        a.telling(Bars { low: 0, high: 0 }, informs, 1)
+        }
     }
 }

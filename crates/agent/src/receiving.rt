@@ -1,187 +1,167 @@
 // Document 01's rules 'News' (Info), 'Refusal' (Back) and 'Link request' (AddLink): what an agent does with a message before it chooses, if it has to.
 ghost use mathlib.Core.Path.{_≡_};
 ghost use mathlib.Core.Bool.{false};
-ghost use Prim.Native.Nat.{ℕ, _+_, _-_, _≤_, _<_};
-ghost use Rattle.base.specs.Finite.{allTo};
-ghost use Rattle.agent_rules.specs.Agent.{Bans};
+ghost use mathlib.Core.List.{List};
+ghost use Prim.Native.Nat.{ℕ, _≤_, _<_};
 ghost use Rattle.agent_rules.specs.Message.{Info as Info′, Back as Back′, AddLink as AddLink′};
-ghost use Rattle.agent_rules.specs.Receiving.{quiet, onInfo, unheard, accepting, onBack, onAddLink};
-ghost use Rattle.agent_rules.specs.Shape.{RecordFits, MessageFits, anyValue};
-ghost use Rattle.packed.specs.Packed.{members};
-ghost use Rattle.agent.specs.Abstract.{assigned, newsTo, agentOf, selfOf, bansIn};
-ghost use Rattle.agent.specs.Entries.{Able, Above, Below, Barring, Answers};
-ghost use Rattle.agent.specs.Parts.{Takes, matching, Upward};
-use crate::Agent;
+ghost use Rattle.agent_rules.specs.Receiving.{onInfo, onBack, onAddLink};
+ghost use Rattle.packed.specs.Packed.{assignment};
+ghost use Rattle.agent.specs.Abstract.{selfOf, bansIn};
+ghost use Rattle.agent.specs.Entries.{Able, ViewFits, Barring};
+ghost use Rattle.agent.specs.Parts.{agentIn, Handed, Listening, Hears, Takes};
 use crate::Bars;
-use crate::Lhs;
-use crate::Outbox;
 use crate::Own;
-use crate::Step;
+use crate::State;
 use crate::Taken;
 use crate::barring::barred_at;
+use crate::choosing::sparing;
 use packed::add;
+use packed::digit;
+use packed::first_digit;
 use packed::has;
+use packed::with_digit;
+use packed::within;
 
-impl Lhs {
-    // Each agent above that this left side names and that is listened to has that value in the view. "Unknown does not match."
-    fn matches(self, own: Own, listens: u16, view: Lhs) -> bool
-        requires { ⌜ (1 ≤ own .number) × (own .number ≤ 12) ⌝ }
-        ensures { λ r. ⌜ r ≡ allTo (own .number - 1) (matching (assigned self) listens (assigned view)) ⌝ }
-    {
-        let mut k = own.number - 1;
-        while 0 < k {
-            let u = self.value_of(k);
-            let seen = view.value_of(k);
-            let same = (u == 0) | !has(listens, k) | (u == seen);
-            if !same {
-                return false;
-            }
-            k -= 1;
-        }
-        true
-    }
+// What a left side says to an agent: whether it holds; if so, whom of it the agent does not listen to, and its view with their values, with what that bars.
+struct Heard {
+    pub holds: bool,
+    pub links: u16,
+    pub view: u64,
+    pub bars: Bars,
 }
 
-impl Agent {
-    // The agent as it is, that sends an Info of a value to the agents of a set and nothing else.
-    pub(crate) fn telling(self, bars: Bars, told: u16, value: u8) -> Step
-        ensures { λ r. ⌜ ((own : Own) (bans : Bans) → Below own told → Barring bans (assigned (self .view)) bars → Answers own bans r (quiet (agentOf self) (newsTo value told))) ⌝ }
-        ensures { λ r. ⌜ (r .outbox .links ≡ 0) × (r .outbox .count ≡ 0) ⌝ }
-    {
-        let outbox = Outbox {
-            backs: [0; 11],
-            links: 0,
-            told: told,
-            value: value,
-            count: 0,
-        };
-        Step {
-            agent: self,
-            bars: bars,
-            outbox: outbox,
-            verdict: false,
-        }
-    }
-
+impl State {
     // The agent as it is need not choose, and tells its value to the agents of a set.
-    fn done(self, bars: Bars, told: u16) -> Taken
-        ensures { λ r. ⌜ r ≡ (record { agent = self; bars = bars; chooses = false; links = 0; told = told; value = self .value }) ⌝ }
+    fn done(self, told: u16) -> Taken
+        ensures { λ r. ⌜ r ≡ (record { state = self; chooses = false; links = 0; told = told }) ⌝ }
     {
         Taken {
-            agent: self,
-            bars: bars,
+            state: self,
             chooses: false,
             links: 0,
             told: told,
-            value: self.value,
         }
     }
 
-    // "Update the view, drop reasons that disagree with it. If the own slot is now banned, choose; else nothing."
-    pub(crate) fn on_info(self, own: Own, bans: &[u64], bars: Bars, from: u8, v: u8) -> Taken
-        requires { ⌜ Able own (now bans) ⌝ }
-        requires { ⌜ RecordFits anyValue (selfOf own) (agentOf self) ⌝ }
-        requires { ⌜ MessageFits anyValue (selfOf own) (agentOf self) from (Info′ v) ⌝ }
-        requires { ⌜ Barring (bansIn (now bans)) (assigned (self .view)) bars ⌝ }
-        ensures { λ r. ⌜ Takes own (bansIn (now (bans .entry))) r (onInfo (selfOf own) (bansIn (now (bans .entry))) (agentOf self) from v) ⌝ }
+    // "Update the view, drop reasons that disagree with it. If the own slot is now banned, choose; else nothing." What nogoods name has its value in the
+    // view: they can be left alone where that value stays, and where there was none.
+    pub(crate) fn on_info(
+        self,
+        own: Own,
+        nogoods: &[u64; 8],
+        bans: &[u64],
+        from: u8,
+        v: u8,
+    ) -> Taken
+        requires { ⌜ Handed own (now bans) self (now nogoods) from (Info′ v) ⌝ }
+        ensures { λ r. ⌜ Takes own (bansIn (now (bans .entry))) r (now (nogoods .entry)) (onInfo (selfOf own) (bansIn (now (bans .entry))) (agentIn self (now (nogoods .entry))) from v) ⌝ }
     {
-        let seen = bars.with(from, barred_at(bans[from as usize - 1], v));
+        let mut s = self;
+        let old = digit(self.view, from);
+        if (old != 0) & (old != v) {
+            s.stored = self.stored & sparing(nogoods, from);
+        }
+        s.view = with_digit(self.view, from, v);
+        let bars = self.bars;
+        let now = bars.with(from, barred_at(bans[from as usize - 1], v));
+        s.bars = now;
         Taken {
-            agent: self.seeing(own, from, v),
-            bars: seen,
-            chooses: (seen.all() >> (self.value - 1)) % 2 == 1,
+            state: s,
+            chooses: now.bars(self.value),
             links: 0,
             told: 0,
-            value: 0,
         }
     }
 
-    // The set of the left-side agents that are not listened to.
-    fn unheard(self, own: Own, lhs: Lhs) -> u16
-        requires { ⌜ (1 ≤ own .number) × (own .number ≤ 12) × Upward own (assigned lhs) ⌝ }
-        ensures { λ r. ⌜ Above own r × ((k : ℕ) → 1 ≤ k → k ≤ 16 → members r k ≡ unheard (agentOf self) (assigned lhs) k) ⌝ }
+    // "each left-side scanner that the receiver listens to has that slot in its view"; "Unknown does not match." A walk along the left side, which can be
+    // left out where the view has all of it.
+    fn hear(self, own: Own, bans: &[u64], lhs: u64) -> Heard
+        requires { ⌜ Able own (now bans) ⌝ }
+        requires { ⌜ Listening self ⌝ }
+        requires { ⌜ ViewFits own (assignment lhs) ⌝ }
+        requires { ⌜ Barring (bansIn (now bans)) (assignment (self .view)) (self .bars) ⌝ }
+        ensures { λ r. ⌜ Hears own (bansIn (now (bans .entry))) self (assignment lhs) r ⌝ }
     {
-        let mut set: u16 = 0;
-        let mut k: u8 = 0;
-        while k + 1 < own.number {
-            k += 1;
-            if (lhs.value_of(k) != 0) & !has(self.listens, k) {
-                set = add(set, k);
+        let bars = self.bars;
+        let mut h = Heard {
+            holds: true,
+            links: 0,
+            view: self.view,
+            bars: bars,
+        };
+        if within(lhs, self.view) {
+            return h;
+        }
+        let mut rest = lhs;
+        while rest != 0 {
+            let k = first_digit(rest);
+            let u = digit(rest, k);
+            rest = with_digit(rest, k, 0);
+            if has(self.listens, k) {
+                if digit(self.view, k) != u {
+                    h.holds = false;
+                    return h;
+                }
+            } else {
+                h.links = add(h.links, k);
+                h.view = with_digit(h.view, k, u);
+                let old = h.bars;
+                let now = old.with(k, barred_at(bans[k as usize - 1], u));
+                h.bars = now;
             }
         }
-        set
+        h
     }
 
-    // ".. listen to it, put its slot into the view. Then store the left side as the reason, clear the slot"
-    fn accepting(self, own: Own, lhs: Lhs, v: u8) -> Agent
-        requires { ⌜ (1 ≤ own .number) × (own .number ≤ 12) × (1 ≤ v) × (v ≤ 8) × Upward own (assigned lhs) ⌝ }
-        ensures { λ r. ⌜ agentOf r ≡ accepting (agentOf self) (assigned lhs) v ⌝ }
-    {
-        let mut a = self;
-        let mut k: u8 = 0;
-        while k + 1 < own.number {
-            k += 1;
-            let u = lhs.value_of(k);
-            if (u != 0) & !has(self.listens, k) {
-                a.listens = add(a.listens, k);
-                a.view = a.view.with(k, u);
-            }
-        }
-        a.value = 0;
-        let i = v - 1;
-        a.nogoods[i as usize] = lhs.digits;
-        a.stored = a.stored | (1u8 << i);
-        a
-    }
-
-    // A Back: "It holds if the refused slot is the receiver's slot and each left-side scanner that the receiver listens to has that slot in its
-    // view." Then it is stored and the agent chooses. "If it does not hold: where the refused slot is the own slot, send news to the sender;
-    // otherwise nothing."
+    // A Back: "It holds if the refused slot is the receiver's slot and each left-side scanner that the receiver listens to has that slot in its view." Then
+    // "for each left-side scanner not listened to, upward, send a link request, listen to it, put its slot into the view. Then store the left side as the
+    // reason, clear the slot, choose. If it does not hold: where the refused slot is the own slot, send news to the sender; otherwise nothing."
     pub(crate) fn on_back(
         self,
         own: Own,
+        nogoods: &mut [u64; 8],
         bans: &[u64],
-        bars: Bars,
         from: u8,
-        lhs: Lhs,
+        lhs: u64,
         v: u8,
     ) -> Taken
-        requires { ⌜ Able own (now bans) ⌝ }
-        requires { ⌜ RecordFits anyValue (selfOf own) (agentOf self) ⌝ }
-        requires { ⌜ MessageFits anyValue (selfOf own) (agentOf self) from (Back′ (assigned lhs) v) ⌝ }
-        requires { ⌜ Barring (bansIn (now bans)) (assigned (self .view)) bars ⌝ }
-        ensures { λ r. ⌜ Takes own (bansIn (now (bans .entry))) r (onBack (selfOf own) (bansIn (now (bans .entry))) (agentOf self) from (assigned lhs) v) ⌝ }
+        requires { ⌜ Handed own (now bans) self (now nogoods) from (Back′ (assignment lhs) v) ⌝ }
+        ensures { λ r. ⌜ Takes own (bansIn (now (bans .entry))) r (now (nogoods .exit)) (onBack (selfOf own) (bansIn (now (bans .entry))) (agentIn self (now (nogoods .entry))) from (assignment lhs) v) ⌝ }
     {
         if v != self.value {
-            return self.done(bars, 0);
+            return self.done(0);
         }
-        if !lhs.matches(own, self.listens, self.view) {
-            return self.done(bars, add(0, from));
+        let h = self.hear(own, bans, lhs);
+        if !h.holds {
+            return self.done(add(0, from));
         }
-        let links = self.unheard(own, lhs);
-        let a = self.accepting(own, lhs, v);
-        let mut seen = bars;
-        if links != 0 {
-            seen = Bars::of(a.view, own, bans);
-        }
-        Taken {
-            agent: a,
-            bars: seen,
-            chooses: true,
-            links: links,
-            told: 0,
+        let i = v - 1;
+        let place = 1u8 << i;
+        nogoods[i as usize] = lhs;
+        let bars = h.bars;
+        let state = State {
             value: 0,
+            stored: self.stored | place,
+            listens: self.listens | h.links,
+            informs: self.informs,
+            view: h.view,
+            bars: bars,
+        };
+        Taken {
+            state: state,
+            chooses: true,
+            links: h.links,
+            told: 0,
         }
     }
 
     // "Inform the sender from now on and send it news."
-    pub(crate) fn on_add_link(self, own: Own, bars: Bars, from: u8) -> Taken
-        requires { ⌜ RecordFits anyValue (selfOf own) (agentOf self) ⌝ }
-        requires { ⌜ MessageFits anyValue (selfOf own) (agentOf self) from AddLink′ ⌝ }
-        ensures { λ r. ⌜ ((bans : Bans) → Barring bans (assigned (self .view)) bars → Takes own bans r (onAddLink (agentOf self) from)) ⌝ }
+    pub(crate) fn on_add_link(self, own: Own, from: u8) -> Taken
+        requires { ⌜ (own .number < from) × (from ≤ 12) ⌝ }
+        ensures { λ r. ⌜ ((bans nogoods : List ℕ) → Handed own bans self nogoods from AddLink′ → Takes own (bansIn bans) r nogoods (onAddLink (agentIn self nogoods) from)) ⌝ }
     {
-        let mut a = self;
-        a.informs = add(self.informs, from);
-        a.done(bars, add(0, from))
+        let mut s = self;
+        s.informs = add(self.informs, from);
+        s.done(add(0, from))
     }
 }

@@ -7,10 +7,8 @@ use mathlib.Core.Bool.{false}
 use Prim.Native.Nat.{ℕ}
 use Rattle.agent_rules.specs.Message.{Assignment, Back, sentTo}
 use Rattle.agent_rules.specs.Agent.{Self, Bans, Agent, Step}
-use Rattle.agent_rules.specs.Receiving.{chooses}
-use Rattle.agent_facts.proofs.Facts.{Facts}
+use Rattle.agent_facts.specs.Facts.{Facts}
 
 pub told-again : (S : Assignment → Type 0) (s : Self) (bans : Bans) (a : Agent) (from : ℕ) (lhs : Assignment) (v : ℕ) (t : Step)
-    → Facts S s bans a from (Back lhs v) t → v ≡ a .value → chooses s bans a from (Back lhs v) ≡ false
-    → sentTo from (t .sent) ≢ []
+    → (F : Facts S s bans a from (Back lhs v) t) → v ≡ a .value → F .chooses ≡ false → sentTo from (t .sent) ≢ []
 told-again S s bans a from lhs v t F e c = F .quiet c .answers (inr e)

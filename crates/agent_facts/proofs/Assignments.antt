@@ -1,19 +1,24 @@
--- What is known in an assignment, and of how many agents.
+-- What is known in an assignment, which agents are above, and of how many agents something is known.
 -- Forgetting one agent makes the number of known ones less by one: this is what bounds backing up.
-use mathlib.Core.Path.{_≡_, refl, sym}
-use mathlib.Core.Bool.{true, false, cond}
+use mathlib.Core.Path.{_≡_, refl, sym, _∙_}
+use mathlib.Core.Bool.{true, false, cond, false≢true}
 use Prim.Native.Nat.{ℕ, zero, suc, pred, _+_, _≤_, _<_}
 use native.Mathlib.Omega.{arith}
 use borrow.Author.Tests.{ltb-false}
 use Rattle.base.specs.Finite.{at}
 use Rattle.base.proofs.Tests.{test, eq-test}
 use Rattle.base.proofs.Search.{at-same, at-other}
+use Rattle.problem.specs.Problem.{maxAgents}
 use Rattle.agent_rules.specs.Message.{Assignment, known}
 use Rattle.agent_rules.specs.Agent.{Self, above}
+use Rattle.agent_rules.specs.Shape.{maxNamed}
+
+pub known-zero : known 0 ≡ false
+unfolding known
+known-zero = refl
 
 pub unknown : {X : Type 0} → known 0 ≡ true → X
-unfolding known
-unknown e = let z : _≡_ {A = ℕ} 0 1 = cc in absurd (omega arith)
+unknown e = absurd (false≢true (sym known-zero ∙ e))
 
 pub unknown-zero : (v : ℕ) → known v ≡ false → v ≡ 0
 unfolding known
@@ -21,12 +26,16 @@ unknown-zero v e = omega (arith, ltb-false 0 v e)
 
 -- ---- the agents above
 
-above-is : (s : Self) → above s ≡ pred (s .number)
+pub above-is : (s : Self) → above s ≡ pred (s .number)
 unfolding above
 above-is s = refl
 
 pub to-above : (s : Self) (k : ℕ) → k < s .number → k ≤ above s
 to-above s k h = omega (arith, above-is s)
+
+pub agents-named : maxAgents ≤ maxNamed
+unfolding maxAgents maxNamed
+agents-named = omega arith
 
 pub from-above : (s : Self) (k : ℕ) → 1 ≤ s .number → k ≤ above s → k < s .number
 from-above s k l h = omega (arith, above-is s)

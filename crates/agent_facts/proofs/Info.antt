@@ -4,43 +4,20 @@ use mathlib.Core.Path.{_≡_, refl, sym, _∙_, subst}
 use mathlib.Core.Logic.{inl, ⊎-elim}
 use mathlib.Core.List.{[]}
 use mathlib.Core.Bool.{true, false, false≢true}
-use mathlib.Core.Option.{Option, none, some}
-use Prim.Native.Nat.{ℕ, _≤_, _<_}
-use borrow.Author.Tests.{eqb-true, eq-eqb}
+use Prim.Native.Nat.{ℕ}
 use Rattle.base.specs.Finite.{at, isSome}
-use Rattle.base.proofs.Tests.{test, no-some, isSome-false, isSome-true, eq-test}
-use Rattle.base.proofs.Search.{allTo-at, to-allTo, at-other}
-use Rattle.agent_rules.specs.Message.{Assignment, known, Info, sentTo}
-use Rattle.agent_rules.specs.Agent.{Self, Bans, Agent, Step, above, agrees}
-use Rattle.agent_rules.specs.Choosing.{blame, checkView}
-use Rattle.agent_rules.specs.Receiving.{quiet, keepIf, agreeing, updated, conflicts, onInfo, chooses}
-use Rattle.agent_facts.proofs.Messages.{IsBack, one-put}
-use Rattle.agent_facts.proofs.Facts.{Setting, Good, Quiet, Facts}
-use Rattle.agent_facts.proofs.Assignments.{to-above}
-use Rattle.agent_facts.proofs.Walk.{blame-some, blame-none}
-use Rattle.agent_facts.proofs.Settling.{Ready, Settled, checks, settled-sends, settled-links}
-
--- ---- agreeing with a view
-
-agreeing-some : (s : Self) (view : Assignment) (o : Option Assignment) (lhs : Assignment) → agreeing s view o ≡ some lhs
-    → (o ≡ some lhs) × (agrees s view lhs ≡ true)
-unfolding agreeing keepIf
-agreeing-some s view none lhs e = no-some e
-agreeing-some s view (some l) lhs e =
-    test (agrees s view l)
-    (λ u. let z : some l ≡ some lhs = rw u at e in let y : l ≡ lhs = cc in (z, rw (← y) u))
-    (λ u. no-some (rw u at e))
-
-agrees-at : (s : Self) (view lhs : Assignment) → agrees s view lhs ≡ true → (k : ℕ) → 1 ≤ k → k < s .number → known (lhs k) ≡ true
-    → lhs k ≡ view k
-unfolding agrees
-agrees-at s view lhs e k l h n = eqb-true (lhs k) (view k) (rw n at (allTo-at (above s) _ e k l (to-above s k h)))
-
-to-agrees : (s : Self) (view lhs : Assignment) → ((k : ℕ) → known (lhs k) ≡ true → lhs k ≡ view k) → agrees s view lhs ≡ true
-unfolding agrees
-to-agrees s view lhs f =
-    to-allTo (above s) _
-    (λ k l h. test (known (lhs k)) (λ n. rw n (eq-eqb (lhs k) (view k) (f k n))) (λ n. rw n))
+use Rattle.base.proofs.Tests.{test, isSome-true, eq-test}
+use Rattle.base.proofs.Search.{at-other}
+use Rattle.agent_rules.specs.Message.{Assignment, Info, sentTo}
+use Rattle.agent_rules.specs.Agent.{Self, Bans, Agent, Step}
+use Rattle.agent_rules.specs.Choosing.{checkView}
+use Rattle.agent_rules.specs.Receiving.{quiet, keepIf, agreeing, updated, conflicts, onInfo}
+use Rattle.agent_facts.specs.Messages.{IsBack}
+use Rattle.agent_facts.specs.Facts.{Setting, Good, Quiet, Facts}
+use Rattle.agent_facts.proofs.LeftSides.{agrees-at, to-agrees, agreeing-some}
+use Rattle.agent_facts.proofs.Walk.{conflicts-true, conflicts-false}
+use Rattle.agent_facts.proofs.Links.{SameLinks, check-same}
+use Rattle.agent_facts.proofs.Choosing.{Ready, ValueTaken, checks, taken-sends}
 
 -- ---- the record with the news
 
@@ -79,51 +56,43 @@ module _ (S : Assignment → Type 0) (s : Self) (bans : Bans) (a : Agent) (from 
 
   info-stays : conflicts s bans (at (a .view) from v) (a .value) ≡ false
       → Facts S s bans a from (Info v) (quiet (updated s a from v) [])
-  unfolding quiet updated agreeing conflicts chooses
+  unfolding quiet updated agreeing
   info-stays c =
       let R = updated-ready in
       record {
         good = record {
           low = G .low;
           high = G .high;
-          free = blame-none s bans (at (a .view) from v) (problem .upward) (a .value) (isSome-false _ c);
+          free = conflicts-false s bans (at (a .view) from v) (problem .upward) (a .value) c;
           fresh = rw (G .fresh);
           agree = R .sound .agree;
           implied = R .sound .implied;
           viewed = R .viewed;
           upward = G .upward;
         };
-        keeps = λ x q. q;
-        informs = λ y q. q;
-        joins = λ q. absurd q;
-        joined = λ y q. inl q;
+        chooses = false;
         quiet = λ _. info-quiet;
-        busy = λ q. absurd (false≢true (sym c ∙ q));
+        busy = λ q. absurd (false≢true q);
         must = λ lhs w e. absurd (subst IsBack (sym e) tt);
       }
 
   -- ---- it is
 
-  info-chooses : conflicts s bans (at (a .view) from v) (a .value) ≡ true → (t : Step) → Settled S s bans (updated s a from v) t
-      → Facts S s bans a from (Info v) t
-  unfolding updated conflicts chooses
-  info-chooses c t T =
+  info-chooses : conflicts s bans (at (a .view) from v) (a .value) ≡ true → (t : Step) → ValueTaken S s bans (updated s a from v) t
+      → SameLinks (updated s a from v) t → Facts S s bans a from (Info v) t
+  unfolding updated
+  info-chooses c t T L =
       record {
         good = T .good;
-        keeps = λ x q. rw (T .listens) q;
-        informs = λ y q. rw (T .informs) q;
-        joins = λ q. absurd q;
-        joined = λ y q. inl (rw (T .informs) at q);
-        quiet = λ q. absurd (false≢true (sym q ∙ c));
+        chooses = true;
+        quiet = λ q. absurd (false≢true (sym q));
         busy = λ _. record {
-          why = let (k, e) = isSome-true (blame s bans (at (a .view) from v) (a .value)) c in (k, blame-some s bans _ (a .value) k e);
+          why = conflicts-true s bans (at (a .view) from v) (a .value) c;
           view = T .view;
-          listens = λ x q. inl (rw (T .listens) at q);
-          asks = λ x n q. absurd (false≢true (sym n ∙ rw (T .listens) at q));
+          asks = λ x n q. absurd (false≢true (sym n ∙ rw (L .listens) at q));
           sent = λ y.
-              settled-sends S a (updated s a from v) from (Info v) t (λ x. refl) refl (T .listens) y
+              taken-sends S a (updated s a from v) from (Info v) t (λ x. refl) refl (L .listens) y
               (sentTo y (t .sent)) (T .sent y);
-          once = λ y. one-put [] (sentTo y (t .sent)) tt (settled-links S (updated s a from v) y (sentTo y (t .sent)) (T .sent y));
           tells = λ y l h q. inl (T .tells y l h q);
           grows = λ q. absurd q;
         };
@@ -138,7 +107,8 @@ module _ (S : Assignment → Type 0) (s : Self) (bans : Bans) (a : Agent) (from 
       test (conflicts s bans (at (a .view) from v) (a .value))
       (λ c. rw (c, onInfo)
       (info-chooses c (checkView s bans (updated s a from v))
-      (checks S s bans problem (updated s a from v) updated-ready .settled (rw (c, onInfo) at z))))
+      (checks S s bans problem (updated s a from v) updated-ready .taken (rw (c, onInfo) at z))
+      (check-same s bans (updated s a from v))))
       (λ c. rw (c, onInfo) (info-stays c))
 
   pub info-ends : onInfo s bans a from v .verdict ≡ true → (σ : Assignment) → S σ → ⊥

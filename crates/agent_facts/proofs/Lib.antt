@@ -1,11 +1,15 @@
 pub mod Messages
-pub mod Facts
-mod Assignments
+pub mod Assignments
 mod Posts
+mod LeftSides
 mod Walk
 mod Reasons
-mod Settling
+mod Links
+mod Choosing
 mod Info
 mod Back
+mod ChoosingFits
+mod Fits
+mod Begin
 pub mod Agent
 pub mod Answered

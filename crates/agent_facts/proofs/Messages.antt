@@ -1,4 +1,4 @@
--- Messages: their sorts, what is sent to whom, and what a view comes to once the Infos of a channel are in.
+-- Laws of messages: what is sent to whom, what a view comes to once the Infos of a channel are in, and at most one link request.
 use mathlib.Core.Path.{_≡_, refl}
 use mathlib.Core.Logic.{_⊎_, inl, inr}
 use mathlib.Core.List.{List, [], _∷_, _++_}
@@ -7,43 +7,19 @@ use lib.Dec.{eqb}
 use Rattle.base.proofs.Tests.{test}
 use Rattle.base.proofs.Lists.{All, All-append}
 use Rattle.agent_rules.specs.Message.{Message, Info, Back, AddLink, Post, sentTo}
+use Rattle.agent_facts.specs.Messages.{IsInfo, IsBack, IsAddLink, Not, Tells, afterOne, seen, OneLink}
 
 -- ---- sorts
-
-abbrev pub IsInfo : Message → Type 0
-IsInfo (Info v) = Unit {0}
-IsInfo (Back lhs v) = ⊥
-IsInfo AddLink = ⊥
-
-abbrev pub IsBack : Message → Type 0
-IsBack (Info v) = ⊥
-IsBack (Back lhs v) = Unit {0}
-IsBack AddLink = ⊥
-
-abbrev pub IsAddLink : Message → Type 0
-IsAddLink (Info v) = ⊥
-IsAddLink (Back lhs v) = ⊥
-IsAddLink AddLink = Unit {0}
-
-abbrev pub Not : (Message → Type 0) → Message → Type 0
-Not P m = P m → ⊥
-
--- an Info of value v
-abbrev pub Tells : ℕ → Message → Type 0
-Tells v (Info w) = w ≡ v
-Tells v (Back lhs w) = ⊥
-Tells v AddLink = ⊥
-
--- a Back that refuses value v
-abbrev pub Refuses : ℕ → Message → Type 0
-Refuses v (Info w) = ⊥
-Refuses v (Back lhs w) = w ≡ v
-Refuses v AddLink = ⊥
 
 pub addlink-not-info : (m : Message) → IsAddLink m → IsInfo m → ⊥
 addlink-not-info (Info v) a b = a
 addlink-not-info (Back lhs v) a b = a
 addlink-not-info AddLink a b = b
+
+pub back-not-info : (m : Message) → IsBack m → IsInfo m → ⊥
+back-not-info (Info v) a b = a
+back-not-info (Back lhs v) a b = b
+back-not-info AddLink a b = a
 
 -- ---- what a list of posts puts on a channel
 
@@ -54,16 +30,6 @@ sentTo-append y (p ∷ ps) qs =
     test (eqb y (p .to)) (λ e. rw (e, sentTo, sentTo-append y ps qs)) (λ e. rw (e, sentTo) (sentTo-append y ps qs))
 
 -- ---- what a view comes to
-
-unfoldable pub afterOne : ℕ → Message → ℕ
-afterOne v (Info w) = w
-afterOne v (Back lhs w) = v
-afterOne v AddLink = v
-
--- a view v of the sender, once all Infos of the list are in
-unfoldable pub seen : ℕ → List Message → ℕ
-seen v [] = v
-seen v (m ∷ ms) = seen (afterOne v m) ms
 
 pub seen-append : (v : ℕ) (l r : List Message) → seen v (l ++ r) ≡ seen (seen v l) r
 unfolding seen
@@ -96,12 +62,6 @@ seen-tells w (m ∷ ms) h = inr (λ v. go m ms v (h .0) (h .1))
     go AddLink ms v a h = absurd a
 
 -- ---- at most one link request
-
-abbrev pub OneLink : List Message → Type 0
-OneLink [] = Unit {0}
-OneLink (Info v ∷ ms) = OneLink ms
-OneLink (Back lhs v ∷ ms) = OneLink ms
-OneLink (AddLink ∷ ms) = All (Not IsAddLink) ms
 
 pub one-put : (l q : List Message) → OneLink l → All (Not IsAddLink) q → OneLink (l ++ q)
 one-put [] [] h g = tt

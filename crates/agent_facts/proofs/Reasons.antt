@@ -2,18 +2,19 @@
 -- Where every own value has one, no assignment that counts extends the join of their left sides: so a Back made of it is implied.
 use mathlib.Core.Path.{_≡_, refl, sym, ap, _∙_}
 use mathlib.Core.Logic.{⊎-elim}
-use mathlib.Core.Bool.{true, false, false≢true}
-use mathlib.Core.Option.{Option, none, some}
+use mathlib.Core.Bool.{true, false≢true}
+use mathlib.Core.Option.{some}
 use Prim.Native.Nat.{ℕ, zero, suc, _≤_}
 use native.Mathlib.Omega.{arith}
 use Rattle.base.specs.Finite.{at, isSome}
-use Rattle.base.proofs.Tests.{test, opt, no-some, isSome-true, within-true, eq-test}
+use Rattle.base.proofs.Tests.{test, opt, isSome-true, within-true, eq-test}
 use Rattle.base.proofs.Search.{at-same, at-other}
 use Rattle.agent_rules.specs.Message.{Assignment, known, nobody}
 use Rattle.agent_rules.specs.Agent.{Self, Bans, Nogoods}
-use Rattle.agent_rules.specs.Choosing.{only, Choice, join, lhsOf, union, dropIf, without}
-use Rattle.agent_facts.proofs.Facts.{Barred, Extends, Excludes, Setting}
+use Rattle.agent_rules.specs.Choosing.{only, Choice, join, lhsOf, union, without}
+use Rattle.agent_facts.specs.Facts.{Barred, Extends, Excludes, Setting}
 use Rattle.agent_facts.proofs.Assignments.{unknown}
+use Rattle.agent_facts.proofs.LeftSides.{without-some, forgotten}
 use Rattle.agent_facts.proofs.Walk.{Walked}
 
 -- nogoods that agree with a view and are implied
@@ -28,7 +29,7 @@ unfolding only nobody
 only-known j v k h =
     eq-test k j (λ u. (u, rw u (at-same nobody j v))) (λ u. unknown (rw (at-other nobody j v k u) at h))
 
-only-agrees : (view : Assignment) (j : ℕ) (lhs : Assignment) → only j (view j) ≡ lhs
+pub only-agrees : (view : Assignment) (j : ℕ) (lhs : Assignment) → only j (view j) ≡ lhs
     → (k : ℕ) → known (lhs k) ≡ true → lhs k ≡ view k
 only-agrees view j lhs e k h = let (q, o) = only-known j (view j) k (rw (← e) at h) in rw (← e) (o ∙ ap view (sym q))
 
@@ -43,28 +44,28 @@ module _ (S : Assignment → Type 0) (s : Self) (bans : Bans) (problem : Setting
       false≢true (sym (rw (σ-j, at-v) at (problem .respects σ counts .obeys j)) ∙ b .1)
 
   pub walked-sound : (view : Assignment) (m v : ℕ) (before : Nogoods) (c : Choice)
-      → Sound S s view before → Walked bans view m v before c → Sound S s view (c .nogoods)
+      → Sound S s view before → Walked s bans view m v before c → Sound S s view (c .nogoods)
   walked-sound view m v before c N W =
       record {
         agree = λ w lhs e.
-            ⊎-elim (λ q. N .agree w lhs q) (λ (j, b, q). only-agrees view j lhs q) (W .given w lhs e);
+            ⊎-elim (λ q. N .agree w lhs q) (λ (_, _, j, b, q). only-agrees view j lhs q) (W .given w lhs e);
         implied = λ w lhs e.
-            ⊎-elim (λ q. N .implied w lhs q) (λ (j, b, q). only-implied view w j b lhs q) (W .given w lhs e);
+            ⊎-elim (λ q. N .implied w lhs q) (λ (_, _, j, b, q). only-implied view w j b lhs q) (W .given w lhs e);
       }
 
 -- ---- the join
 
 pub union-view : (m : ℕ) (nogoods : Nogoods) (view : Assignment) (k : ℕ)
-    → ((v : ℕ) (lhs : Assignment) → nogoods v ≡ some lhs → known (lhs k) ≡ true → lhs k ≡ view k)
+    → ((v : ℕ) (lhs : Assignment) → 1 ≤ v → v ≤ m → nogoods v ≡ some lhs → known (lhs k) ≡ true → lhs k ≡ view k)
     → known (union m nogoods k) ≡ true → union m nogoods k ≡ view k
 unfolding union join lhsOf nobody
 union-view zero nogoods view k agree h = unknown h
 union-view (suc m) nogoods view k agree h =
     test (known (union m nogoods k))
-    (λ e. rw e (union-view m nogoods view k agree e))
+    (λ e. rw e (union-view m nogoods view k (λ v lhs l u. agree v lhs l (omega arith)) e))
     (λ e. opt (nogoods (suc m))
     (λ n. unknown (rw (e, n) at h))
-    (λ lhs n. rw (e, n) (agree (suc m) lhs n (rw (e, n) at h))))
+    (λ lhs n. rw (e, n) (agree (suc m) lhs (omega arith) (omega arith) n (rw (e, n) at h))))
 
 union-names : (m : ℕ) (nogoods : Nogoods) (v : ℕ) (lhs : Assignment) (k : ℕ) → 1 ≤ v → v ≤ m → nogoods v ≡ some lhs
     → known (lhs k) ≡ true → known (union m nogoods k) ≡ true
@@ -78,11 +79,11 @@ union-names (suc m) nogoods v lhs k l u e h =
     (λ w. absurd (false≢true (sym q ∙ union-names m nogoods v lhs k l (omega arith) e h))))
 
 -- every own value has a nogood
-abbrev pub Full : Self → Nogoods → Type 0
-Full s nogoods = (v : ℕ) → 1 ≤ v → v ≤ s .domain → isSome (nogoods v) ≡ true
+abbrev pub NoneFree : Self → Nogoods → Type 0
+NoneFree s nogoods = (v : ℕ) → 1 ≤ v → v ≤ s .domain → isSome (nogoods v) ≡ true
 
 module _ (S : Assignment → Type 0) (s : Self) (bans : Bans) (problem : Setting S s bans) (view : Assignment) (nogoods : Nogoods) where
-  pub no-value : Sound S s view nogoods → Full s nogoods → (σ : Assignment) → S σ → Extends (union (s .domain) nogoods) σ → ⊥
+  pub no-value : Sound S s view nogoods → NoneFree s nogoods → (σ : Assignment) → S σ → Extends (union (s .domain) nogoods) σ → ⊥
   no-value N full σ counts extends =
       let own = σ (s .number) in
       let (l, h) = within-true (s .domain) own (problem .respects σ counts .owned) in
@@ -91,12 +92,12 @@ module _ (S : Assignment → Type 0) (s : Self) (bans : Bans) (problem : Setting
       (λ k n.
       let named = union-names (s .domain) nogoods own lhs k l h e n in
       extends k named
-      ∙ union-view (s .domain) nogoods view k (λ v r q. N .agree v r q k) named
+      ∙ union-view (s .domain) nogoods view k (λ v r _ _ q. N .agree v r q k) named
       ∙ sym (N .agree own lhs e k n))
       refl
 
   -- the Back to agent k
-  pub back-implied : Sound S s view nogoods → Full s nogoods → (k : ℕ)
+  pub back-implied : Sound S s view nogoods → NoneFree s nogoods → (k : ℕ)
       → Excludes S k (union (s .domain) nogoods k) (at (union (s .domain) nogoods) k 0)
   back-implied N full k σ counts extends at-k =
       no-value N full σ counts
@@ -106,22 +107,11 @@ module _ (S : Assignment → Type 0) (s : Self) (bans : Bans) (problem : Setting
 
 -- ---- forgetting
 
-without-some : (k : ℕ) (o : Option Assignment) (lhs : Assignment) → without k o ≡ some lhs → (o ≡ some lhs) × (known (lhs k) ≡ false)
-unfolding without dropIf
-without-some k none lhs e = no-some e
-without-some k (some l) lhs e =
-    test (known (l k))
-    (λ u. no-some (rw u at e))
-    (λ u. let z : some l ≡ some lhs = rw u at e in let y : l ≡ lhs = cc in (z, rw (← y) u))
-
 pub forget-sound : (S : Assignment → Type 0) (s : Self) (view : Assignment) (nogoods : Nogoods) (k : ℕ)
     → Sound S s view nogoods → Sound S s (at view k 0) (λ v. without k (nogoods v))
 forget-sound S s view nogoods k N =
     record {
       agree = λ v lhs e j n.
-          let (stored, away) = without-some k (nogoods v) lhs e in
-          eq-test j k
-          (λ u. absurd (false≢true (sym away ∙ rw u at n)))
-          (λ u. N .agree v lhs stored j n ∙ sym (at-other view k 0 j u));
+          let (stored, away) = without-some k (nogoods v) lhs e in forgotten view lhs k j away n (N .agree v lhs stored j n);
       implied = λ v lhs e. N .implied v lhs (without-some k (nogoods v) lhs e .0);
     }

@@ -2,36 +2,61 @@
 -- A stored nogood stays; a new one names a single agent, whose known value bars the own value.
 use mathlib.Core.Path.{_≡_, refl, sym, _∙_}
 use mathlib.Core.Logic.{_⊎_, inl, inr, ⊎-elim}
-use mathlib.Core.Bool.{true, and-eq-true-iff, false≢true}
+use mathlib.Core.Bool.{true, false, false≢true}
 use mathlib.Core.Option.{Option, none, some}
 use Prim.Native.Nat.{ℕ, zero, suc, _+_, _≤_, _<_}
 use native.Mathlib.Omega.{arith}
-use Rattle.base.specs.Finite.{at, isSome}
-use Rattle.base.proofs.Tests.{opt, no-some, eq-test}
+use Rattle.base.specs.Finite.{at, lowest, isSome}
+use Rattle.base.proofs.Tests.{opt, no-some, isSome-false, isSome-true, both, to-both, eq-test}
 use Rattle.base.proofs.Search.{lowest-some, lowest-none, at-same, at-other}
 use Rattle.agent_rules.specs.Message.{Assignment, known}
 use Rattle.agent_rules.specs.Agent.{Self, Bans, Nogoods, above}
 use Rattle.agent_rules.specs.Choosing.{bars, blame, only, blaming, reasonOf, reason, Choice, choose}
-use Rattle.agent_facts.proofs.Facts.{Barred}
+use Rattle.agent_rules.specs.Receiving.{conflicts}
+use Rattle.agent_facts.specs.Facts.{Barred}
 use Rattle.agent_facts.proofs.Assignments.{to-above}
 
 -- the bans name agents above
 abbrev pub Upward : Self → Bans → Type 0
 Upward s bans = (k v w : ℕ) → bans k v w ≡ true → (1 ≤ k) × (k < s .number)
 
+-- ---- who bars a value
+
+bars-is : (bans : Bans) (view : Assignment) (v k : ℕ) → bars bans view v k ≡ true → Barred bans view v k
+unfolding bars
+bars-is bans view v k e = both (known (view k)) (bans k (view k) v) e
+
+to-bars : (bans : Bans) (view : Assignment) (v k : ℕ) → Barred bans view v k → bars bans view v k ≡ true
+unfolding bars
+to-bars bans view v k b = to-both (known (view k)) (bans k (view k) v) (b .0) (b .1)
+
+-- the own value is banned, or it is not
+pub conflicts-true : (s : Self) (bans : Bans) (view : Assignment) (v : ℕ) → conflicts s bans view v ≡ true
+    → (k : ℕ) × Barred bans view v k
+unfolding conflicts
+conflicts-true s bans view v e =
+    let (k, q) = isSome-true (lowest (above s) 1 (bars bans view v)) e in
+    (k, bars-is bans view v k (lowest-some (above s) 1 (bars bans view v) k q))
+
+pub conflicts-false : (s : Self) (bans : Bans) (view : Assignment) → Upward s bans → (v : ℕ) → conflicts s bans view v ≡ false
+    → (k : ℕ) → Barred bans view v k → ⊥
+unfolding conflicts
+conflicts-false s bans view up v e k b =
+    let (l, h) = up k (view k) v (b .1) in
+    let none = isSome-false _ e in
+    false≢true
+    (sym (lowest-none (above s) 1 (bars bans view v) none k l (omega (arith, to-above s k h))) ∙ to-bars bans view v k b)
+
 -- ---- whom to blame
 
 pub blame-some : (s : Self) (bans : Bans) (view : Assignment) (v k : ℕ) → blame s bans view v ≡ some k → Barred bans view v k
-unfolding blame bars
-blame-some s bans view v k e = and-eq-true-iff (known (view k)) (bans k (view k) v) .0 (lowest-some (above s) 1 (bars bans view v) k e)
+unfolding blame
+blame-some s bans view v k e = bars-is bans view v k (lowest-some (above s) 1 (bars bans view v) k e)
 
-pub blame-none : (s : Self) (bans : Bans) (view : Assignment) → Upward s bans → (v : ℕ) → blame s bans view v ≡ none
-    → (k : ℕ) → Barred bans view v k → ⊥
-unfolding blame bars
-blame-none s bans view up v e k b =
-    let (l, h) = up k (view k) v (b .1) in
-    false≢true
-    (sym (lowest-none (above s) 1 (bars bans view v) e k l (omega (arith, to-above s k h))) ∙ and-eq-true-iff _ _ .1 b)
+-- where nobody is to blame, the value is not banned
+blame-none : (s : Self) (bans : Bans) (view : Assignment) (v : ℕ) → blame s bans view v ≡ none → conflicts s bans view v ≡ false
+unfolding blame conflicts isSome
+blame-none s bans view v e = rw e
 
 -- a value tried is free
 reason-none : (view : Assignment) (o : Option Assignment) (b : Option ℕ) → reasonOf o (blaming view b) ≡ none → (o ≡ none) × (b ≡ none)
@@ -51,34 +76,33 @@ reason-some view (some l) b lhs e = inl e
 -- ---- the walk
 
 -- what a walk over m values from v on, with these nogoods before it, gives
-pub record Walked (bans : Bans) (view : Assignment) (m v : ℕ) (before : Nogoods) (c : Choice) : Type 0 where
+pub record Walked (s : Self) (bans : Bans) (view : Assignment) (m v : ℕ) (before : Nogoods) (c : Choice) : Type 0 where
   pub given : (w : ℕ) (lhs : Assignment) → c .nogoods w ≡ some lhs
-      → (before w ≡ some lhs) ⊎ ((k : ℕ) × Barred bans view w k × (only k (view k) ≡ lhs))
+      → (before w ≡ some lhs) ⊎ ((v ≤ w) × (w < v + m) × (k : ℕ) × Barred bans view w k × (only k (view k) ≡ lhs))
   pub grows : (w : ℕ) → isSome (before w) ≡ true → isSome (c .nogoods w) ≡ true
-  pub taken : (w : ℕ) → c .value ≡ some w
-      → (v ≤ w) × (w < v + m) × (c .nogoods w ≡ none) × ((k : ℕ) → Barred bans view w k → ⊥)
+  pub taken : (w : ℕ) → c .value ≡ some w → (v ≤ w) × (w < v + m) × (c .nogoods w ≡ none) × (conflicts s bans view w ≡ false)
   pub full : c .value ≡ none → (w : ℕ) → v ≤ w → w < v + m → isSome (c .nogoods w) ≡ true
 
-pub walked : (s : Self) (bans : Bans) (view : Assignment) → Upward s bans → (m v : ℕ) (before : Nogoods)
-    → Walked bans view m v before (choose m v s bans view before)
+pub walked : (s : Self) (bans : Bans) (view : Assignment) (m v : ℕ) (before : Nogoods)
+    → Walked s bans view m v before (choose m v s bans view before)
 unfolding choose reason isSome
-walked s bans view up zero v before =
+walked s bans view zero v before =
     record { given = λ w lhs e. inl e; grows = λ w h. h; taken = λ w e. no-some e; full = λ _ w l h. absurd (omega arith) }
-walked s bans view up (suc m) v before =
+walked s bans view (suc m) v before =
     opt (reason s bans view before v)
     (λ e. rw (e, choose)
     (let (n, b) = reason-none view (before v) (blame s bans view v) e in
     record {
       given = λ w lhs h. inl h;
       grows = λ w h. h;
-      taken = λ w h. let q : v ≡ w = cc in rw (← q) (omega arith, omega arith, n, blame-none s bans view up v b);
+      taken = λ w h. let q : v ≡ w = cc in rw (← q) (omega arith, omega arith, n, blame-none s bans view v b);
       full = λ h. no-some (sym h);
     }))
     (λ lhs e. rw (e, choose)
-    (tried lhs e (choose m (suc v) s bans view (at before v (some lhs))) (walked s bans view up m (suc v) (at before v (some lhs)))))
+    (tried lhs e (choose m (suc v) s bans view (at before v (some lhs))) (walked s bans view m (suc v) (at before v (some lhs)))))
   where
-    tried : (l : Assignment) → reason s bans view before v ≡ some l → (c : Choice) → Walked bans view m (suc v) (at before v (some l)) c
-        → Walked bans view (suc m) v before c
+    tried : (l : Assignment) → reason s bans view before v ≡ some l → (c : Choice) → Walked s bans view m (suc v) (at before v (some l)) c
+        → Walked s bans view (suc m) v before c
     tried l e c W =
         record {
           given = λ w lhs h.
@@ -87,10 +111,10 @@ walked s bans view up (suc m) v before =
               (λ u.
               let z : some l ≡ some lhs = rw (u, at-same) at q in
               rw u
-              (⊎-elim (λ o. inl o) (λ (k, b, o). inr (k, blame-some s bans view v k b, o))
+              (⊎-elim (λ o. inl o) (λ (k, b, o). inr (omega arith, omega arith, k, blame-some s bans view v k b, o))
               (reason-some view (before v) (blame s bans view v) lhs (e ∙ z))))
               (λ u. inl (rw (at-other before v (some l) w u) at q)))
-              (λ q. inr q)
+              (λ (low, high, k, b, o). inr (omega arith, omega arith, k, b, o))
               (W .given w lhs h);
           grows = λ w h. W .grows w
               (eq-test w v (λ u. rw (u, at-same)) (λ u. rw (at-other before v (some l) w u) h));

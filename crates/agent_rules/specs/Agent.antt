@@ -37,9 +37,33 @@ unfoldable pub noNogoods : Nogoods
 noNogoods v = none
 
 -- an agent beyond n
-unfoldable pub noAgent : Agent
-noAgent =
+unfoldable pub unusedAgent : Agent
+unusedAgent =
     record { value = 0; listens = λ k. false; informs = λ k. false; view = nobody; nogoods = noNogoods }
+
+-- ---- a record with one part changed. The rules change records by these alone.
+
+abbrev pub withValue : Agent → ℕ → Agent
+withValue a value =
+    record { value = value; listens = a .listens; informs = a .informs; view = a .view; nogoods = a .nogoods }
+
+abbrev pub withListens : Agent → (ℕ → Bool) → Agent
+withListens a listens =
+    record { value = a .value; listens = listens; informs = a .informs; view = a .view; nogoods = a .nogoods }
+
+abbrev pub withInforms : Agent → (ℕ → Bool) → Agent
+withInforms a informs =
+    record { value = a .value; listens = a .listens; informs = informs; view = a .view; nogoods = a .nogoods }
+
+abbrev pub withView : Agent → Assignment → Agent
+withView a view =
+    record { value = a .value; listens = a .listens; informs = a .informs; view = view; nogoods = a .nogoods }
+
+abbrev pub withNogoods : Agent → Nogoods → Agent
+withNogoods a nogoods =
+    record { value = a .value; listens = a .listens; informs = a .informs; view = a .view; nogoods = nogoods }
+
+-- ---- what it has of the others
 
 -- the agents above, 1 to this number
 unfoldable pub above : Self → ℕ

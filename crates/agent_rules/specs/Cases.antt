@@ -28,17 +28,17 @@ unfoldable pub nogoods : List (Option Assignment) → Nogoods
 nogoods l = fromOne none (λ v. getD l v none)
 
 -- agent k at value v bans the own value w
-pub record Ban : Type 0 where
+pub record OwnBan : Type 0 where
   pub agent : ℕ
   pub value : ℕ
   pub own : ℕ
 
-abbrev pub ban : ℕ → ℕ → ℕ → Ban
-ban k v w = record { agent = k; value = v; own = w }
+abbrev pub ownBan : ℕ → ℕ → ℕ → OwnBan
+ownBan k v w = record { agent = k; value = v; own = w }
 
-unfoldable pub bansOf : List Ban → Bans
-bansOf [] k v w = false
-bansOf (b ∷ bs) k v w = (eqb (b .agent) k && eqb (b .value) v && eqb (b .own) w) || bansOf bs k v w
+unfoldable pub bansFrom : List OwnBan → Bans
+bansFrom [] k v w = false
+bansFrom (b ∷ bs) k v w = (eqb (b .agent) k && eqb (b .value) v && eqb (b .own) w) || bansFrom bs k v w
 
 abbrev pub agent : ℕ → List ℕ → List ℕ → List ℕ → List (Option Assignment) → Agent
 agent v listens informs view stored =
@@ -107,11 +107,11 @@ self i d = record { number = i; domain = d }
 
 -- agent 3 with two values: value 1 is banned by agent 1 at 1, value 2 by agent 2 at 1 (P9's agent 3)
 abbrev pub bans3 : Bans
-bans3 = bansOf (ban 1 1 1 ∷ ban 2 1 2 ∷ [])
+bans3 = bansFrom (ownBan 1 1 1 ∷ ownBan 2 1 2 ∷ [])
 
 -- agent 3 with two values, both banned by agent 1 at 1, value 1 by agent 2 at 1 too
 abbrev pub bansBoth : Bans
-bansBoth = bansOf (ban 1 1 1 ∷ ban 1 1 2 ∷ ban 2 1 1 ∷ [])
+bansBoth = bansFrom (ownBan 1 1 1 ∷ ownBan 1 1 2 ∷ ownBan 2 1 1 ∷ [])
 
 unfoldable pub stepCases : List StepCase
 stepCases =
@@ -144,14 +144,14 @@ stepCases =
     }
     -- News that bans the own value: it gets a reason, the lowest free value is taken and told; those above get no reason.
     ∷ record {
-      got = receive (self 3 3) (bansOf (ban 1 1 1 ∷ ban 1 1 3 ∷ [])) (agent 1 (1 ∷ 2 ∷ []) (4 ∷ []) [] []) 1 (Info 1);
+      got = receive (self 3 3) (bansFrom (ownBan 1 1 1 ∷ ownBan 1 1 3 ∷ [])) (agent 1 (1 ∷ 2 ∷ []) (4 ∷ []) [] []) 1 (Info 1);
       agent = agent 2 (1 ∷ 2 ∷ []) (4 ∷ []) (1 ∷ []) (some (values (1 ∷ [])) ∷ []);
       sent = post 4 (Info 2) ∷ [];
       verdict = false;
     }
     -- A value with a stored reason is skipped though nothing in the view bans it.
     ∷ record {
-      got = receive (self 3 3) (bansOf (ban 1 1 3 ∷ []))
+      got = receive (self 3 3) (bansFrom (ownBan 1 1 3 ∷ []))
           (agent 3 (1 ∷ 2 ∷ []) (4 ∷ []) (0 ∷ 2 ∷ []) (some (values (0 ∷ 2 ∷ [])) ∷ [])) 1 (Info 1);
       agent = agent 2 (1 ∷ 2 ∷ []) (4 ∷ []) (1 ∷ 2 ∷ []) (some (values (0 ∷ 2 ∷ [])) ∷ []);
       sent = post 4 (Info 2) ∷ [];
@@ -159,7 +159,7 @@ stepCases =
     }
     -- The lowest-numbered is blamed: value 1 is banned by agents 1 and 2.
     ∷ record {
-      got = receive (self 3 2) (bansOf (ban 1 1 1 ∷ ban 2 1 1 ∷ [])) (agent 1 (1 ∷ 2 ∷ []) [] (1 ∷ []) []) 2 (Info 1);
+      got = receive (self 3 2) (bansFrom (ownBan 1 1 1 ∷ ownBan 2 1 1 ∷ [])) (agent 1 (1 ∷ 2 ∷ []) [] (1 ∷ []) []) 2 (Info 1);
       agent = agent 2 (1 ∷ 2 ∷ []) [] (1 ∷ 1 ∷ []) (some (values (1 ∷ [])) ∷ []);
       sent = [];
       verdict = false;
@@ -180,7 +180,7 @@ stepCases =
     }
     -- A refusal that holds, its left side listened to: the reason is stored and the next value taken.
     ∷ record {
-      got = receive (self 2 2) (bansOf []) (agent 1 (1 ∷ []) (3 ∷ 4 ∷ []) (2 ∷ []) []) 4 (Back (values (2 ∷ [])) 1);
+      got = receive (self 2 2) (bansFrom []) (agent 1 (1 ∷ []) (3 ∷ 4 ∷ []) (2 ∷ []) []) 4 (Back (values (2 ∷ [])) 1);
       agent = agent 2 (1 ∷ []) (3 ∷ 4 ∷ []) (2 ∷ []) (some (values (2 ∷ [])) ∷ []);
       sent = post 3 (Info 2) ∷ post 4 (Info 2) ∷ [];
       verdict = false;
@@ -188,55 +188,63 @@ stepCases =
     -- A refusal that holds, its left side not listened to: link requests upward first, then (P9's agent 2, round 2) the refusal to the same
     -- agent, then the old value told again.
     ∷ record {
-      got = receive (self 2 1) (bansOf []) (agent 1 [] (3 ∷ []) [] []) 3 (Back (values (1 ∷ [])) 1);
+      got = receive (self 2 1) (bansFrom []) (agent 1 [] (3 ∷ []) [] []) 3 (Back (values (1 ∷ [])) 1);
       agent = agent 1 (1 ∷ []) (3 ∷ []) [] [];
       sent = post 1 AddLink ∷ post 1 (Back (values []) 1) ∷ post 3 (Info 1) ∷ [];
       verdict = false;
     }
+    -- A refusal that holds, of the only value: its left side is refused in turn, and the refuser, which has forgotten the value, is told it again.
     ∷ record {
-      got = receive (self 4 2) (bansOf []) (agent 1 (2 ∷ []) (5 ∷ []) (0 ∷ 3 ∷ []) []) 5 (Back (values (1 ∷ 3 ∷ 2 ∷ [])) 1);
+      got = receive (self 2 1) (bansFrom []) (agent 1 (1 ∷ []) (3 ∷ []) (1 ∷ []) []) 3 (Back (values (1 ∷ [])) 1);
+      agent = agent 1 (1 ∷ []) (3 ∷ []) [] [];
+      sent = post 1 (Back (values []) 1) ∷ post 3 (Info 1) ∷ [];
+      verdict = false;
+    }
+    -- Link requests go upward.
+    ∷ record {
+      got = receive (self 4 2) (bansFrom []) (agent 1 (2 ∷ []) (5 ∷ []) (0 ∷ 3 ∷ []) []) 5 (Back (values (1 ∷ 3 ∷ 2 ∷ [])) 1);
       agent = agent 2 (1 ∷ 2 ∷ 3 ∷ []) (5 ∷ []) (1 ∷ 3 ∷ 2 ∷ []) (some (values (1 ∷ 3 ∷ 2 ∷ [])) ∷ []);
       sent = post 1 AddLink ∷ post 3 AddLink ∷ post 5 (Info 2) ∷ [];
       verdict = false;
     }
     -- A refusal with an empty left side is a stored reason too.
     ∷ record {
-      got = receive (self 1 2) (bansOf []) (agent 1 [] (2 ∷ []) [] []) 2 (Back (values []) 1);
+      got = receive (self 1 2) (bansFrom []) (agent 1 [] (2 ∷ []) [] []) 2 (Back (values []) 1);
       agent = agent 2 [] (2 ∷ []) [] (some (values []) ∷ []);
       sent = post 2 (Info 2) ∷ [];
       verdict = false;
     }
     -- .. and where every value has one, the verdict: no value, the reasons remain, nothing is sent.
     ∷ record {
-      got = receive (self 1 2) (bansOf []) (agent 2 [] (2 ∷ []) [] (some (values []) ∷ [])) 2 (Back (values []) 2);
+      got = receive (self 1 2) (bansFrom []) (agent 2 [] (2 ∷ []) [] (some (values []) ∷ [])) 2 (Back (values []) 2);
       agent = agent 0 [] (2 ∷ []) [] (some (values []) ∷ some (values []) ∷ []);
       sent = [];
       verdict = true;
     }
     -- An outdated refusal of the own value: the view has another value, and the sender is told the own value again.
     ∷ record {
-      got = receive (self 2 2) (bansOf []) (agent 1 (1 ∷ []) (3 ∷ []) (1 ∷ []) []) 3 (Back (values (2 ∷ [])) 1);
+      got = receive (self 2 2) (bansFrom []) (agent 1 (1 ∷ []) (3 ∷ []) (1 ∷ []) []) 3 (Back (values (2 ∷ [])) 1);
       agent = agent 1 (1 ∷ []) (3 ∷ []) (1 ∷ []) [];
       sent = post 3 (Info 1) ∷ [];
       verdict = false;
     }
     -- Unknown does not match.
     ∷ record {
-      got = receive (self 2 2) (bansOf []) (agent 1 (1 ∷ []) (3 ∷ []) [] []) 3 (Back (values (2 ∷ [])) 1);
+      got = receive (self 2 2) (bansFrom []) (agent 1 (1 ∷ []) (3 ∷ []) [] []) 3 (Back (values (2 ∷ [])) 1);
       agent = agent 1 (1 ∷ []) (3 ∷ []) [] [];
       sent = post 3 (Info 1) ∷ [];
       verdict = false;
     }
     -- An outdated refusal of another value: nothing.
     ∷ record {
-      got = receive (self 2 2) (bansOf []) (agent 2 (1 ∷ []) (3 ∷ []) (1 ∷ []) []) 3 (Back (values (1 ∷ [])) 1);
+      got = receive (self 2 2) (bansFrom []) (agent 2 (1 ∷ []) (3 ∷ []) (1 ∷ []) []) 3 (Back (values (1 ∷ [])) 1);
       agent = agent 2 (1 ∷ []) (3 ∷ []) (1 ∷ []) [];
       sent = [];
       verdict = false;
     }
     -- A link request: the sender is informed from now on.
     ∷ record {
-      got = receive (self 1 2) (bansOf []) (agent 2 [] (3 ∷ []) [] []) 2 AddLink;
+      got = receive (self 1 2) (bansFrom []) (agent 2 [] (3 ∷ []) [] []) 2 AddLink;
       agent = agent 2 [] (2 ∷ 3 ∷ []) [] [];
       sent = post 2 (Info 2) ∷ [];
       verdict = false;

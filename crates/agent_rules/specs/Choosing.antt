@@ -6,7 +6,7 @@ use mathlib.Core.List.{List, [], _∷_, _++_}
 use Rattle.base.specs.Finite.{at, lowest, highest, gather}
 use Rattle.problem.specs.Problem.{maxAgents}
 use Rattle.agent_rules.specs.Message.{Assignment, known, nobody, Info, Back, Post}
-use Rattle.agent_rules.specs.Agent.{Self, Bans, Nogoods, Agent, Step, above}
+use Rattle.agent_rules.specs.Agent.{Self, Bans, Nogoods, Agent, Step, withValue, withView, withNogoods, above}
 
 -- ---- whom to blame
 
@@ -62,8 +62,7 @@ infos s a v = gather (maxAgents - s .number) (suc (s .number)) (infoTo a v)
 
 -- the agent with what choosing left: its value, 0 for none, and its nogoods
 unfoldable pub chosen : Agent → ℕ → Nogoods → Agent
-chosen a v nogoods =
-    record { value = v; listens = a .listens; informs = a .informs; view = a .view; nogoods = nogoods }
+chosen a v nogoods = withNogoods (withValue a v) nogoods
 
 unfoldable pub took : Self → Agent → ℕ → Nogoods → Step
 took s a v nogoods = record { agent = chosen a v nogoods; sent = infos s a v; verdict = false }
@@ -102,14 +101,7 @@ without k (some lhs) = dropIf (known (lhs k)) lhs
 
 -- "The sender sets that scanner to unknown, drops all reasons naming it"
 unfoldable pub forget : ℕ → Agent → Nogoods → Agent
-forget k a nogoods =
-    record {
-      value = a .value;
-      listens = a .listens;
-      informs = a .informs;
-      view = at (a .view) k 0;
-      nogoods = λ v. without k (nogoods v);
-    }
+forget k a nogoods = withNogoods (withView a (at (a .view) k 0)) (λ v. without k (nogoods v))
 
 -- what is sent before the rest of the step
 unfoldable pub after : List Post → Step → Step

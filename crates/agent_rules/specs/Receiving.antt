@@ -5,10 +5,23 @@ use mathlib.Core.Bool.{Bool, true, false, not, _&&_, _||_, cond}
 use mathlib.Core.Option.{Option, none, some}
 use mathlib.Core.List.{List, [], _∷_}
 use lib.Dec.{eqb}
-use Rattle.base.specs.Finite.{at, allTo, isSome, gather}
-use Rattle.agent_rules.specs.Message.{Assignment, known, nobody, Message, Info, Back, AddLink, Post}
-use Rattle.agent_rules.specs.Agent.{Self, Bans, Agent, Step, noNogoods, above, agrees}
-use Rattle.agent_rules.specs.Choosing.{blame, after, checkView}
+use Rattle.base.specs.Finite.{at, lowest, allTo, isSome, gather}
+use Rattle.agent_rules.specs.Message.{Assignment, known, Message, Info, Back, AddLink, Post}
+use Rattle.agent_rules.specs.Agent.{
+  Self,
+  Bans,
+  Agent,
+  Step,
+  unusedAgent,
+  withValue,
+  withListens,
+  withInforms,
+  withView,
+  withNogoods,
+  above,
+  agrees,
+}
+use Rattle.agent_rules.specs.Choosing.{bars, after, checkView}
 
 -- a step that sends what it is given to send and does not choose
 unfoldable pub quiet : Agent → List Post → Step
@@ -32,17 +45,11 @@ agreeing s view (some lhs) = keepIf (agrees s view lhs) lhs
 -- "Update the view, drop reasons that disagree with it."
 unfoldable pub updated : Self → Agent → ℕ → ℕ → Agent
 updated s a from v =
-    record {
-      value = a .value;
-      listens = a .listens;
-      informs = a .informs;
-      view = at (a .view) from v;
-      nogoods = λ w. agreeing s (at (a .view) from v) (a .nogoods w);
-    }
+    withNogoods (withView a (at (a .view) from v)) (λ w. agreeing s (at (a .view) from v) (a .nogoods w))
 
--- the own value is banned against a known value of the view
+-- the own value is banned against a known value of the view, whoever is to blame for it
 unfoldable pub conflicts : Self → Bans → Assignment → ℕ → Bool
-conflicts s bans view v = isSome (blame s bans view v)
+conflicts s bans view v = isSome (lowest (above s) 1 (bars bans view v))
 
 -- "If the own slot is now banned, choose; else nothing."
 unfoldable pub onInfo : Self → Bans → Agent → ℕ → ℕ → Step
@@ -71,16 +78,14 @@ addLinkTo a lhs k = elim (unheard a lhs k) [ true ↦ record { to = k; message =
 unfoldable pub addLinks : Self → Agent → Assignment → List Post
 addLinks s a lhs = gather (above s) 1 (addLinkTo a lhs)
 
--- ".. listen to it, put its slot into the view. Then store the left side as the reason, clear the slot"
+-- ".. listen to it, put its slot into the view."
+abbrev pub hearing : Agent → Assignment → Agent
+hearing a lhs =
+    withView (withListens a (λ k. a .listens k || known (lhs k))) (λ k. cond (unheard a lhs k) (lhs k) (a .view k))
+
+-- "Then store the left side as the reason, clear the slot"
 unfoldable pub accepting : Agent → Assignment → ℕ → Agent
-accepting a lhs v =
-    record {
-      value = 0;
-      listens = λ k. a .listens k || known (lhs k);
-      informs = a .informs;
-      view = λ k. cond (unheard a lhs k) (lhs k) (a .view k);
-      nogoods = at (a .nogoods) v (some lhs);
-    }
+accepting a lhs v = withValue (withNogoods (hearing a lhs) (at (a .nogoods) v (some lhs))) 0
 
 -- "If it does not hold: where the refused slot is the own slot, send news to the sender; otherwise nothing."
 unfoldable pub outdated : Agent → ℕ → ℕ → Step
@@ -94,14 +99,7 @@ onBack s bans a from lhs v =
 -- ---- Link request: "Inform the sender from now on and send it news."
 
 unfoldable pub informing : Agent → ℕ → Agent
-informing a from =
-    record {
-      value = a .value;
-      listens = a .listens;
-      informs = at (a .informs) from true;
-      view = a .view;
-      nogoods = a .nogoods;
-    }
+informing a from = withInforms a (at (a .informs) from true)
 
 unfoldable pub onAddLink : Agent → ℕ → Step
 onAddLink a from = quiet (informing a from) (answer a from)
@@ -113,17 +111,10 @@ receive s bans a from (Info v) = onInfo s bans a from v
 receive s bans a from (Back lhs v) = onBack s bans a from lhs v
 receive s bans a from AddLink = onAddLink a from
 
--- this message makes this agent choose
-unfoldable pub chooses : Self → Bans → Agent → ℕ → Message → Bool
-chooses s bans a from (Info v) = conflicts s bans (at (a .view) from v) (a .value)
-chooses s bans a from (Back lhs v) = holds s a lhs v
-chooses s bans a from AddLink = false
-
 -- ---- Start: "All views are unknown, each scanner chooses."
 
 unfoldable pub fresh : (ℕ → Bool) → (ℕ → Bool) → Agent
-fresh listens informs =
-    record { value = 0; listens = listens; informs = informs; view = nobody; nogoods = noNogoods }
+fresh listens informs = withInforms (withListens unusedAgent listens) informs
 
 unfoldable pub begin : Self → Bans → (ℕ → Bool) → (ℕ → Bool) → Step
 begin s bans listens informs = checkView s bans (fresh listens informs)

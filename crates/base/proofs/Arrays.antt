@@ -1,5 +1,5 @@
 -- Arrays as lists: read below their end, changed, copied element by element, and filled with one value.
-use Prim.Native.Nat.{ℕ, zero, suc, _+_, _<_}
+use Prim.Native.Nat.{ℕ, zero, suc, _+_, _≤_, _<_}
 use mathlib.Core.Path.{_≡_, refl, ap}
 use mathlib.Core.List.{List, [], _∷_, map}
 use native.Mathlib.Nat.{not-suc-le-zero, le-of-suc-le-suc}
@@ -18,6 +18,12 @@ pub getD-below : {A : Type 0} (l : List A) (k : ℕ) (d e : A) → k < length l 
 getD-below [] k d e h = absurd (not-suc-le-zero h)
 getD-below (x ∷ xs) zero d e h = refl
 getD-below (x ∷ xs) (suc k) d e h = getD-below xs k d e (le-of-suc-le-suc h)
+
+-- past the end there is what one asks for
+pub getD-past : {A : Type 0} (l : List A) (k : ℕ) (d : A) → length l ≤ k → getD l k d ≡ d
+getD-past [] k d h = refl
+getD-past (x ∷ xs) zero d h = absurd (not-suc-le-zero h)
+getD-past (x ∷ xs) (suc k) d h = getD-past xs k d (le-of-suc-le-suc h)
 
 -- one value all over, past the end too
 pub getD-same : {A : Type 0} (n : ℕ) (a : A) (k : ℕ) → getD (replicate n a) k a ≡ a

@@ -2,11 +2,11 @@
 -- All by halving: bit k + 1 of x is bit k of x / 2.
 use mathlib.Core.Path.{_≡_, refl, sym, ap, ap₂, _∙_}
 use mathlib.Core.Logic.{_≢_, _⊎_, inl, inr}
-use mathlib.Core.Bool.{true, false, false≢true, _||_}
+use mathlib.Core.Bool.{Bool, true, false, false≢true, cond, _&&_, _||_, or-true, or-false}
 use Prim.Native.Nat.{ℕ, zero, suc, _+_, _-_, _*_, _/_, _%_, _^_, _≤_, _<_}
 use native.Mathlib.Nat.{pow-suc, pow-succ', div-div-eq-div-mul, div-one, mod-lt, not-suc-le-zero, mul-div-cancel}
 use native.Mathlib.Omega.{arith}
-use lib.Bits.{bitOr, or-step, or-zero-r, or-block, or-shr, or-mod}
+use lib.Bits.{bitAnd, bitOr, and-shr, and-mod, or-step, or-zero-r, or-block, or-shr, or-mod}
 use lib.Pow.{pow-pos, split, field, mod-mod-pow, shr-shr}
 use lib.Dec.{eqb, eqb·zero-suc, eqb·suc-zero, eqb·suc-suc}
 use borrow.Author.Tests.{eqb-true, eqb-false, eq-eqb, ne-eqb}
@@ -159,6 +159,17 @@ pub bit-or : (x y k : ℕ) → bit (bitOr x y) k ≡ bit x k || bit y k
 unfolding bit
 bit-or x y k = rw (or-shr x y k, or-mod (x / 2 ^ k) (y / 2 ^ k) 1) (or-bits (x / 2 ^ k % 2) (y / 2 ^ k % 2) (omega arith) (omega arith))
 
+and-bits : (a b : ℕ) → a < 2 → b < 2 → eqb (bitAnd a b) 1 ≡ eqb a 1 && eqb b 1
+and-bits zero b h k = refl
+and-bits (suc zero) zero h k = refl
+and-bits (suc zero) (suc zero) h k = refl
+and-bits (suc zero) (suc (suc b)) h k = absurd (omega arith)
+and-bits (suc (suc a)) b h k = absurd (omega arith)
+
+pub bit-and : (x y k : ℕ) → bit (bitAnd x y) k ≡ bit x k && bit y k
+unfolding bit
+bit-and x y k = rw (and-shr x y k, and-mod (x / 2 ^ k) (y / 2 ^ k) 1) (and-bits (x / 2 ^ k % 2) (y / 2 ^ k % 2) (omega arith) (omega arith))
+
 -- bit j of the n bits of x from a on
 pub bit-field : (x a n j : ℕ) → j < n → bit (x / 2 ^ a % 2 ^ n) j ≡ bit x (a + j)
 unfolding bit
@@ -168,3 +179,28 @@ bit-field x a n j h =
     ∙ ap (λ (y : ℕ). eqb (y % 2) 1) (field (x / 2 ^ a) (n - suc j + 1) j)
     ∙ ap (λ (y : ℕ). eqb y 1) (mod-mod-pow (x / 2 ^ a / 2 ^ j) (n - suc j) 1)
     ∙ ap (λ (y : ℕ). eqb (y % 2) 1) (shr-shr x a j)
+
+-- ---- a bit set or not, and a number by its bits
+
+pub bit-mark : (b : Bool) (x k j : ℕ) → bit (cond b (withBit x k) x) j ≡ bit x j || (b && eqb j k)
+bit-mark false x k j = sym (or-false (bit x j))
+bit-mark true x k j =
+    test (eqb j k)
+    (λ e. rw (e, eqb-true j k e, withBit-same x k) (sym (or-true (bit x k))))
+    (λ e. rw (e, withBit-other x k j (eqb-false j k e)) (sym (or-false (bit x j))))
+
+same-parity : (x y : ℕ) → eqb (x % 2) 1 ≡ eqb (y % 2) 1 → x % 2 ≡ y % 2
+same-parity x y h =
+    test (eqb (x % 2) 1)
+    (λ e. eqb-true _ _ e ∙ sym (eqb-true (y % 2) 1 (sym h ∙ e)))
+    (λ e. omega (arith, eqb-false (x % 2) 1 e, eqb-false (y % 2) 1 (sym h ∙ e)))
+
+pub bit-ext : (n x y : ℕ) → x < 2 ^ n → y < 2 ^ n → ((k : ℕ) → k < n → bit x k ≡ bit y k) → x ≡ y
+bit-ext zero x y hx hy same = omega arith
+bit-ext (suc n) x y hx hy same =
+    let low = same-parity x y (sym (bit-zero x) ∙ same 0 (omega arith) ∙ bit-zero y) in
+    let gx : x < 2 ^ n * 2 = rw pow-suc at hx in
+    let gy : y < 2 ^ n * 2 = rw pow-suc at hy in
+    let high = bit-ext n (x / 2) (y / 2) (omega arith) (omega arith)
+    (λ k h. sym (bit-suc x k) ∙ same (suc k) (omega arith) ∙ bit-suc y k) in
+    omega arith

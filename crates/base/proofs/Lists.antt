@@ -9,10 +9,7 @@ use native.Mathlib.Omega.{arith}
 use lib.ListN.{length, length-append}
 use Rattle.base.specs.Finite.{every, gather}
 use Rattle.base.proofs.Tests.{both, to-both}
-
-abbrev pub All : {A : Type 0} → (A → Type 0) → List A → Type 0
-All P [] = Unit {0}
-All P (x ∷ xs) = P x × All P xs
+pub use Rattle.base.specs.Lists.{All, Any}
 
 pub All-append : {A : Type 0} (P : A → Type 0) (l r : List A) → All P l → All P r → All P (l ++ r)
 All-append P [] r h k = k
@@ -22,13 +19,13 @@ pub All-right : {A : Type 0} (P : A → Type 0) (l r : List A) → All P (l ++ r
 All-right P [] r h = h
 All-right P (x ∷ xs) r h = All-right P xs r (h .1)
 
+pub All-both : {A : Type 0} (P Q : A → Type 0) (l : List A) → All P l → All Q l → All (λ x. P x × Q x) l
+All-both P Q [] h k = tt
+All-both P Q (x ∷ xs) h k = ((h .0, k .0), All-both P Q xs (h .1) (k .1))
+
 pub All-map : {A : Type 0} (P Q : A → Type 0) → ((x : A) → P x → Q x) → (l : List A) → All P l → All Q l
 All-map P Q f [] h = tt
 All-map P Q f (x ∷ xs) h = (f x (h .0), All-map P Q f xs (h .1))
-
-abbrev pub Any : {A : Type 0} → (A → Type 0) → List A → Type 0
-Any P [] = ⊥
-Any P (x ∷ xs) = P x ⊎ Any P xs
 
 pub any-left : {A : Type 0} (P : A → Type 0) (l r : List A) → Any P l → Any P (l ++ r)
 any-left P [] r h = absurd h

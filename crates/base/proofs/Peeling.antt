@@ -1,13 +1,13 @@
 -- A number taken apart from its lowest digit up, as a loop does, and a test of each of its digits; a number all of whose bits are 0.
-use Prim.Native.Nat.{ℕ, zero, suc, pred, _+_, _*_, _-_, _/_, _%_, _^_, _≤_, _<_}
+use Prim.Native.Nat.{ℕ, zero, suc, pred, _+_, _-_, _/_, _%_, _^_, _≤_, _<_}
 use mathlib.Core.Path.{_≡_, refl, sym, ap, _∙_}
 use mathlib.Core.Bool.{Bool, true, false, not, _&&_, _||_, or-true}
 use native.Mathlib.Nat.{not-suc-le-zero, pow-suc, div-one, lt-of-le-of-lt, lt-of-lt-of-le, mod-lt, div-lt-iff-lt-mul, pow-le-pow-right, pow-zero}
 use native.Mathlib.Omega.{arith}
 use lib.Dec.{eqb, leb, ltb}
 use lib.Pow.{pow-pos, shr-shr, shr-le}
-use Rattle.base.proofs.Bits.{bit-zero, bit-suc, bit-of-zero, bit-above, bit-field}
-use borrow.Author.Tests.{eqb-true, eqb-false, eq-eqb, leb-false, ltb-true, ltb-false, lt-leb, le-ltb}
+use Rattle.base.proofs.Bits.{bit-ext, bit-of-zero, bit-above, bit-field}
+use borrow.Author.Tests.{eqb-true, eq-eqb, leb-false, ltb-true, ltb-false, lt-leb, le-ltb}
 use Rattle.base.specs.Finite.{fromOne, allTo}
 use Rattle.base.specs.Bits.{bit}
 use Rattle.base.proofs.Tests.{test}
@@ -101,12 +101,7 @@ one-off b n k x l h e =
 -- ---- bits
 
 pub zero-bits : (n x : ℕ) → x < 2 ^ n → ((k : ℕ) → k < n → bit x k ≡ false) → x ≡ 0
-zero-bits zero x h f = omega arith
-zero-bits (suc n) x h f =
-    let g : x < 2 ^ n * 2 = rw pow-suc at h in
-    let e = eqb-false (x % 2) 1 (sym (bit-zero x) ∙ f 0 (omega arith)) in
-    let i = zero-bits n (x / 2) (omega arith) (λ k l. sym (bit-suc x k) ∙ f (suc k) (omega arith)) in
-    omega (arith, e)
+zero-bits n x h f = bit-ext n x 0 h (pow-pos n) (λ k l. f k l ∙ sym (bit-of-zero k))
 
 clear : (a b : Bool) → b ≡ false → not a || b ≡ true → a ≡ false
 clear true b e t = sym t ∙ e

@@ -33,6 +33,11 @@ unfoldable pub allTo : ℕ → (ℕ → Bool) → Bool
 allTo zero p = true
 allTo (suc m) p = p (suc m) && allTo m p
 
+-- a, changed by f 1, then by f 2, .., then by f m
+unfoldable pub each {ℓ} : {A : Type ℓ} → ℕ → (ℕ → A → A) → A → A
+each zero f a = a
+each (suc m) f a = f (suc m) (each m f a)
+
 -- each element passes
 unfoldable pub every {ℓ} : {A : Type ℓ} → (A → Bool) → List A → Bool
 every p [] = true

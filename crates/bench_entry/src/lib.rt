@@ -1,11 +1,20 @@
 // The entries by which `bench/` measures the proved libraries from another language: numbers and byte slices only. Each answer takes in all that was
 // worked out, so that nothing of it can be left out.
-ghost use Prim.Native.Nat.{_<_};
+ghost use mathlib.Core.Path.{_≡_};
+ghost use Prim.Native.Nat.{_/_};
+ghost use lib.ListN.{length};
+ghost use Rattle.problem.specs.Sheet.{decode};
+ghost use Rattle.protocol.specs.Network.{startSheet};
+ghost use Rattle.run.specs.Answers.{endingOf};
+ghost use Rattle.bench_entry.specs.Giving.{wordFor, WaitsFor, endingDigit, settledFor, playedTo, playedFor};
+use network::places::lines_of;
 use run::Ending;
 
 // Decoding alone: one word of an accepted sheet's ban table, or the number of the sheet's fault.
 #[no_mangle]
-pub extern "C" fn bench_entry_decode(sheet: &[u8], word: usize) -> u64 {
+pub extern "C" fn bench_entry_decode(sheet: &[u8], word: usize) -> u64
+    ensures { λ r. ⌜ r ≡ wordFor (decode (now (sheet .entry))) word ⌝ }
+{
     let d = sheet::decode(sheet);
     if d.number != 0 {
         return d.number as u64;
@@ -19,21 +28,23 @@ pub extern "C" fn bench_entry_decode(sheet: &[u8], word: usize) -> u64 {
 
 // Decoding and the start: what waits on one sender's channels, a digit for each receiver, or the number of the sheet's fault.
 #[no_mangle]
-pub extern "C" fn bench_entry_start(sheet: &[u8], sender: usize) -> u64 {
+pub extern "C" fn bench_entry_start(sheet: &[u8], sender: usize) -> u64
+    ensures { λ r. ⌜ WaitsFor (now (sheet .entry)) sender r ⌝ }
+{
     let started = start::start(sheet);
     if started.number != 0 {
         return started.number as u64;
     }
     let counts = started.network.counts;
     if sender < 12 {
-        return counts[sender];
+        return lines_of(counts[sender], sender as u8 + 1);
     }
     0
 }
 
-// How a run ended, as a number: none, plan, jammed, faulty, open, broken.
+// How a run ended, as a number.
 fn number_of(e: Ending) -> u64
-    ensures { λ r. ⌜ r < 6 ⌝ }
+    ensures { λ r. ⌜ r ≡ endingDigit (endingOf e) ⌝ }
 {
     match e {
         Ending::None => 0,
@@ -45,13 +56,14 @@ fn number_of(e: Ending) -> u64
     }
 }
 
-// Decoding, the start and a run. The low four bits say how it ended, or 8 and the number of the sheet's fault; 20 bits have the rounds made; then the
-// agents' values modulo 8, three bits each, agent 12 lowest.
+// Decoding, the start and a run: how it ended, its full rounds and all values, or the number of the sheet's fault.
 #[no_mangle]
-pub extern "C" fn bench_entry_settle(sheet: &[u8], rounds: u64) -> u64 {
+pub extern "C" fn bench_entry_settle(sheet: &[u8], rounds: u64) -> u64
+    ensures { λ r. ⌜ r ≡ settledFor (startSheet (now (sheet .entry))) rounds ⌝ }
+{
     let started = start::start(sheet);
     if started.number != 0 {
-        return 8 + (started.number % 8) as u64;
+        return 8 + started.number as u64;
     }
     let network = started.network;
     let ran = run::run(network, rounds);
@@ -61,16 +73,18 @@ pub extern "C" fn bench_entry_settle(sheet: &[u8], rounds: u64) -> u64 {
     let mut k: usize = 0;
     while k < 12 {
         let a = agents[k];
-        values = (values % 8589934592) * 8 + (a.value % 8) as u64;
+        values = values * 9 + (a.value % 9) as u64;
         k += 1;
     }
-    ((values % 68719476736) * 1048576 + ran.rounds % 1048576) * 16 + number_of(ending)
+    (values * 1048576 + ran.rounds % 1048576) * 16 + number_of(ending)
 }
 
 // The start and then deliveries, each through the public entry: sender and receiver stand in `calls`, two bytes for each. The answer is made of their
 // numbers and, at the end, of each agent's value.
 #[no_mangle]
-pub extern "C" fn bench_entry_deliver(sheet: &[u8], calls: &[u8]) -> u64 {
+pub extern "C" fn bench_entry_deliver(sheet: &[u8], calls: &[u8]) -> u64
+    ensures { λ r. ⌜ r ≡ playedFor (playedTo (length (now (calls .entry)) / 2) (startSheet (now (sheet .entry))) (now (calls .entry))) ⌝ }
+{
     let started = start::start(sheet);
     let mut network = started.network;
     let mut sum: u64 = started.number as u64;
@@ -84,7 +98,7 @@ pub extern "C" fn bench_entry_deliver(sheet: &[u8], calls: &[u8]) -> u64 {
     }
     let mut i: u8 = 0;
     while i < 13 {
-        let asked = start::value(network, i);
+        let asked = network::value(network, i);
         sum = (sum % 4294967296) * 31 + asked.value as u64;
         i += 1;
     }

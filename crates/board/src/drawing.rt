@@ -3,9 +3,6 @@ ghost use mathlib.Core.Path.{_≡_};
 ghost use mathlib.Core.Bool.{true};
 ghost use Prim.Native.Nat.{_<_};
 ghost use Rattle.network.specs.Abstract.{isChannel};
-use crate::put;
-use crate::put_line;
-use crate::put_number;
 use agent::Agent;
 use agent::Lhs;
 use agent::Message;
@@ -13,6 +10,9 @@ use network::Network;
 use network::places::channel_at;
 use network::places::place_at;
 use packed::digit;
+use words::printing::put;
+use words::printing::put_line;
+use words::printing::put_number;
 
 // ---- left sides and sets
 

@@ -12,34 +12,12 @@ mod drawing;
 use calls::Call;
 use calls::read_call;
 use drawing::put_board;
-use libc::STDOUT_FILENO;
 use network::Network;
 use run::Ending;
-use words::word_for;
-
-// ---- printing
-
-fn put(s: &[u8]) {
-    io::write_all(STDOUT_FILENO, s);
-}
-
-fn put_number(n: u64) {
-    io::print_decimal(STDOUT_FILENO, n);
-}
-
-// A line: what stands before the number, and the number.
-fn put_line(before: &[u8], n: u64) {
-    put(before);
-    put_number(n);
-    put(b"\n");
-}
-
-fn put_ending(e: Ending) {
-    let w = word_for(e);
-    let letters = w.letters;
-    let n = w.length;
-    put(&letters[..n]);
-}
+use words::printing::put;
+use words::printing::put_ending;
+use words::printing::put_line;
+use words::printing::put_number;
 
 // ---- calls
 
@@ -69,8 +47,8 @@ fn run(r: Network, rounds: u64) -> Network
     let ending = out.ending;
     put(b"run ");
     put_number(rounds);
-    if let Ending::Broken = ending {
-        put(b": refused 5\n");
+    if out.number != 0 {
+        put_line(b": refused ", out.number as u64);
         return out.network;
     }
     put(b": ");

@@ -5,8 +5,8 @@ use mathlib.Core.List.{List}
 use Rattle.protocol.specs.Network.{startSheet}
 use Rattle.protocol.specs.Run.{Ran, run}
 use Rattle.network.specs.Abstract.{networkOf}
-use Rattle.run.specs.Abstract.{endingOf}
-use Rattle.dock.specs.declared.Settled.{Settled}
+use Rattle.run.specs.Answers.{endingOf}
+use Rattle.dock.specs.declared.Settlement.{Settlement}
 
 -- "runs with 100,000 rounds"
 unfoldable pub programRounds : ℕ
@@ -16,7 +16,7 @@ unfoldable pub settled : List ℕ → Ran
 settled sheet = run programRounds (startSheet sheet .network)
 
 -- the number of the sheet's fault, or 0 and the run: its word, its full rounds and the network that it leaves
-pub record Settles (sheet : List ℕ) (s : Settled) : Type 0 where
+pub record Settles (sheet : List ℕ) (s : Settlement) : Type 0 where
   pub number : s .number ≡ startSheet sheet .number
   pub ending : s .number ≡ 0 → endingOf (s .ran .ending) ≡ settled sheet .ending
   pub rounds : s .number ≡ 0 → s .ran .rounds ≡ settled sheet .made

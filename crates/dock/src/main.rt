@@ -1,65 +1,46 @@
 // Reads a sheet on standard input, has the scanners settle it and prints what they come to.
 ghost use Rattle.dock.specs.Settling.{Settles};
 use libc::STDIN_FILENO;
-use libc::STDOUT_FILENO;
 use network::Network;
+use run::Answer;
 use run::Ending;
-use run::Ran;
-use words::word_for;
+use words::printing::put;
+use words::printing::put_ending;
+use words::printing::put_line;
+use words::printing::put_number;
 
 // What a sheet comes to: the number of its fault, or 0 and the run on its start.
-struct Settled {
+struct Settlement {
     number: u8,
-    ran: Ran,
+    ran: Answer,
 }
 
 // The start of a sheet, and the run on it with 100,000 rounds.
-fn settle(sheet: &[u8]) -> Settled
+fn settle(sheet: &[u8]) -> Settlement
     ensures { λ s. ⌜ Settles (now (sheet .entry)) s ⌝ }
 {
     let started = start::start(sheet);
     let network = started.network;
     if started.number != 0 {
-        let ran = Ran {
+        let ran = Answer {
             network: network,
             rounds: 0,
+            number: 0,
             ending: Ending::Broken,
         };
-        return Settled {
+        return Settlement {
             number: started.number,
             ran: ran,
         };
     }
     let ran = run::run(network, 100000);
-    Settled {
+    Settlement {
         number: 0,
         ran: ran,
     }
 }
 
 // ---- printing
-
-fn put(s: &[u8]) {
-    io::write_all(STDOUT_FILENO, s);
-}
-
-fn put_number(n: u64) {
-    io::print_decimal(STDOUT_FILENO, n);
-}
-
-// A line: what stands before the number, and the number.
-fn put_line(before: &[u8], n: u64) {
-    put(before);
-    put_number(n);
-    put(b"\n");
-}
-
-fn put_ending(e: Ending) {
-    let w = word_for(e);
-    let letters = w.letters;
-    let n = w.length;
-    put(&letters[..n]);
-}
 
 // A line for scanner i, where there is one.
 fn put_agent(r: Network, i: u8) {
@@ -68,7 +49,7 @@ fn put_agent(r: Network, i: u8) {
     }
     put(b"scanner ");
     put_number(i as u64);
-    put_line(b" slot ", start::value(r, i).value as u64);
+    put_line(b" slot ", network::value(r, i).value as u64);
 }
 
 // A line for each scanner.
@@ -78,7 +59,7 @@ fn put_plan(r: Network) {
     }
 }
 
-fn put_settled(s: Settled) {
+fn put_settled(s: Settlement) {
     if s.number != 0 {
         put_line(b"sheet refused ", s.number as u64);
         return;

@@ -1,431 +1,277 @@
-// Forged networks, each one change away from a network in shape, and what the test of the shape says of each: a line for each case, with its
-// name and yes or no. A case that is not as it must be says so.
-ghost use Prim.Native.Nat.{_≤_, _<_};
-use agent::Agent;
-use agent::Carried;
-use agent::Lhs;
+// Forged networks, each one change away from one in shape, and what the public calls say of each: a line for each case. The test of the shape; a delivery
+// from 2 to 3, a run with one round and asking the value of agent 1, each with the number that it answers; and of a refused call whether it hands back the
+// network given, in every field.
+mod comparing;
+mod forging;
+
 use agent::Message;
+use comparing::same;
+use forging::back;
+use forging::counted;
+use forging::far_back;
+use forging::good;
+use forging::headed;
+use forging::holding;
+use forging::informing;
+use forging::judged;
+use forging::keeping;
+use forging::listening;
+use forging::repeated;
+use forging::viewing;
+use forging::waiting;
+use forging::with_bans;
+use forging::with_domain;
+use forging::with_message;
 use network::Network;
-use network::Place;
-use packed::with_digit;
+use run::Answer;
+use words::printing::put;
+use words::printing::put_number;
+use words::word_for;
 
-// ---- one change. Agent i + 1 has place i of its array and bit i of a set; digit i of a packed word is its value. Of the channels, 1 to 2 has
-// number 0, 1 to 3 number 1, 2 to 1 number 11, 2 to 3 number 12, 3 to 1 number 22 and 3 to 2 number 23; the places of number l begin at 8 * l.
+// ---- printing
 
-fn counted(r: Network, n: u8) -> Network {
-    let mut o = r;
-    o.count = n;
-    o
+fn put_after(before: &[u8], n: u64) {
+    put(before);
+    put_number(n);
 }
 
-fn with_domain(r: Network, i: usize, d: u8) -> Network
-    requires { ⌜ i < 12 ⌝ }
-{
-    let mut o = r;
-    o.domains[i] = d;
-    o
+fn put_shape(name: &[u8], r: Network) {
+    put(name);
+    if network::in_shape(r) {
+        put(b": in shape");
+    } else {
+        put(b": broken");
+    }
 }
 
-fn with_bans(r: Network, at: usize, word: u64) -> Network
-    requires { ⌜ at < 66 ⌝ }
-{
-    let mut o = r;
-    o.bans[at] = word;
-    o
-}
-
-fn judged(r: Network) -> Network {
-    let mut o = r;
-    o.verdict = true;
-    o
-}
-
-fn holding(r: Network, i: usize, value: u8) -> Network
-    requires { ⌜ i < 12 ⌝ }
-{
-    let mut a = r.agents[i];
-    a.value = value;
-    let mut o = r;
-    o.agents[i] = a;
-    o
-}
-
-fn listening(r: Network, i: usize, set: u16) -> Network
-    requires { ⌜ i < 12 ⌝ }
-{
-    let mut a = r.agents[i];
-    a.listens = set;
-    let mut o = r;
-    o.agents[i] = a;
-    o
-}
-
-fn informing(r: Network, i: usize, set: u16) -> Network
-    requires { ⌜ i < 12 ⌝ }
-{
-    let mut a = r.agents[i];
-    a.informs = set;
-    let mut o = r;
-    o.agents[i] = a;
-    o
-}
-
-fn viewing(r: Network, i: usize, digits: u64) -> Network
-    requires { ⌜ i < 12 ⌝ }
-{
-    let mut a = r.agents[i];
-    let view = Lhs { digits: digits };
-    a.view = view;
-    let mut o = r;
-    o.agents[i] = a;
-    o
-}
-
-// What agent i + 1 has beside its value k + 1.
-fn keeping(r: Network, i: usize, k: u8, stored: bool, digits: u64) -> Network
-    requires { ⌜ (i < 12) × (k < 8) ⌝ }
-{
-    let mut a = r.agents[i];
-    a.nogoods[k as usize] = digits;
-    a.stored = (a.stored & !(1u8 << k)) | ((stored as u8) << k);
-    let mut o = r;
-    o.agents[i] = a;
-    o
-}
-
-// The head of a line.
-fn headed(r: Network, from: u8, to: u8, head: u8) -> Network
-    requires { ⌜ (1 ≤ from) × (from ≤ 12) × (1 ≤ to) × (to ≤ 16) × (head < 16) ⌝ }
-{
-    let at = from as usize - 1;
-    let mut o = r;
-    o.heads[at] = with_digit(r.heads[at], to, head);
-    o
-}
-
-// How many messages a line holds.
-fn waiting(r: Network, from: u8, to: u8, n: u8) -> Network
-    requires { ⌜ (1 ≤ from) × (from ≤ 12) × (1 ≤ to) × (to ≤ 16) × (n < 16) ⌝ }
-{
-    let at = from as usize - 1;
-    let mut o = r;
-    o.counts[at] = with_digit(r.counts[at], to, n);
-    o
-}
-
-fn with_message(r: Network, at: usize, m: Message) -> Network
-    requires { ⌜ at < 1056 ⌝ }
-{
-    let mut o = r;
-    o.places[at] = Place { message: m };
-    o
-}
-
-// A Back; the left side's digits are those of agents 1 to 4.
-fn back(digits: u16, value: u8) -> Message {
-    let lhs = Carried {
-        low: digits,
-        middle: 0,
-        high: 0,
-    };
-    Message::Back(value, lhs)
-}
-
-// ---- a network in shape
-
-// Three agents with domain 2. Bans: 1:1 with 3:1, and 2:1 with 3:2. Agent 3 listens to both others and sees both at 1; it holds 2 and keeps
-// "1 has 1" for its own value 1. It has sent agent 2 a Back with the left side "1 has 1", then an AddLink, and agent 1 an AddLink. Channel 1 to 3
-// is full and begins in the midst of its ring; on channel 2 to 3 waits one Info.
-fn good() -> Network {
-    let mut r = network::empty();
-    r.count = 3;
-    r.domains[0] = 2;
-    r.domains[1] = 2;
-    r.domains[2] = 2;
-    r.bans[1] = 1;
-    r.bans[2] = 2;
-    r = informing(holding(r, 0, 1), 0, 0b100);
-    r = informing(holding(r, 1, 1), 1, 0b100);
-    r = viewing(listening(holding(r, 2, 2), 2, 0b11), 2, 0x11);
-    r = keeping(r, 2, 0, true, 0x1);
-    r = waiting(headed(r, 1, 3, 3), 1, 3, 8);
-    r = with_message(with_message(r, 8, Message::Info(1)), 9, Message::Info(2));
-    r = with_message(with_message(r, 10, Message::Info(1)), 11, Message::Info(2));
-    r = with_message(with_message(r, 12, Message::Info(1)), 13, Message::Info(2));
-    r = with_message(with_message(r, 14, Message::Info(1)), 15, Message::Info(2));
-    r = with_message(waiting(r, 2, 3, 1), 96, Message::Info(1));
-    r = with_message(waiting(r, 3, 2, 2), 184, back(0x1, 1));
-    waiting(r, 3, 1, 1)
+// A call's number, and where it is refused what it hands back for the network given.
+fn put_answer(before: &[u8], a: Answer, given: Network) {
+    put_after(before, a.number as u64);
+    if a.number == 0 {
+        return;
+    }
+    if same(a.network, given) {
+        put(b", as given");
+    } else {
+        put(b", CHANGED");
+    }
 }
 
 // ---- the cases
 
-// One more, of at most a thousand.
-fn next(n: u32) -> u32 {
-    if n < 1000 { n + 1 } else { n }
-}
-
-// One case, and how many are right so far: one more where the test says what it must.
-fn case(right: u32, name: &[u8], wanted: bool, r: Network) -> u32 {
-    let said = network::in_shape(r);
-    io::write_all(1, name);
-    if said {
-        io::write_all(1, b": yes");
-    } else {
-        io::write_all(1, b": no");
+// One case. The comparison has to tell it from the good network too.
+fn case(name: &[u8], g: Network, r: Network) {
+    put_shape(name, r);
+    put_answer(b"; delivery ", run::deliver(r, 2, 3), r);
+    put_answer(b"; run ", run::run(r, 1), r);
+    put_after(b"; value ", network::value(r, 1).number as u64);
+    if same(r, g) {
+        put(b"; no change");
     }
-    if said == wanted {
-        io::write_all(1, b"\n");
-        return next(right);
-    }
-    io::write_all(1, b", which is WRONG\n");
-    right
+    put(b"\n");
 }
 
 // What may differ and leave the shape as it is.
-fn free(right: u32, g: Network) -> u32 {
-    let n = case(right, b"good", true, g);
-    let n = case(
-        n,
-        b"no value under the verdict",
-        true,
-        judged(holding(g, 0, 0)),
-    );
-    let n = case(
-        n,
+fn free(g: Network) {
+    case(b"good", g, g);
+    case(b"no value under the verdict", g, judged(holding(g, 0, 0)));
+    case(
         b"a left side beside no nogood",
-        true,
+        g,
         keeping(g, 2, 1, false, 0x270f),
     );
-    let n = case(
-        n,
-        b"an unused place",
-        true,
-        with_message(g, 0, back(0x270f, 9)),
-    );
-    let n = case(n, b"a head beyond the ring", true, headed(g, 1, 3, 11));
-    let n = case(n, b"a count of no line", true, waiting(g, 2, 2, 9));
-    let n = case(n, b"a count beyond agent 12", true, waiting(g, 2, 13, 9));
-    n
+    case(b"an unused place", g, with_message(g, 0, back(0x270f, 9)));
+    case(b"a head beyond the ring", g, headed(g, 1, 3, 11));
+    case(b"a head of 15", g, headed(g, 1, 3, 15));
+    case(b"a head beyond agent 12", g, headed(g, 1, 13, 5));
+    case(b"a count of no line", g, waiting(g, 2, 2, 9));
+    case(b"a count beyond agent 12", g, waiting(g, 2, 13, 9));
 }
 
 // n, the domains, the bans.
-fn problems(right: u32, g: Network) -> u32 {
-    let n = case(right, b"empty", false, network::empty());
-    let n = case(n, b"13 agents", false, counted(g, 13));
-    let n = case(n, b"no values", false, with_domain(g, 1, 0));
-    let n = case(n, b"9 values", false, with_domain(g, 1, 9));
-    let n = case(n, b"values beyond n", false, with_domain(g, 3, 1));
-    let n = case(
-        n,
+fn problems(g: Network) {
+    case(b"empty", g, network::empty());
+    case(b"13 agents", g, counted(g, 13));
+    case(b"255 agents", g, counted(g, 255));
+    case(b"no values", g, with_domain(g, 1, 0));
+    case(b"9 values", g, with_domain(g, 1, 9));
+    case(b"255 values", g, with_domain(g, 1, 255));
+    case(b"values beyond n", g, with_domain(g, 3, 1));
+    case(
         b"a ban on the lower agent's value 3",
-        false,
+        g,
         with_bans(g, 1, 65537),
     );
-    let n = case(
-        n,
+    case(
         b"a ban on the higher agent's value 3",
-        false,
+        g,
         with_bans(g, 1, 5),
     );
-    let n = case(n, b"a ban beyond n", false, with_bans(g, 3, 1));
-    n
+    case(b"a ban beyond n", g, with_bans(g, 3, 1));
 }
 
 // The value an agent holds.
-fn values(right: u32, g: Network) -> u32 {
-    let n = case(right, b"a value not owned", false, holding(g, 0, 3));
-    let n = case(n, b"no value", false, holding(g, 0, 0));
-    let n = case(
-        n,
+fn values(g: Network) {
+    case(b"a value not owned", g, holding(g, 0, 3));
+    case(b"no value", g, holding(g, 0, 0));
+    case(
         b"a value not owned under the verdict",
-        false,
+        g,
         judged(holding(g, 0, 3)),
     );
-    n
 }
 
 // Whom an agent listens to and informs.
-fn sets(right: u32, g: Network) -> u32 {
-    let n = case(right, b"listens to itself", false, listening(g, 2, 0b111));
-    let n = case(n, b"listens downward", false, listening(g, 1, 0b100));
-    let n = case(
-        n,
+fn sets(g: Network) {
+    case(b"listens to itself", g, listening(g, 2, 0b111));
+    case(b"listens downward", g, listening(g, 1, 0b100));
+    case(b"listens to agent 13", g, listening(g, 2, 0b1000000000011));
+    case(
         b"listens to agent 16",
-        false,
+        g,
         listening(g, 2, 0b1000000000000011),
     );
-    let n = case(n, b"informs itself", false, informing(g, 1, 0b110));
-    let n = case(n, b"informs upward", false, informing(g, 1, 0b101));
-    let n = case(n, b"informs beyond n", false, informing(g, 1, 0b1100));
-    let n = case(
-        n,
-        b"informs agent 16",
-        false,
-        informing(g, 1, 0b1000000000000100),
-    );
-    let n = case(n, b"banned and not listening", false, listening(g, 2, 0b10));
-    let n = case(n, b"banned and not informing", false, informing(g, 0, 0));
-    let n = case(
-        n,
-        b"informed and not listening",
-        false,
-        informing(g, 0, 0b110),
-    );
-    n
+    case(b"informs itself", g, informing(g, 1, 0b110));
+    case(b"informs upward", g, informing(g, 1, 0b101));
+    case(b"informs beyond n", g, informing(g, 1, 0b1100));
+    case(b"informs agent 16", g, informing(g, 1, 0b1000000000000100));
+    case(b"banned and not listening", g, listening(g, 2, 0b10));
+    case(b"banned and not informing", g, informing(g, 0, 0));
+    case(b"informed and not listening", g, informing(g, 0, 0b110));
 }
 
 // Views and nogoods.
-fn views(right: u32, g: Network) -> u32 {
-    let n = case(
-        right,
-        b"a view of one not listened to",
-        false,
-        viewing(g, 1, 0x1),
-    );
-    let n = case(
-        n,
-        b"a view with a value not owned",
-        false,
-        viewing(g, 2, 0x31),
-    );
-    let n = case(
-        n,
-        b"a view of agent 13",
-        false,
-        viewing(g, 2, 0x1000000000011),
-    );
-    let n = case(
-        n,
-        b"a nogood against the view",
-        false,
-        keeping(g, 2, 0, true, 0x2),
-    );
-    let n = case(
-        n,
-        b"a nogood of an unknown agent",
-        false,
+fn views(g: Network) {
+    case(b"a view of one not listened to", g, viewing(g, 1, 0x1));
+    case(b"a view with a value not owned", g, viewing(g, 2, 0x31));
+    case(b"a view of agent 13", g, viewing(g, 2, 0x1000000000011));
+    case(b"a view of agent 16", g, viewing(g, 2, 0x1000000000000011));
+    case(b"a nogood against the view", g, keeping(g, 2, 0, true, 0x2));
+    case(
+        b"a nogood of agent 13",
+        g,
         keeping(g, 2, 0, true, 0x1000000000001),
     );
-    let n = case(
-        n,
+    case(
+        b"a nogood of agent 16",
+        g,
+        keeping(g, 2, 0, true, 0x1000000000000001),
+    );
+    case(
         b"a nogood at a value not owned",
-        false,
+        g,
         keeping(g, 2, 2, true, 0x0),
     );
-    n
 }
 
 // An agent beyond n.
-fn beyond(right: u32, g: Network) -> u32 {
-    let n = case(right, b"a value beyond n", false, holding(g, 3, 1));
-    let n = case(n, b"listens beyond n", false, listening(g, 3, 0b1));
-    let n = case(n, b"agent 4 informs", false, informing(g, 3, 0b10000));
-    let n = case(n, b"a view beyond n", false, viewing(g, 3, 0x1));
-    let n = case(n, b"a nogood beyond n", false, keeping(g, 3, 0, true, 0x0));
-    let n = case(n, b"a message from beyond n", false, waiting(g, 4, 1, 1));
-    n
+fn beyond(g: Network) {
+    case(b"a value beyond n", g, holding(g, 3, 1));
+    case(b"listens beyond n", g, listening(g, 3, 0b1));
+    case(b"agent 4 informs", g, informing(g, 3, 0b10000));
+    case(b"a view beyond n", g, viewing(g, 3, 0x1));
+    case(b"a nogood beyond n", g, keeping(g, 3, 0, true, 0x0));
+    case(
+        b"a message from beyond n",
+        g,
+        waiting(with_message(g, 264, Message::AddLink), 4, 1, 1),
+    );
 }
 
 // Full channels, and Info.
-fn news(right: u32, g: Network) -> u32 {
-    let n = case(right, b"nine messages", false, waiting(g, 1, 3, 9));
-    let n = case(
-        n,
-        b"Info upward",
-        false,
-        with_message(g, 176, Message::Info(1)),
-    );
-    let n = case(
-        n,
+fn news(g: Network) {
+    case(b"nine messages", g, waiting(g, 1, 3, 9));
+    case(b"fifteen messages", g, waiting(g, 1, 3, 15));
+    case(b"Info upward", g, with_message(g, 176, Message::Info(1)));
+    case(
         b"Info of a value not owned",
-        false,
+        g,
         with_message(g, 96, Message::Info(3)),
     );
-    let n = case(
-        n,
+    case(
         b"Info of no value",
-        false,
+        g,
         with_message(g, 96, Message::Info(0)),
     );
-    let n = case(
-        n,
+    case(
         b"Info to one not listening",
-        false,
+        g,
         waiting(with_message(g, 0, Message::Info(1)), 1, 2, 1),
     );
-    n
 }
 
 // Back and AddLink.
-fn refusals(right: u32, g: Network) -> u32 {
-    let n = case(
-        right,
-        b"Back downward",
-        false,
-        with_message(g, 96, back(0x0, 1)),
-    );
-    let n = case(
-        n,
+fn refusals(g: Network) {
+    case(b"Back downward", g, with_message(g, 96, back(0x0, 1)));
+    case(
         b"Back of a value not owned",
-        false,
+        g,
         with_message(g, 184, back(0x1, 3)),
     );
-    let n = case(
-        n,
-        b"Back of no value",
-        false,
-        with_message(g, 184, back(0x1, 0)),
-    );
-    let n = case(
-        n,
+    case(b"Back of no value", g, with_message(g, 184, back(0x1, 0)));
+    case(
         b"Back from one not listening",
-        false,
+        g,
         waiting(with_message(g, 88, back(0x0, 1)), 2, 1, 1),
     );
-    let n = case(
-        n,
+    case(
         b"Back that names the receiver",
-        false,
+        g,
         with_message(g, 184, back(0x10, 1)),
     );
-    let n = case(
-        n,
+    case(
         b"Back that names a value not owned",
-        false,
+        g,
         with_message(g, 184, back(0x3, 1)),
     );
-    let n = case(
-        n,
+    case(
         b"Back that names agent 4, beyond n",
-        false,
+        g,
         with_message(g, 184, back(0x1001, 1)),
     );
-    let n = case(
-        n,
+    case(
+        b"Back that names agent 12, beyond n",
+        g,
+        with_message(g, 184, far_back(1)),
+    );
+    case(
         b"AddLink downward",
-        false,
+        g,
         with_message(g, 96, Message::AddLink),
     );
-    let n = case(
-        n,
+    case(
         b"AddLink from one not listening",
-        false,
-        waiting(g, 2, 1, 1),
+        g,
+        waiting(with_message(g, 88, Message::AddLink), 2, 1, 1),
     );
-    n
+}
+
+// A link request of an agent already informed, in a network that is in shape otherwise: a delivery meets 9, and a run, which has delivered the Info by
+// then, stops.
+fn requests() {
+    let r = repeated();
+    put_shape(b"a link asked for twice", r);
+    put_answer(b"; delivery ", run::deliver(r, 2, 1), r);
+    let ran = run::run(r, 1);
+    let ending = ran.ending;
+    let word = word_for(ending);
+    let letters = word.letters;
+    let n = word.length;
+    put(b"; run ");
+    put(&letters[..n]);
+    put_after(b", ", ran.rounds);
+    put(b" rounds\n");
 }
 
 fn main() {
     let g = good();
-    let n = free(0, g);
-    let n = problems(n, g);
-    let n = values(n, g);
-    let n = sets(n, g);
-    let n = views(n, g);
-    let n = beyond(n, g);
-    let n = news(n, g);
-    let n = refusals(n, g);
-    io::print_decimal(1, n as u64);
-    io::write_all(1, b" of 54 as they must be\n");
+    free(g);
+    problems(g);
+    values(g);
+    sets(g);
+    views(g);
+    beyond(g);
+    news(g);
+    refusals(g);
+    requests();
 }

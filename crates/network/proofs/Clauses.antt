@@ -1,13 +1,14 @@
 -- The clauses of the shape, each for a network of which only what the clause reads is known, in the form in which the code goes through it.
-use Prim.Native.Nat.{ℕ, zero, suc, pred, _+_, _-_, _/_, _%_, _^_, _≤_, _<_}
-use mathlib.Core.Path.{_≡_, sym, ap, _∙_}
-use mathlib.Core.Bool.{Bool, true, false, not, _&&_, _||_, and-assoc, and-false, or-false, or-and-distrib-left}
+use Prim.Native.Nat.{ℕ, zero, suc, pred, _+_, _*_, _-_, _/_, _%_, _^_, _≤_, _<_}
+use mathlib.Core.Path.{_≡_, refl, sym, ap, _∙_}
+use mathlib.Core.Bool.{Bool, true, false, not, cond, _&&_, _||_, and-true, and-false, and-comm, or-false, or-and-distrib-left}
 use mathlib.Core.Option.{none}
 use mathlib.Core.List.{List, map}
 use native.Mathlib.Nat.{not-suc-le-zero, div-one}
 use native.Mathlib.Omega.{arith}
 use native.Mathlib.Numerals.{add-one}
-use lib.Dec.{eqb, ltb, leb}
+use lib.Bits.{bitAnd}
+use lib.Dec.{eqb, ltb, leb, eqb·suc-zero}
 use lib.ListN.{length, getD, length-map, List·getD-map}
 use borrow.Author.Tests.{eq-eqb, ne-eqb, lt-ltb, le-ltb, le-leb, lt-leb, ltb-true, ltb-false, leb-true, leb-false}
 use Rattle.base.proofs.Tests.{test}
@@ -16,17 +17,20 @@ use Rattle.base.specs.Bits.{bit}
 use Rattle.base.proofs.Arrays.{getD-below}
 use Rattle.base.proofs.Peeling.{allTo-same, allTo-and, below-test}
 use Rattle.problem.specs.Problem.{Problem, maxAgents, maxDomain, domain, owns, wordAt, isPair, linked}
-use Rattle.agent_rules.specs.Agent.{noAgent}
+use Rattle.agent_rules.specs.Message.{known}
+use Rattle.agent_rules.specs.Agent.{unusedAgent}
 use Rattle.agent_rules.specs.Shape.{maxNamed}
 use Rattle.protocol.specs.Network.{Network as Network′}
-use Rattle.protocol.specs.Shape.{eachNamed, eachIn, holdsValue, listensUpward, informsDownward, linkedListen, informedListen, viewListened, nogoodFits, nogoodsFit, unused, agentInShape}
+use Rattle.protocol.specs.Shape.{eachNamed, eachIn, holdsValue, listensUpward, informsDownward, viewListened, nogoodFits, nogoodsFit, unused, lhsFits}
 use Rattle.packed.specs.Packed.{assignment, members}
+use Rattle.packed.proofs.Known.{known-suc}
+use Rattle.packed.proofs.Digits.{pow16, cut-before, cut-from}
 use Rattle.agent.specs.Abstract.{assigned, nogoodAt, agentOf}
 use Rattle.agent.specs.declared.Agent.{Agent}
 use Rattle.network.specs.Abstract.{agentsOf, networkOf}
-use Rattle.network.specs.Parts.{setOf, linksInShape, holdsInShape}
+use Rattle.network.specs.Parts.{Domains, setOf}
 use Rattle.network.specs.declared.Network.{Network}
-use Rattle.network.proofs.Words.{in-same, none-in, none-named, agreeing}
+use Rattle.network.proofs.Words.{in-same, in-other, none-in, none-named, set-at}
 use Rattle.network.proofs.Ranges.{within-at}
 
 below-is : (k i : ℕ) → 1 ≤ i → ltb k i ≡ leb k (i - 1)
@@ -48,15 +52,61 @@ downward w i count informs e f =
     (allTo-same maxNamed _ _ (λ k l u. or-and-distrib-left (not (members informs k)) (ltb i k) (leb k count))
     ∙ allTo-and maxNamed (λ k. not (members informs k) || ltb i k) (λ k. not (members informs k) || leb k count))
 
-pub view-is : (w : Network′) (i listens view : ℕ) → w .agents i .listens ≡ members listens → w .agents i .view ≡ assignment view
-    → viewListened w i ≡ eachNamed (assignment view) (λ k v. members listens k && owns (w .problem) k v)
-unfolding viewListened
-view-is w i listens view e f = rw (e, f)
+-- ---- values against the domains
 
-pub informed-is : (w : Network′) (i informs : ℕ) (listens : List ℕ) → ((k x : ℕ) → w .agents k .listens x ≡ setOf listens k x)
-    → w .agents i .informs ≡ members informs → informedListen w i ≡ eachIn (members informs) (λ k. setOf listens k i)
-unfolding informedListen
-informed-is w i informs listens e f = rw f (in-same informs _ _ (λ k l u. e k i))
+-- a value that an agent owns, if it has one, is at most its domain
+owned-to : (p : Problem) (k v : ℕ) → not (known v) || owns p k v ≡ leb v (domain p k)
+unfolding owns known
+owned-to p k zero = sym (le-leb 0 (domain p k) (omega arith))
+owned-to p k (suc v) = rw (known-suc v) (within-at (domain p k) (suc v) (omega arith))
+
+pub value-is : (w : Network′) (i d value : ℕ) → domain (w .problem) i ≡ d → w .agents i .value ≡ value
+    → holdsValue w i ≡ cond (eqb value 0) (w .verdict) (leb value d)
+unfolding holdsValue owns within
+value-is w i d zero e f = rw (e, f) (and-true (w .verdict))
+value-is w i d (suc v) e f = rw (e, f, within-at d (suc v) (omega arith), eqb·suc-zero v, and-false, or-false)
+
+pub view-is : (w : Network′) (i domains listens view : ℕ) → Domains (w .problem) domains → w .agents i .listens ≡ members listens
+    → w .agents i .view ≡ assignment view
+    → viewListened w i
+    ≡ allTo maxNamed (λ k. leb (assignment view k) (assignment domains k)) && allTo maxNamed (λ k. not (known (assignment view k)) || members listens k)
+unfolding viewListened eachNamed
+view-is w i domains listens view o e f =
+    rw (e, f)
+    (allTo-same maxNamed _ _ (λ k a b. both-asked k)
+    ∙ allTo-and maxNamed (λ k. leb (assignment view k) (assignment domains k)) (λ k. not (known (assignment view k)) || members listens k))
+  where
+    both-asked : (k : ℕ) → not (known (assignment view k)) || (members listens k && owns (w .problem) k (assignment view k))
+        ≡ leb (assignment view k) (assignment domains k) && (not (known (assignment view k)) || members listens k)
+    both-asked k =
+        rw (
+          and-comm (members listens k) (owns (w .problem) k (assignment view k)),
+          or-and-distrib-left (not (known (assignment view k))) (owns (w .problem) k (assignment view k)) (members listens k),
+          owned-to (w .problem) k (assignment view k),
+          o k,
+        )
+
+pub names-in : (view named listens : ℕ) → ((k : ℕ) → members named k ≡ known (assignment view k)) → named < 2 ^ 16 → listens < 2 ^ 16
+    → allTo maxNamed (λ k. not (known (assignment view k)) || members listens k) ≡ eqb (bitAnd named (2 ^ 16 - 1 - listens)) 0
+unfolding eachIn
+names-in view named listens g h l = allTo-same maxNamed _ _ (λ k a b. rw (← g k)) ∙ in-other named listens h l
+
+-- the left side of a refusal to agent j, where the word is cut off before the digit of agent j
+pub lhs-is : (p : Problem) (j domains lhs : ℕ) → 1 ≤ j → Domains p domains
+    → lhsFits p j (assignment lhs) ≡ allTo maxNamed (λ k. leb (assignment lhs k) (assignment (domains % 2 ^ (4 * (j - 1))) k))
+unfolding lhsFits eachNamed known
+lhs-is p j domains lhs h o = rw (← pow16 (j - 1)) (allTo-same maxNamed _ _ (λ k a b. each k a))
+  where
+    unnamed : (v : ℕ) → not (known v) ≡ leb v 0
+    unnamed zero = refl
+    unnamed (suc v) = rw (known-suc v) (sym (lt-leb (suc v) 0 (omega arith)))
+
+    each : (k : ℕ) → 1 ≤ k → not (known (assignment lhs k)) || (ltb k j && owns p k (assignment lhs k))
+        ≡ leb (assignment lhs k) (assignment (domains % 16 ^ (j - 1)) k)
+    each k a =
+        test (ltb k j)
+        (λ t. rw (t, owned-to p k (assignment lhs k), ← o k, cut-before (j - 1) domains k (omega (arith, ltb-true k j t))))
+        (λ t. rw (t, cut-from (j - 1) domains k (omega (arith, ltb-false k j t)), or-false) (unnamed (assignment lhs k)))
 
 -- ---- nogoods
 
@@ -67,10 +117,12 @@ from-at z f (suc v) h = let e : suc v - 1 ≡ v = omega arith in rw e
 
 -- the nogood of value u + 1 fits, where the domain is d
 unfoldable pub storedFits : ℕ → Agent → ℕ → Bool
-storedFits d a u = not (bit (a .stored) u) || (ltb u d && agreeing (getD (a .nogoods) u 0) (a .view .digits))
+storedFits d a u =
+    not (bit (a .stored) u)
+    || (ltb u d && eachNamed (assignment (getD (a .nogoods) u 0)) (λ k v. eqb v (assignment (a .view .digits) k)))
 
 nogood-is : (d : ℕ) (a : Agent) (v : ℕ) → 1 ≤ v → nogoodFits (within d v) (agentOf a .view) (agentOf a .nogoods v) ≡ storedFits d a (v - 1)
-unfolding storedFits agentOf nogoodAt nogoodFits assigned agreeing
+unfolding storedFits agentOf nogoodAt nogoodFits assigned
 nogood-is d a v h =
     rw (from-at none (nogoodAt (a .stored) (a .nogoods)) v h, owned-is)
     (test (bit (a .stored) (v - 1)) (λ t. rw (t, nogoodAt)) (λ t. rw (t, nogoodAt)))
@@ -93,8 +145,9 @@ unfolding storedFits bit
 stored-out d a u e h = rw (eq-eqb (a .stored / 2 ^ u % 2) 1 e, le-ltb u d h)
 
 pub stored-seen : (d : ℕ) (a : Agent) (u : ℕ) → a .stored / 2 ^ u % 2 ≡ 1 → u < d
-    → storedFits d a u ≡ eachNamed (assignment (getD (a .nogoods) u 0)) (λ k v. eqb v (assigned (a .view) k))
-unfolding storedFits bit agreeing assigned
+    → storedFits d a u
+    ≡ allTo maxNamed (λ k. not (known (assignment (getD (a .nogoods) u 0) k)) || eqb (assignment (getD (a .nogoods) u 0) k) (assignment (a .view .digits) k))
+unfolding storedFits bit eachNamed
 stored-seen d a u e h = rw (eq-eqb (a .stored / 2 ^ u % 2) 1 e, lt-ltb u d h)
 
 pub unstored : (d : ℕ) (a : Agent) (u : ℕ) → (a .stored / 2 ^ u % 2 ≡ 1 → ⊥) → storedFits d a u ≡ true
@@ -136,37 +189,23 @@ pub linked-at : (p : Problem) (bans : List ℕ) (i j : ℕ) → p .bans ≡ bans
 unfolding linked isPair maxAgents
 linked-at p bans i j e h l u = rw (lt-ltb 0 i h, lt-ltb i j l, le-leb j 12 u, e)
 
-pub record Heard (w : Network′) (bans informs : List ℕ) (j listens : ℕ) : Type 0 where
-  pub banned : w .problem .bans ≡ bans
-  pub informing : (k x : ℕ) → w .agents k .informs x ≡ setOf informs k x
-  pub listening : w .agents j .listens ≡ members listens
+-- an agent i above j, as the code looks at it
+unfoldable pub heardFrom : Network′ → ℕ → ℕ → Bool
+heardFrom w j i = cond (w .agents i .informs j) (w .agents j .listens i) (not (linked (w .problem) i j))
 
-pub heard-is : (w : Network′) (bans informs : List ℕ) (i j listens at : ℕ) → Heard w bans informs j listens
+pub heard-is : (w : Network′) (bans informs : List ℕ) (i j listens at : ℕ) → w .problem .bans ≡ bans
+    → ((k x : ℕ) → w .agents k .informs x ≡ setOf informs k x) → w .agents j .listens ≡ members listens
     → 1 ≤ i → i < j → j ≤ 12 → at ≡ wordAt i j
-    → not (linked (w .problem) i j) || (w .agents j .listens i && w .agents i .informs j)
-    ≡ not (ltb 0 (getD bans at 0)) || (members listens i && setOf informs i j)
-heard-is w bans informs i j listens at h a b d e =
-    rw (linked-at (w .problem) bans i j (h .banned) a b d, h .listening, h .informing i j, e)
+    → heardFrom w j i ≡ cond (members (getD informs (i - 1) 0) j) (members listens i) (not (ltb 0 (getD bans at 0)))
+unfolding heardFrom
+heard-is w bans informs i j listens at e f g a b d h =
+    rw (f i j, set-at informs i j a, g, linked-at (w .problem) bans i j e a b d, h)
 
--- ---- an agent, beyond n and within
-
-pub agent-beyond : (w : Network′) (i : ℕ) → w .problem .count < i → agentInShape w i ≡ unused (w .agents i)
-unfolding agentInShape
-agent-beyond w i h = rw (lt-leb i (w .problem .count) h, agentInShape)
-
-regroup : (h l i k d v n : Bool) → h && l && i && k && d && v && n ≡ l && i && k && d && (h && v && n)
-regroup true l i k d v n = and-assoc (l && i && k && d) v n
-regroup false l i k d v n = sym (and-false (l && i && k && d))
-
-pub agent-within : (w : Network′) (i : ℕ) → i ≤ w .problem .count → agentInShape w i ≡ linksInShape w i && holdsInShape w i
-unfolding agentInShape linksInShape holdsInShape
-agent-within w i h =
-    rw (le-leb i (w .problem .count) h, agentInShape)
-    (regroup (holdsValue w i) (listensUpward w i) (informsDownward w i) (linkedListen w i) (informedListen w i) (viewListened w i) (nogoodsFit w i))
+-- ---- an agent of the code's
 
 pub agent-at : (r : Network) (i : ℕ) (d : Agent) → length (r .agents) ≡ 12 → i < 12
     → networkOf r .agents (i + 1) ≡ agentOf (getD (r .agents) i d)
 unfolding networkOf agentsOf fromOne
 agent-at r i d l h =
     rw (add-one i)
-    (getD-below (map agentOf (r .agents)) i noAgent (agentOf d) (rw length-map (omega arith)) ∙ List·getD-map agentOf (r .agents) i d)
+    (getD-below (map agentOf (r .agents)) i unusedAgent (agentOf d) (rw length-map (omega arith)) ∙ List·getD-map agentOf (r .agents) i d)

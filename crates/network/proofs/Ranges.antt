@@ -1,33 +1,25 @@
--- The parts of `inRange` as the code tests them: who owns what, where a ban word stands, and a ban word taken apart byte by byte.
-use Prim.Native.Nat.{ℕ, zero, suc, pred, _+_, _*_, _-_, _/_, _%_, _^_, _≤_, _<_}
-use mathlib.Core.Path.{_≡_, refl, sym, ap, _∙_}
-use mathlib.Core.Bool.{Bool, true, false, not, _&&_, _||_, or-true, and-false}
+-- The parts of `inRange` as the code tests them: n, the domains, also as the digits of a word, and where a ban word stands.
+use Prim.Native.Nat.{ℕ, zero, suc, _+_, _*_, _-_, _/_, _%_, _^_, _≤_, _<_}
+use mathlib.Core.Path.{_≡_, refl, ap, _∙_}
+use mathlib.Core.Bool.{true, false, _&&_, and-false}
 use mathlib.Core.List.{List}
-use native.Mathlib.Nat.{not-suc-le-zero, div-one, zero-div, div-eq-of-lt, lt-of-lt-of-le}
+use native.Mathlib.Nat.{not-suc-le-zero, pow-suc, mod-lt, lt-of-lt-of-le, pow-le-pow-right}
 use native.Mathlib.Omega.{arith}
-use lib.Dec.{eqb, leb}
+use lib.Dec.{eqb, ltb, leb}
 use lib.ListN.{length, getD, List·getD-eq-default}
-use lib.Pow.{shr-shr, pow-mono}
-use borrow.Author.Tests.{lt-ltb, le-leb, lt-leb, eq-eqb, ne-eqb}
+use borrow.Author.Tests.{lt-ltb, le-leb, lt-leb, ltb-true, ltb-false, leb-true, leb-false}
 use Rattle.base.specs.Finite.{fromOne, within, allTo}
-use Rattle.base.specs.Bits.{bit}
-use Rattle.base.proofs.Tests.{to-within}
-use Rattle.base.proofs.Search.{to-allTo}
-use Rattle.base.proofs.Bits.{bit-of-zero, bit-field}
-use Rattle.base.proofs.Peeling.{allTo-same, walk-next, below-test}
-use Rattle.problem.specs.Problem.{Problem, maxAgents, maxDomain, domain, owns, wordAt, bitAt, countInRange, domainInRange, wordOwned, bansOwned, sized, inRange}
-use Rattle.network.specs.Parts.{rowOwned}
+use Rattle.base.proofs.Tests.{test, eq-test, to-within}
+use Rattle.problem.specs.Problem.{Problem, maxAgents, maxDomain, domain, owns, wordAt, countInRange, domainInRange, wordOwned, bansOwned, sized, inRange}
+use Rattle.problem.proofs.Range.{Ranged}
+use Rattle.packed.specs.Packed.{assignment}
+use Rattle.packed.proofs.Digits.{assigned-first, assigned-next, digit-above}
 
 -- ---- who owns what
 
-within-over : (m k : ℕ) → m < k → within m k ≡ false
+pub within-over : (m k : ℕ) → m < k → within m k ≡ false
 unfolding within
 within-over m k h = rw (lt-leb k m h, and-false)
-
-within-none : (v : ℕ) → within 0 v ≡ false
-unfolding within
-within-none zero = refl
-within-none (suc v) = within-over 0 (suc v) (omega arith)
 
 pub within-at : (m k : ℕ) → 1 ≤ k → within m k ≡ leb k m
 unfolding within
@@ -37,26 +29,6 @@ pub domain-at : (p : Problem) (domains : List ℕ) (k : ℕ) → p .domains ≡ 
 unfolding domain
 domain-at p domains zero e h = absurd (not-suc-le-zero h)
 domain-at p domains (suc k) e h = let d : suc k - 1 ≡ k = omega arith in rw (d, e)
-
--- there is no agent 0, and none beyond the last domain
-pub owns-nobody : (p : Problem) (k v : ℕ) → k ≡ 0 → owns p k v ≡ false
-unfolding owns domain
-owns-nobody p k v e = rw e (within-none v)
-
-pub owns-beyond : (p : Problem) (domains : List ℕ) (k v : ℕ) → p .domains ≡ domains → length domains < k → owns p k v ≡ false
-unfolding owns
-owns-beyond p domains k v e h =
-    rw (domain-at p domains k e (omega arith), List·getD-eq-default domains 0 {n = k - 1} (omega arith)) (within-none v)
-
--- and no value 0
-pub owns-nothing : (p : Problem) (k v : ℕ) → v ≡ 0 → owns p k v ≡ false
-unfolding owns within
-owns-nothing p k v e = rw e
-
-pub owns-at : (p : Problem) (domains : List ℕ) (k v : ℕ) → p .domains ≡ domains → 1 ≤ k → 1 ≤ v
-    → owns p k v ≡ leb v (getD domains (k - 1) 0)
-unfolding owns
-owns-at p domains k v e h l = rw (domain-at p domains k e h) (within-at (getD domains (k - 1) 0) v l)
 
 -- ---- domains
 
@@ -89,82 +61,60 @@ pub word-is : (p : Problem) (domains bans : List ℕ) (i j at : ℕ) → p .doma
     ≡ wordOwned (getD domains (i - 1) 0) (getD domains (j - 1) 0) (getD bans at 0)
 word-is p domains bans i j at e f h l g = rw (domain-at p domains i e h, domain-at p domains j e l, f, g)
 
--- every bit of a word of two agents that own all values is owned
-pub word-wide : (d e word : ℕ) → word < 2 ^ 64 → 8 ≤ d → 8 ≤ e → wordOwned d e word ≡ true
-unfolding wordOwned maxDomain
-word-wide d e word h k l =
-    rw (lt-ltb word (2 ^ 64) h)
-    (to-allTo 8 _ (λ v a b. to-allTo 8 _ (λ w f g. rw (to-within d v a (omega arith), to-within e w f (omega arith), or-true))))
+-- ---- the domains as digits, from agent 12 down: those of the agents above i stand in the word
 
--- ---- a ban word, byte by byte
+pub record Digits (domains : List ℕ) (i word : ℕ) : Type 0 where
+  pub few : i ≤ 12
+  pub small : word < 16 ^ (12 - i)
+  pub are : (k : ℕ) → i < k → k ≤ 12 → assignment word (k - i) ≡ getD domains (k - 1) 0 % 16
 
-byte : ℕ → ℕ → ℕ
-byte x k = x / 2 ^ (8 * k) % 256
+pub none-yet : (domains : List ℕ) → Digits domains 12 0
+none-yet domains = record { few = omega arith; small = omega arith; are = λ k a b. absurd (omega arith) }
 
-byte-zero : (x : ℕ) → byte x 0 ≡ x % 256
-unfolding byte
-byte-zero x = rw (div-one x)
+pub room : (domains : List ℕ) (i word : ℕ) → 0 < i → Digits domains i word → word < 16 ^ 11
+room domains i word l s = lt-of-lt-of-le (s .small) (pow-le-pow-right {n = 16} (omega arith) {j = 11} (omega arith))
 
-byte-suc : (x k : ℕ) → byte x (suc k) ≡ byte (x / 256) k
-unfolding byte
-byte-suc x k =
-    let e : 8 * suc k ≡ 8 + 8 * k = omega arith in
-    rw e (ap (λ (y : ℕ). y % 256) (sym (shr-shr x 8 (8 * k))))
-
-byte-top : (x : ℕ) → x < 2 ^ 64 → byte (x / 256) 7 ≡ 0
-unfolding byte
-byte-top x h = omega arith
-
-byte-none : (v : ℕ) → fromOne 0 (byte 0) v ≡ 0
-unfolding byte fromOne
-byte-none zero = refl
-byte-none (suc v) = rw (zero-div (2 ^ (8 * v)))
-
-pub row-none : (d e v row : ℕ) → row ≡ 0 → rowOwned d e v row ≡ true
-unfolding rowOwned
-row-none d e v row h = to-allTo maxDomain _ (λ w l u. rw (h, bit-of-zero (pred w)))
-
-pub row-out : (d e v row : ℕ) → row < 256 → (row ≡ 0 → ⊥) → d < v → rowOwned d e v row ≡ false
-unfolding rowOwned maxDomain
-row-out d e v row h n l =
-    allTo-same 8 _ (λ w. not (bit row (pred w)) || leb w 0) (λ w a b. rw (within-over d v l, lt-leb w 0 a))
-    ∙ below-test 8 row 0 h
-    ∙ rw (div-one row) (ne-eqb row 0 n)
-
-pub row-in : (d e v row : ℕ) → row < 256 → 1 ≤ v → v ≤ d → rowOwned d e v row ≡ eqb (row / 2 ^ e) 0
-unfolding rowOwned maxDomain
-row-in d e v row h l u =
-    allTo-same 8 _ _ (λ w a b. rw (to-within d v l u, within-at e w a)) ∙ below-test 8 row e h
-
-pub row-wide : (e row : ℕ) → row < 256 → 8 ≤ e → eqb (row / 2 ^ e) 0 ≡ true
-row-wide e row h l = eq-eqb (row / 2 ^ e) 0 (div-eq-of-lt (lt-of-lt-of-le h (pow-mono l)))
-
--- what is left of a word whose lowest k bytes were taken off
-pub rowsFrom : ℕ → ℕ → ℕ → ℕ → Bool
-rowsFrom d e k x = allTo maxDomain (λ v. rowOwned d e (k + v) (fromOne 0 (byte x) v))
-
-pub rows-start : (d e word : ℕ) → word < 2 ^ 64 → wordOwned d e word ≡ rowsFrom d e 0 word
-unfolding wordOwned rowsFrom rowOwned maxDomain bitAt byte fromOne
-rows-start d e word h =
-    rw (lt-ltb word (2 ^ 64) h)
-    (allTo-same 8 _ _ rows)
+pub one-more : (domains : List ℕ) (i word d : ℕ) → 0 < i → Digits domains i word → d ≡ getD domains (i - 1) 0 % 16
+    → Digits domains (i - 1) (word * 16 + d)
+one-more domains i word d l s e =
+    let t : 12 - (i - 1) ≡ suc (12 - i) = omega (arith, s .few) in
+    let f : d < 16 = rw e (mod-lt (getD domains (i - 1) 0) (omega arith)) in
+    record {
+      few = omega (arith, s .few);
+      small = rw (t, pow-suc 16 (12 - i)) (omega (arith, s .small));
+      are = λ k a b. eq-test k i (first f k) (λ n. next f k (omega (arith, n)) b);
+    }
   where
-    rows : (v : ℕ) → 1 ≤ v → v ≤ 8
-        → allTo 8 (λ w. not (bit word (8 * pred v + pred w)) || (within d v && within e w))
-        ≡ allTo 8 (λ w. not (bit (fromOne 0 (byte word) v) (pred w)) || (within d (0 + v) && within e w))
-    rows zero l u = absurd (not-suc-le-zero l)
-    rows (suc v) l u =
-        let z : 0 + suc v ≡ suc v = omega arith in
-        allTo-same 8 _ _ (λ w a b. rw (z, bit-field word (8 * v) 8 (pred w) (omega arith)))
+    first : d < 16 → (k : ℕ) → k ≡ i → assignment (word * 16 + d) (k - (i - 1)) ≡ getD domains (k - 1) 0 % 16
+    first f k q =
+        let o : k - (i - 1) ≡ 1 = omega arith in
+        let g : (word * 16 + d) % 16 ≡ d = omega arith in
+        rw (o, assigned-first (word * 16 + d), g, q) e
 
-pub rows-step : (d e k x : ℕ) → x < 2 ^ 64 → rowsFrom d e k x ≡ rowOwned d e (k + 1) (x % 256) && rowsFrom d e (k + 1) (x / 256)
-unfolding rowsFrom maxDomain
-rows-step d e k x h =
-    walk-next (byte x) (byte (x / 256)) 0 (λ v row. rowOwned d e (k + v) row) 7 (byte-suc x) (byte-top x h) (λ v. row-none d e (k + v) 0 refl)
-    ∙ rw (byte-zero x)
-    (ap (λ (b : Bool). rowOwned d e (k + 1) (x % 256) && b)
-    (allTo-same 8 _ _ (λ v a b. let z : k + suc v ≡ k + 1 + v = omega arith in rw z)))
+    next : d < 16 → (k : ℕ) → i < k → k ≤ 12 → assignment (word * 16 + d) (k - (i - 1)) ≡ getD domains (k - 1) 0 % 16
+    next f k a b =
+        let o : k - (i - 1) ≡ suc (k - i) = omega arith in
+        let g : (word * 16 + d) / 16 ≡ word = omega arith in
+        rw (o, assigned-next (word * 16 + d) (k - i) (omega arith), g) (s .are k a b)
 
-pub rows-over : (d e k x : ℕ) → x ≡ 0 → rowsFrom d e k x ≡ true
-unfolding rowsFrom
-rows-over d e k x h = rw h (to-allTo maxDomain _ (λ v a b. row-none d e (k + v) (fromOne 0 (byte 0) v) (byte-none v)))
+pub all-digits : (p : Problem) (domains : List ℕ) (i word : ℕ) → Digits domains i word → i ≡ 0 → p .domains ≡ domains → length (p .domains) ≡ 12
+    → (k : ℕ) → assignment word k ≡ domain p k % 16
+unfolding assignment fromOne domain
+all-digits p domains i word s z e l zero = refl
+all-digits p domains i word s z e l (suc k) =
+    test (ltb k 12)
+    (λ t. let h : suc k ≡ suc k - i = omega arith in let g : suc k - 1 ≡ k = omega arith in
+    ap (assignment word) h ∙ s .are (suc k) (omega arith) (ltb-true k 12 t) ∙ rw (e, g))
+    (λ t. let h : word < 16 ^ 12 = rw z at (s .small) in
+    rw (digit-above 12 word k h (ltb-false k 12 t), List·getD-eq-default (p .domains) 0 {n = k} (omega (arith, ltb-false k 12 t))))
+
+-- a problem in range has domains below 16
+pub small-domain : (p : Problem) → Ranged p → (k : ℕ) → domain p k % 16 ≡ domain p k
+unfolding maxAgents maxDomain domain
+small-domain p r zero = refl
+small-domain p r (suc k) =
+    test (leb (suc k) (p .count))
+    (λ t. let h = r .domained (suc k) (omega arith) (leb-true (suc k) (p .count) t) .1 in omega arith)
+    (λ t. test (ltb k 12)
+    (λ u. rw (r .beyond (suc k) (leb-false (suc k) (p .count) t) (ltb-true k 12 u)))
+    (λ u. rw (List·getD-eq-default (p .domains) 0 {n = k} (omega (arith, r .domainsLong, ltb-false k 12 u)))))

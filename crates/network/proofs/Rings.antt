@@ -73,11 +73,12 @@ pub no-channel-fits : (r : Network) (i j : ℕ) → isChannel i j ≡ false → 
 unfolding channelInShape hasRoom capacity networkOf every
 no-channel-fits r i j e = rw (e, networkOf)
 
-held : (r : Network) (i j : ℕ) → isChannel i j ≡ true → networkOf r .channel i j ≡ channelOf r i j
+-- the messages of a channel are those of its ring
+pub channel-is : (r : Network) (i j : ℕ) → isChannel i j ≡ true → networkOf r .channel i j ≡ channelOf r i j
 unfolding networkOf
-held r i j e = rw (e, networkOf)
+channel-is r i j e = rw (e, networkOf)
 
-pub channel-is : (r : Network) (i j : ℕ) → isChannel i j ≡ true
+pub channel-fits : (r : Network) (i j : ℕ) → isChannel i j ≡ true
     → channelInShape (networkOf r) i j ≡ leb (rowOf (r .counts) i j) 8 && asked r i j (rowOf (r .counts) i j)
 unfolding channelInShape hasRoom capacity channelOf asked
-channel-is r i j e = rw (held r i j e, ring-length (r .places) (8 * channelAt i j) (rowOf (r .heads) i j) (rowOf (r .counts) i j))
+channel-fits r i j e = rw (channel-is r i j e, ring-length (r .places) (8 * channelAt i j) (rowOf (r .heads) i j) (rowOf (r .counts) i j))

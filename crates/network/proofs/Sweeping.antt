@@ -11,16 +11,15 @@ use borrow.Author.Tests.{le-leb, lt-leb}
 use Rattle.base.specs.Finite.{at, fromOne, within, allTo}
 use Rattle.base.proofs.Tests.{test, eq-test}
 use Rattle.base.proofs.Search.{at-same, at-other, allTo-at, to-allTo}
-use Rattle.base.proofs.Counting.{misses, misses-most, misses-lt}
 use Rattle.problem.specs.Problem.{maxAgents}
-use Rattle.agent_rules.specs.Message.{known, nobody}
+use Rattle.agent_rules.specs.Message.{nobody}
 use Rattle.protocol.specs.Shape.{messageFits, channelInShape}
 use Rattle.packed.specs.Packed.{assignment}
 use Rattle.packed.proofs.Digits.{nobody-assigned}
 use Rattle.network.specs.Abstract.{isChannel, rowOf, networkOf}
 use Rattle.network.specs.declared.Network.{Network}
 use Rattle.network.proofs.Numbering.{ends}
-use Rattle.network.proofs.Rings.{asked, lastLeft, nothing-asked, last-asked, no-channel-fits, channel-is}
+use Rattle.network.proofs.Rings.{asked, lastLeft, nothing-asked, last-asked, no-channel-fits, channel-fits}
 
 -- Sender i is looked at: the digits of `rest` are the counts of its channels that are left, and of the one to j the first `left` messages are.
 pub record Swept (r : Network) (i rest j left : ℕ) : Type 0 where
@@ -92,7 +91,7 @@ module _ (r : Network) (i rest j left k : ℕ) (s : Swept r i rest j left) (z : 
   channel-full f =
       let a = s .ahead k h in
       let g : 8 < rowOf (r .counts) i k = rw (← a .1) f in
-      channel-is r i k (a .0) ∙ rw (lt-leb (rowOf (r .counts) i k) 8 g)
+      channel-fits r i k (a .0) ∙ rw (lt-leb (rowOf (r .counts) i k) 8 g)
 
   pub channel-next : (rest′ : ℕ) → assignment rest k ≤ 8 → assignment rest′ ≡ at (assignment rest) k 0 → Swept r i rest′ k (assignment rest k)
   channel-next rest′ f e =
@@ -103,7 +102,7 @@ module _ (r : Network) (i rest j left k : ℕ) (s : Swept r i rest j left) (z : 
         ahead = λ y l. eq-test y k
             (λ q. let g : assignment rest′ y ≡ 0 = rw (q, e) (at-same (assignment rest) k 0) in absurd (omega arith))
             (λ n. rw (other y n) (s .ahead y (rw (← other y n) l)));
-        here = λ l. (a .0, f, channel-is r i k (a .0) ∙ rw (le-leb (rowOf (r .counts) i k) 8 (rw (← a .1) f), a .1));
+        here = λ l. (a .0, f, channel-fits r i k (a .0) ∙ rw (le-leb (rowOf (r .counts) i k) 8 (rw (← a .1) f), a .1));
       }
     where
       a : (isChannel i k ≡ true) × (assignment rest k ≡ rowOf (r .counts) i k)
@@ -139,28 +138,10 @@ module _ (r : Network) (i rest j left : ℕ) (s : Swept r i rest j left) (z : le
       row y t = f y ∙ rw (t, add-one i)
 
       fits : (y : ℕ) → isChannel (i + 1) y ≡ true → rowOf (r .counts) (i + 1) y ≡ 0 → channelInShape (networkOf r) (i + 1) y ≡ true
-      fits y t d = channel-is r (i + 1) y t ∙ rw d (nothing-asked r (i + 1) y 0 refl)
+      fits y t d = channel-fits r (i + 1) y t ∙ rw d (nothing-asked r (i + 1) y 0 refl)
 
   pub swept : 12 ≤ i → channelsInShape r ≡ true
   unfolding channelsInShape maxAgents
   swept h =
       to-allTo 12 _ (λ x a b. to-allTo 12 _ (λ y c d.
       eq-test x i (λ q. rw q (done y)) (λ n. s .before x y (omega (arith, n, s .sender)))))
-
--- ---- it ends: how many channels of the sender are left
-
-unfoldable pub linesLeft : ℕ → ℕ
-linesLeft rest = misses 16 (λ k. not (known (assignment rest k)))
-
-pub lines-few : (rest : ℕ) → linesLeft rest ≤ 16
-unfolding linesLeft
-lines-few rest = misses-most 16 (λ k. not (known (assignment rest k)))
-
-pub lines-fewer : (rest rest′ k : ℕ) → 1 ≤ k → k ≤ 16 → known (assignment rest k) ≡ true → assignment rest′ ≡ at (assignment rest) k 0
-    → linesLeft rest′ < linesLeft rest
-unfolding linesLeft known
-lines-fewer rest rest′ k l u h e =
-    misses-lt 16 (λ x. not (known (assignment rest x))) (λ x. not (known (assignment rest′ x))) more k l u (rw h) (rw (e, at-same (assignment rest) k 0))
-  where
-    more : (x : ℕ) → not (known (assignment rest x)) ≡ true → not (known (assignment rest′ x)) ≡ true
-    more x t = rw e (eq-test x k (λ q. rw (q, at-same (assignment rest) k 0)) (λ n. rw (at-other (assignment rest) k 0 x n) t))

@@ -10,15 +10,18 @@ use Rattle.base.specs.Finite.{fromOne, allTo}
 use Rattle.base.proofs.Tests.{test, eq-test}
 use Rattle.base.proofs.Search.{allTo-at, to-allTo}
 use Rattle.problem.specs.Problem.{maxAgents, maxPairs, sized, inRange}
-use Rattle.agent_rules.specs.Agent.{Agent as Agent′, noAgent}
+use Rattle.problem.proofs.Range.{ranged as in-range}
+use Rattle.agent_rules.specs.Agent.{Agent as Agent′, unusedAgent}
+use Rattle.protocol.specs.Network.{Network as Network′}
 use Rattle.protocol.specs.Shape.{agentInShape, inShape}
 use Rattle.packed.specs.Packed.{members}
 use Rattle.agent.specs.Abstract.{agentOf}
 use Rattle.agent.specs.declared.Agent.{Agent}
 use Rattle.network.specs.Abstract.{problemOf, agentsOf, networkOf}
-use Rattle.network.specs.Parts.{setOf, Linking}
+use Rattle.network.specs.Parts.{Domains, setOf}
 use Rattle.network.specs.declared.Network.{Network}
-use Rattle.network.proofs.Words.{no-member}
+use Rattle.packed.proofs.Sets.{no-members}
+use Rattle.network.proofs.Links.{agentPasses, agents-pass}
 use Rattle.network.proofs.Sweeping.{channelsInShape}
 
 -- ---- the masks
@@ -30,20 +33,25 @@ abbrev pub informsOf : Agent → ℕ
 informsOf a = a .informs
 
 module _ (set : Agent′ → ℕ → Bool) (mask : Agent → ℕ) (is : (a : Agent) (j : ℕ) → set (agentOf a) j ≡ members (mask a) j)
-    (none : (j : ℕ) → set noAgent j ≡ false) (j : ℕ) where
-  set-in : (agents : List Agent) (k : ℕ) → set (getD (map agentOf agents) k noAgent) j ≡ members (getD (map mask agents) k 0) j
-  set-in [] k = none j ∙ sym (no-member j)
+    (none : (j : ℕ) → set unusedAgent j ≡ false) (j : ℕ) where
+  set-in : (agents : List Agent) (k : ℕ) → set (getD (map agentOf agents) k unusedAgent) j ≡ members (getD (map mask agents) k 0) j
+  set-in [] k = none j ∙ sym (no-members j)
   set-in (a ∷ agents) zero = is a j
   set-in (a ∷ agents) (suc k) = set-in agents k
 
   sets-are : (agents : List Agent) (k : ℕ) → set (agentsOf (map agentOf agents) k) j ≡ setOf (map mask agents) k j
   unfolding agentsOf setOf fromOne
-  sets-are agents zero = none j ∙ sym (no-member j)
+  sets-are agents zero = none j ∙ sym (no-members j)
   sets-are agents (suc k) = set-in agents k
+
+-- w's agents listen and inform by these sets
+pub record Linking (listeners informers : List ℕ) (w : Network′) : Type 0 where
+  pub listens : (k j : ℕ) → w .agents k .listens j ≡ setOf listeners k j
+  pub informs : (k j : ℕ) → w .agents k .informs j ≡ setOf informers k j
 
 pub linking : (r : Network) (listeners informers : List ℕ) → listeners ≡ map listensOf (r .agents) → informers ≡ map informsOf (r .agents)
     → Linking listeners informers (networkOf r)
-unfolding networkOf agentOf noAgent
+unfolding networkOf agentOf unusedAgent
 linking r listeners informers e f =
     rw (e, f)
     (record {
@@ -69,34 +77,38 @@ whole r = refl
 pub problem-unfit : (r : Network) → inRange (problemOf r) ≡ false → inShape (networkOf r) ≡ false
 problem-unfit r e = whole r ∙ rw e
 
--- the problem is in range and the agents 1 to i are in shape; the masks are the agents'
-pub record AgentsFit (r : Network) (listens informs : List ℕ) (i : ℕ) : Type 0 where
+-- the problem is in range and the agents 1 to i pass; the word has the domains, the masks are the agents'
+pub record AgentsFit (r : Network) (domains : ℕ) (listens informs : List ℕ) (i : ℕ) : Type 0 where
   pub few : i ≤ 12
   pub ranged : inRange (problemOf r) ≡ true
+  pub owned : Domains (problemOf r) domains
   pub links : Linking listens informs (networkOf r)
-  pub agents : (x : ℕ) → 1 ≤ x → x ≤ i → agentInShape (networkOf r) x ≡ true
+  pub agents : (x : ℕ) → 1 ≤ x → x ≤ i → agentPasses (networkOf r) x ≡ true
 
-module _ (r : Network) (listens informs : List ℕ) (i : ℕ) (a : AgentsFit r listens informs i) where
-  pub agent-unfit : i < 12 → agentInShape (networkOf r) (i + 1) ≡ false → inShape (networkOf r) ≡ false
-  unfolding agentsInShape maxAgents
-  agent-unfit h e = whole r ∙ rw (a .ranged, fails)
+module _ (r : Network) (domains : ℕ) (listens informs : List ℕ) (i : ℕ) (a : AgentsFit r domains listens informs i) where
+  passing : agentsInShape r ≡ allTo 12 (agentPasses (networkOf r))
+  unfolding agentsInShape maxAgents networkOf
+  passing = agents-pass (networkOf r) (in-range (problemOf r) (a .ranged) .high)
+
+  pub agent-unfit : i < 12 → agentPasses (networkOf r) (i + 1) ≡ false → inShape (networkOf r) ≡ false
+  agent-unfit h e = whole r ∙ rw (a .ranged, passing, fails)
     where
-      fails : allTo 12 (agentInShape (networkOf r)) ≡ false
+      fails : allTo 12 (agentPasses (networkOf r)) ≡ false
       fails =
-          test (allTo 12 (agentInShape (networkOf r)))
-          (λ t. absurd (false≢true (sym e ∙ allTo-at 12 (agentInShape (networkOf r)) t (i + 1) (omega arith) (omega arith))))
+          test (allTo 12 (agentPasses (networkOf r)))
+          (λ t. absurd (false≢true (sym e ∙ allTo-at 12 (agentPasses (networkOf r)) t (i + 1) (omega arith) (omega arith))))
           (λ t. t)
 
-  pub agent-passed : i < 12 → agentInShape (networkOf r) (i + 1) ≡ true → AgentsFit r listens informs (i + 1)
+  pub agent-passed : i < 12 → agentPasses (networkOf r) (i + 1) ≡ true → AgentsFit r domains listens informs (i + 1)
   agent-passed h e =
       record {
         few = omega arith;
         ranged = a .ranged;
+        owned = a .owned;
         links = a .links;
         agents = λ x l u. eq-test x (i + 1) (λ q. rw q e) (λ n. a .agents x l (omega (arith, n)));
       }
 
   -- only the channels are left
   pub agents-passed : 12 ≤ i → inShape (networkOf r) ≡ channelsInShape r
-  unfolding agentsInShape maxAgents
-  agents-passed h = whole r ∙ rw (a .ranged, to-allTo 12 (agentInShape (networkOf r)) (λ x l u. a .agents x l (omega arith)))
+  agents-passed h = whole r ∙ rw (a .ranged, passing, to-allTo 12 (agentPasses (networkOf r)) (λ x l u. a .agents x l (omega arith)))

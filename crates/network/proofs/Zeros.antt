@@ -11,7 +11,7 @@ use Rattle.base.proofs.Arrays.{getD-same, map-replicate}
 use Rattle.base.proofs.Bits.{bit-of-zero}
 use Rattle.problem.specs.Problem.{maxAgents, maxPairs, noBans, emptyProblem}
 use Rattle.agent_rules.specs.Message.{nobody}
-use Rattle.agent_rules.specs.Agent.{Agent as Agent′, noAgent, noNogoods}
+use Rattle.agent_rules.specs.Agent.{Agent as Agent′, unusedAgent, noNogoods}
 use Rattle.protocol.specs.Network.{emptyNetwork}
 use Rattle.packed.specs.Packed.{members}
 use Rattle.agent.specs.Abstract.{assigned, nogoodAt, agentOf}
@@ -19,7 +19,7 @@ use Rattle.agent.specs.declared.Agent.{Agent}
 use Rattle.packed.proofs.Digits.{nobody-assigned}
 use Rattle.network.specs.Abstract.{isChannel, ring, rowOf, channelOf, problemOf, agentsOf, networkOf}
 use Rattle.network.specs.declared.Network.{Network}
-use Rattle.network.proofs.Words.{no-member}
+use Rattle.packed.proofs.Sets.{no-members}
 
 abbrev pub zeroAgent : Agent
 zeroAgent = record { value = 0; stored = 0; listens = 0; informs = 0; view = record { digits = 0 }; nogoods = replicate 8 0 }
@@ -29,25 +29,25 @@ unfolding fromOne nogoodAt
 no-nogoods zero = refl
 no-nogoods (suc v) = rw (bit-of-zero v, nogoodAt)
 
-zero-agent : agentOf zeroAgent ≡ noAgent
-unfolding agentOf noAgent noNogoods assigned
+zero-agent : agentOf zeroAgent ≡ unusedAgent
+unfolding agentOf unusedAgent noNogoods assigned
 zero-agent =
     λ i.
     record {
       value = 0;
-      listens = fun-ext {f = members 0} {g = λ k. false} no-member i;
-      informs = fun-ext {f = members 0} {g = λ k. false} no-member i;
+      listens = fun-ext {f = members 0} {g = λ k. false} no-members i;
+      informs = fun-ext {f = members 0} {g = λ k. false} no-members i;
       view = nobody-assigned i;
       nogoods = fun-ext no-nogoods i;
     }
 
-zero-agents : (k : ℕ) → agentsOf (map agentOf (replicate 12 zeroAgent)) k ≡ noAgent
+zero-agents : (k : ℕ) → agentsOf (map agentOf (replicate 12 zeroAgent)) k ≡ unusedAgent
 unfolding agentsOf fromOne
 zero-agents zero = refl
 zero-agents (suc k) =
-    ap (λ (l : List Agent′). getD l k noAgent) (map-replicate agentOf 12 zeroAgent)
-    ∙ ap (λ (a : Agent′). getD (replicate 12 a) k noAgent) zero-agent
-    ∙ getD-same 12 noAgent k
+    ap (λ (l : List Agent′). getD l k unusedAgent) (map-replicate agentOf 12 zeroAgent)
+    ∙ ap (λ (a : Agent′). getD (replicate 12 a) k unusedAgent) zero-agent
+    ∙ getD-same 12 unusedAgent k
 
 pub zero-row : (n i j : ℕ) → rowOf (replicate n 0) i j ≡ 0
 unfolding rowOf fromOne nobody

@@ -7,7 +7,7 @@ use lib.Dec.{eqb, ltb}
 use Rattle.base.specs.Finite.{fromOne, within}
 use Rattle.problem.specs.Problem.{Problem, maxAgents}
 use Rattle.agent_rules.specs.Message.{Message as Message′}
-use Rattle.agent_rules.specs.Agent.{Agent as Agent′, noAgent}
+use Rattle.agent_rules.specs.Agent.{Agent as Agent′, unusedAgent}
 use Rattle.protocol.specs.Network.{Network as Network′}
 use Rattle.packed.specs.Packed.{assignment}
 use Rattle.agent.specs.declared.Message.the-variants.{AddLink}
@@ -45,7 +45,7 @@ unfoldable pub problemOf : Network → Problem
 problemOf r = record { count = r .count; domains = r .domains; bans = r .bans }
 
 unfoldable pub agentsOf : List Agent′ → ℕ → Agent′
-agentsOf l = fromOne noAgent (λ k. getD l k noAgent)
+agentsOf l = fromOne unusedAgent (λ k. getD l k unusedAgent)
 
 -- Where in its ring a channel's messages stand, and what its unused places hold, is no part of the network.
 unfoldable pub networkOf : Network → Network′

@@ -1,31 +1,38 @@
 -- What the parts of the test compute or read, where the shape has no name for it.
-use Prim.Native.Nat.{ℕ, pred}
+use Prim.Native.Nat.{ℕ, pred, _≤_}
 use mathlib.Core.Path.{_≡_}
-use mathlib.Core.Bool.{Bool, not, _&&_, _||_}
+use mathlib.Core.Bool.{Bool, not, cond, _&&_}
 use mathlib.Core.List.{List}
 use lib.ListN.{getD}
 use Rattle.base.specs.Finite.{fromOne, within, allTo}
 use Rattle.base.specs.Bits.{bit}
-use Rattle.problem.specs.Problem.{maxDomain}
+use Rattle.problem.specs.Problem.{Problem, maxDomain, domain, bitAt, linked}
 use Rattle.protocol.specs.Network.{Network as Network′}
 use Rattle.protocol.specs.Shape.{
   holdsValue,
   listensUpward,
   informsDownward,
-  linkedListen,
-  informedListen,
   viewListened,
   nogoodsFit,
 }
-use Rattle.packed.specs.Packed.{members}
+use Rattle.packed.specs.Packed.{assignment, members}
 
--- one byte of a ban word, the bans of the lower agent's value v, is between owned values of two agents with domains d and e
-unfoldable pub rowOwned : ℕ → ℕ → ℕ → ℕ → Bool
-rowOwned d e v row = allTo maxDomain (λ w. not (bit row (pred w)) || (within d v && within e w))
+-- x has the domains as digits
+abbrev pub Domains : Problem → ℕ → Type 0
+Domains p x = (k : ℕ) → assignment x k ≡ domain p k
 
--- the clauses on whom an agent listens to and informs
+-- x has the bits of a ban word that stand for values of a higher agent with domain e
+abbrev pub Columns : ℕ → ℕ → Type 0
+Columns e x = (v w : ℕ) → 1 ≤ v → v ≤ maxDomain → 1 ≤ w → w ≤ maxDomain → bit x (bitAt v w) ≡ within e w
+
+-- Each agent above j either informs it and is listened to, or is not linked with it: of all agents together this asks as much as 'banned pairs
+-- listen and inform' and 'whoever is informed listens'.
+unfoldable pub heard : Network′ → ℕ → Bool
+heard w j = allTo (pred j) (λ i. cond (w .agents i .informs j) (w .agents j .listens i) (not (linked (w .problem) i j)))
+
+-- what is asked of an agent's links
 unfoldable pub linksInShape : Network′ → ℕ → Bool
-linksInShape w i = listensUpward w i && informsDownward w i && linkedListen w i && informedListen w i
+linksInShape w i = listensUpward w i && informsDownward w i && heard w i
 
 -- the other clauses on an agent: its value, its view and its nogoods
 unfoldable pub holdsInShape : Network′ → ℕ → Bool
@@ -36,8 +43,3 @@ holdsInShape w i = holdsValue w i && viewListened w i && nogoodsFit w i
 -- agent k's set, where the masks of agents 1, 2, .. stand in a list
 unfoldable pub setOf : List ℕ → ℕ → ℕ → Bool
 setOf masks k = members (fromOne 0 (λ j. getD masks j 0) k)
-
--- w's agents listen and inform by these sets
-pub record Linking (listeners informers : List ℕ) (w : Network′) : Type 0 where
-  pub listens : (k j : ℕ) → w .agents k .listens j ≡ setOf listeners k j
-  pub informs : (k j : ℕ) → w .agents k .informs j ≡ setOf informers k j

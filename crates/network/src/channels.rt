@@ -1,42 +1,29 @@
-// The shape of one message.
+// The shape of one message. `domains` has them as digits, `listens` every agent's set.
 ghost use mathlib.Core.Path.{_≡_};
-ghost use Prim.Native.Nat.{ℕ, _≤_, _<_};
+ghost use Prim.Native.Nat.{ℕ, _≤_};
 ghost use Rattle.problem.specs.Problem.{Problem};
 ghost use Rattle.protocol.specs.Network.{Network as Network′};
 ghost use Rattle.protocol.specs.Shape.{lhsFits, messageFits};
 ghost use Rattle.agent.specs.Abstract.{assigned, messageOf};
-ghost use Rattle.network.specs.Parts.{setOf};
+ghost use Rattle.network.specs.Parts.{Domains, setOf};
 use crate::range::owned;
-use crate::sets::has_at;
 use agent::Lhs;
 use agent::Message;
+use packed::at_most;
+use packed::has;
 
 // The left side of a refusal to agent j names only agents above it, with values they own.
-fn lhs_fits(domains: &[u8; 12], j: u8, lhs: Lhs) -> bool
-    ensures { λ b. ⌜ ((p : Problem) → p .domains ≡ now (domains .entry) → b ≡ lhsFits p j (assigned lhs)) ⌝ }
+fn lhs_fits(domains: u64, j: u8, lhs: Lhs) -> bool
+    requires { ⌜ (1 ≤ j) × (j ≤ 12) ⌝ }
+    ensures { λ b. ⌜ ((p : Problem) → Domains p domains → b ≡ lhsFits p j (assigned lhs)) ⌝ }
 {
-    let mut rest = lhs.digits;
-    let mut k: u8 = 0;
-    while rest != 0 {
-        k += 1;
-        let v = (rest % 16) as u8;
-        if v != 0 {
-            if j <= k {
-                return false;
-            }
-            if !owned(domains, k, v) {
-                return false;
-            }
-        }
-        rest = rest / 16;
-    }
-    true
+    at_most(lhs.digits, domains % (1u64 << (4 * (j - 1))))
 }
 
-// One message on the channel from i to j, where `listens` has every agent's set.
-pub fn message_fits(domains: &[u8; 12], listens: &[u16; 12], i: u8, j: u8, m: Message) -> bool
+// One message on the channel from i to j.
+pub fn message_fits(domains: u64, listens: &[u16; 12], i: u8, j: u8, m: Message) -> bool
     requires { ⌜ (1 ≤ i) × (i ≤ 12) × (1 ≤ j) × (j ≤ 12) ⌝ }
-    ensures { λ b. ⌜ ((w : Network′) → w .problem .domains ≡ now (domains .entry) → ((k x : ℕ) → w .agents k .listens x ≡ setOf (now (listens .entry)) k x) → b ≡ messageFits w i j (messageOf m)) ⌝ }
+    ensures { λ b. ⌜ ((w : Network′) → Domains (w .problem) domains → ((k x : ℕ) → w .agents k .listens x ≡ setOf (now (listens .entry)) k x) → b ≡ messageFits w i j (messageOf m)) ⌝ }
 {
     match m {
         Message::Info(v) => {
@@ -46,7 +33,7 @@ pub fn message_fits(domains: &[u8; 12], listens: &[u16; 12], i: u8, j: u8, m: Me
             if !owned(domains, i, v) {
                 return false;
             }
-            has_at(listens, j, i)
+            has(listens[j as usize - 1], i)
         }
         Message::Back(v, lhs) => {
             if i <= j {
@@ -55,7 +42,7 @@ pub fn message_fits(domains: &[u8; 12], listens: &[u16; 12], i: u8, j: u8, m: Me
             if !owned(domains, j, v) {
                 return false;
             }
-            if !has_at(listens, i, j) {
+            if !has(listens[i as usize - 1], j) {
                 return false;
             }
             lhs_fits(domains, j, lhs.unpack())
@@ -64,7 +51,7 @@ pub fn message_fits(domains: &[u8; 12], listens: &[u16; 12], i: u8, j: u8, m: Me
             if i <= j {
                 return false;
             }
-            has_at(listens, i, j)
+            has(listens[i as usize - 1], j)
         }
     }
 }

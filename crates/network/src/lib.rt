@@ -1,7 +1,8 @@
-// The network (rail) by value, and the test of its shape.
+// The network (rail) by value, the test of its shape, and asking an agent's value.
 ghost use mathlib.Core.Path.{_≡_};
 ghost use Rattle.protocol.specs.Network.{emptyNetwork};
 ghost use Rattle.protocol.specs.Shape.{inShape};
+ghost use Rattle.protocol.specs.Delivery.{answerNumber, askValue};
 ghost use Rattle.network.specs.Abstract.{networkOf};
 use agent::Agent;
 use agent::Lhs;
@@ -23,6 +24,7 @@ use channels::message_fits;
 use places::channel_at;
 use places::lines_of;
 use places::place_at;
+use range::domain_digits;
 use range::in_range;
 
 // One place of a channel.
@@ -41,6 +43,12 @@ pub struct Network {
     pub heads: [u64; 12],
     pub counts: [u64; 12],
     pub places: [Place; 1056],
+}
+
+// Number 0 and the value, or a rejection's number and 0.
+pub struct Asked {
+    pub number: u8,
+    pub value: u8,
 }
 
 // The empty rail: n = 0, all else zero.
@@ -81,6 +89,7 @@ pub fn in_shape(r: Network) -> bool
     if !in_range(n, &r.domains, &r.bans) {
         return false;
     }
+    let domains = domain_digits(&r.domains);
     let mut listens = [0u16; 12];
     let mut informs = [0u16; 12];
     let mut k: usize = 0;
@@ -99,10 +108,10 @@ pub fn in_shape(r: Network) -> bool
                 return false;
             }
         } else {
-            if !links_in_shape(n, &listens, &informs, &r.bans, i) {
+            if !links_in_shape(n, &informs, &r.bans, i, a.listens) {
                 return false;
             }
-            if !holds_in_shape(r.verdict, &r.domains, i, a) {
+            if !holds_in_shape(r.verdict, domains, i, a) {
                 return false;
             }
         }
@@ -118,7 +127,7 @@ pub fn in_shape(r: Network) -> bool
             let head = digit(r.heads[i as usize - 1], j);
             let place = r.places[place_at(channel_at(i, j), head, left)];
             let m = place.message;
-            if !message_fits(&r.domains, &listens, i, j, m) {
+            if !message_fits(domains, &listens, i, j, m) {
                 return false;
             }
         } else if rest != 0 {
@@ -134,5 +143,37 @@ pub fn in_shape(r: Network) -> bool
         } else {
             return true;
         }
+    }
+}
+
+// ---- asking a value
+
+// The value of agent i: 0 and no rejection where the verdict left it without one.
+pub fn value(r: Network, i: u8) -> Asked
+    ensures { λ a. ⌜ (a .number ≡ answerNumber (askValue (networkOf r) i .answer)) × (a .value ≡ askValue (networkOf r) i .value) ⌝ }
+{
+    if !in_shape(r) {
+        return Asked {
+            number: 5,
+            value: 0,
+        };
+    }
+    if i == 0 {
+        return Asked {
+            number: 6,
+            value: 0,
+        };
+    }
+    if r.count < i {
+        return Asked {
+            number: 6,
+            value: 0,
+        };
+    }
+    let at = i as usize - 1;
+    let a = r.agents[at];
+    Asked {
+        number: 0,
+        value: a.value,
     }
 }

@@ -1,27 +1,34 @@
 // The problem of a network is in range: n, the domains (slot counts) and the bans.
 ghost use mathlib.Core.Path.{_≡_};
 ghost use mathlib.Core.Bool.{true};
-ghost use Prim.Native.Nat.{pred, _≤_, _<_};
-ghost use lib.ListN.{getD};
+ghost use Prim.Native.Nat.{ℕ, pred, _%_, _≤_, _<_};
+ghost use lib.ListN.{length, getD};
 ghost use Rattle.base.specs.Finite.{allTo};
-ghost use Rattle.network.specs.Parts.{rowOwned};
+ghost use Rattle.packed.specs.Packed.{assignment};
+ghost use Rattle.network.specs.Parts.{Domains, Columns};
 ghost use Rattle.problem.specs.Problem.{Problem, maxAgents, domain, owns, wordAt, domainInRange, wordOwned, bansOwned, sized, inRange};
 use crate::places::words_before;
+use packed::digit;
 
-// Agent k owns value v.
-pub fn owned(domains: &[u8], k: u8, v: u8) -> bool
-    ensures { λ b. ⌜ ((p : Problem) → p .domains ≡ now (domains .entry) → b ≡ owns p k v) ⌝ }
+// The domains as a word of digits, each modulo 16.
+pub fn domain_digits(domains: &[u8; 12]) -> u64
+    ensures { λ x. ⌜ ((p : Problem) → p .domains ≡ now (domains .entry) → length (p .domains) ≡ 12 → (k : ℕ) → assignment x k ≡ domain p k % 16) ⌝ }
 {
-    if k == 0 {
-        return false;
+    let mut word: u64 = 0;
+    let mut i: usize = 12;
+    while 0 < i {
+        i -= 1;
+        word = word * 16 + (domains[i] % 16) as u64;
     }
-    if domains.len() < k as usize {
-        return false;
-    }
-    if v == 0 {
-        return false;
-    }
-    v <= domains[k as usize - 1]
+    word
+}
+
+// Agent k owns value v, where `domains` has them as digits.
+pub fn owned(domains: u64, k: u8, v: u8) -> bool
+    requires { ⌜ (1 ≤ k) × (k ≤ 16) ⌝ }
+    ensures { λ b. ⌜ ((p : Problem) → Domains p domains → b ≡ owns p k v) ⌝ }
+{
+    0 < v && v <= digit(domains, k)
 }
 
 // Agent i's domain d, where there are `count` agents.
@@ -45,48 +52,27 @@ fn domains_in_range(count: u8, domains: &[u8; 12]) -> bool
     true
 }
 
-// Where the ban word of lower agent i and higher agent j stands.
-pub fn word_at(i: u8, j: u8) -> usize
-    requires { ⌜ (1 ≤ i) × (i < j) × (j ≤ 12) ⌝ }
-    ensures { λ r. ⌜ (r ≡ wordAt i j) × (r < 66) ⌝ }
+// The bits of a ban word that stand for owned values of a higher agent with domain e: so many in each byte.
+fn columns(e: u8) -> u64
+    ensures { λ x. ⌜ Columns e x ⌝ }
 {
-    words_before(j) + i as usize - 1
+    if 8 <= e {
+        return 0xffff_ffff_ffff_ffff;
+    }
+    0x0101_0101_0101_0101 * ((1u64 << e) - 1)
 }
 
-// The bans of the lower agent's value v: one byte of the word, a bit for each value of the higher agent.
-fn row_owned(d: u8, e: u8, v: u8, row: u64) -> bool
-    requires { ⌜ (1 ≤ v) × (row < 256) ⌝ }
-    ensures { λ b. ⌜ b ≡ rowOwned d e v row ⌝ }
+// The bans of two agents are between owned values, where the lower one has domain d and the higher one `columns`.
+fn word_owned(d: u8, columns: u64, word: u64) -> bool
+    ensures { λ b. ⌜ ((e : ℕ) → Columns e columns → b ≡ wordOwned d e word) ⌝ }
 {
-    if row == 0 {
-        return true;
-    }
-    if d < v {
+    if word & !columns != 0 {
         return false;
     }
-    if 8 <= e {
+    if 8 <= d {
         return true;
     }
-    row >> e == 0
-}
-
-// The bans of two agents with domains d and e are between owned values.
-fn word_owned(d: u8, e: u8, word: u64) -> bool
-    ensures { λ b. ⌜ b ≡ wordOwned d e word ⌝ }
-{
-    if 8 <= d && 8 <= e {
-        return true;
-    }
-    let mut rest = word;
-    let mut v: u8 = 0;
-    while rest != 0 {
-        v += 1;
-        if !row_owned(d, e, v, rest % 256) {
-            return false;
-        }
-        rest = rest / 256;
-    }
-    true
+    word >> (8 * d) == 0
 }
 
 // The ban words of higher agent j.
@@ -94,13 +80,14 @@ fn bans_of_owned(domains: &[u8; 12], bans: &[u64; 66], j: u8) -> bool
     requires { ⌜ (1 ≤ j) × (j ≤ 12) ⌝ }
     ensures { λ b. ⌜ ((p : Problem) → p .domains ≡ now (domains .entry) → p .bans ≡ now (bans .entry) → b ≡ allTo (pred j) (λ i. wordOwned (domain p i) (domain p j) (getD (p .bans) (wordAt i j) 0))) ⌝ }
 {
-    let e = domains[j as usize - 1];
-    let mut i = j - 1;
-    while 0 < i {
-        if !word_owned(domains[i as usize - 1], e, bans[word_at(i, j)]) {
+    let own = columns(domains[j as usize - 1]);
+    let words = words_before(j);
+    let mut k = j as usize - 1;
+    while 0 < k {
+        k -= 1;
+        if !word_owned(domains[k], own, bans[words + k]) {
             return false;
         }
-        i -= 1;
     }
     true
 }

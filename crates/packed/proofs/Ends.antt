@@ -10,7 +10,7 @@ use lib.Count.{trailingZeros, leadingZeros, leading-length}
 use lib.Pow.{pow-pos, pow-mono, shr-mod}
 use Rattle.base.specs.Finite.{fromOne, lowest, highest}
 use Rattle.base.specs.Bits.{bit}
-use Rattle.base.proofs.Bits.{bit-field, bit-positive}
+use Rattle.base.proofs.Bits.{bit-positive}
 use Rattle.base.proofs.Peeling.{zero-bits}
 use Rattle.agent_rules.specs.Message.{known, nobody}
 use Rattle.agent_rules.specs.Shape.{maxNamed}
@@ -18,7 +18,7 @@ use Rattle.packed.specs.Packed.{digit, assignment, members, numberOf}
 use Rattle.packed.proofs.Known.{known-from}
 use Rattle.base.proofs.Searches.{lowest-is, highest-is, highest-empty}
 use Rattle.base.proofs.Zeros.{trailing-set, trailing-clear}
-use Rattle.packed.proofs.Digits.{pow16, digit-shr, digit-lt, digit-above, nobody-assigned}
+use Rattle.packed.proofs.Digits.{pow16, digit-shr, digit-lt, digit-bit, digit-above, nobody-assigned}
 
 -- ---- the lowest agent of a set
 
@@ -38,9 +38,6 @@ first-member m l h =
     below (suc j) a b = trailing-clear 16 m j (omega arith)
 
 -- ---- the lowest agent that a word names
-
-digit-bit : (x k i : ℕ) → i < 4 → bit (digit x k) i ≡ bit x (4 * k + i)
-digit-bit x k i h = rw (digit-shr x k) (bit-field x (4 * k) 4 i h)
 
 clear-digit : (x j : ℕ) → suc j ≤ trailingZeros 64 x / 4 → known (digit x j) ≡ false
 unfolding known

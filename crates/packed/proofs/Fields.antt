@@ -1,10 +1,11 @@
 -- A number with s of its bits changed, those from bit p on: these bits are the new ones, those below and above are as they were.
-use Prim.Native.Nat.{ℕ, suc, _+_, _*_, _-_, _/_, _%_, _^_, _≤_, _<_}
+use Prim.Native.Nat.{ℕ, zero, suc, _+_, _*_, _-_, _/_, _%_, _^_, _≤_, _<_}
 use mathlib.Core.Path.{_≡_, sym, ap, _∙_}
 use mathlib.Core.Logic.{_≢_}
-use native.Mathlib.Nat.{mod-lt, div-lt-iff-lt-mul, mul-le-mul-left}
+use native.Mathlib.Nat.{not-suc-le-zero, mod-lt, div-lt-iff-lt-mul, mul-le-mul-left}
 use native.Mathlib.Omega.{arith}
-use lib.Pow.{pow-pos, pow-add, split, high, low, field, mod-mod-pow, shr-shr, shr-lt, shl-exact}
+use lib.Bits.{bitAnd, and-high}
+use lib.Pow.{pow-pos, pow-add, split, high, low, field, mod-mod-pow, shr-shr, shr-lt, shl-exact, ones-lt, high-ones}
 use lib.Dec.{ltb}
 use borrow.Author.Tests.{ltb-true, ltb-false}
 use Rattle.base.proofs.Tests.{test}
@@ -79,6 +80,26 @@ exchange s p x v old hx small h e =
       is = same;
       holds = rw same (fits s p x v small 64 (omega arith) hx);
     }
+
+-- those bits by a mask
+pub masked : (s p x : ℕ) → s + p ≤ 64 → bitAnd x ((2 ^ s - 1) * 2 ^ p % 2 ^ 64) ≡ x / 2 ^ p % 2 ^ s * 2 ^ p % 2 ^ 64
+masked s p x h =
+    rw (shl-exact s p 64 (ones-lt s) h, shl-exact s p 64 (mod-lt (x / 2 ^ p) (pow-pos s)) h, ← high-ones s p)
+    (and-high x s p)
+
+-- one more or one less in them
+one-taken : (d q x : ℕ) → 1 ≤ d → d * q ≤ x → (q ≤ x) × (x - d * q + (d - 1) * q ≡ x - q)
+one-taken zero q x l h = absurd (not-suc-le-zero l)
+one-taken (suc d) q x l h = let e : suc d - 1 ≡ d = omega arith in (omega arith, rw e (omega arith))
+
+module _ (s p x : ℕ) where
+  pub more : exchanged s p x (x / 2 ^ p % 2 ^ s + 1) ≡ x + 2 ^ p
+  unfolding exchanged
+  more = omega (arith, out s p x 0)
+
+  pub less : 1 ≤ x / 2 ^ p % 2 ^ s → (2 ^ p ≤ x) × (exchanged s p x (x / 2 ^ p % 2 ^ s - 1) ≡ x - 2 ^ p)
+  unfolding exchanged
+  less h = one-taken (x / 2 ^ p % 2 ^ s) (2 ^ p) x h (out s p x 0)
 
 -- ---- digits of s bits: the others
 

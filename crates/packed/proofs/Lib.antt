@@ -5,3 +5,6 @@ pub mod Sets
 pub mod Ends
 pub mod Bitwise
 pub mod Masks
+pub mod Wordwise
+pub mod Compared
+pub mod Naming

@@ -1,7 +1,7 @@
 -- A mask with one bit more or less is the set with one agent more or less.
 -- Bit by bit: the bit that changes, and the others.
 use Prim.Native.Nat.{ℕ, zero, suc, _+_, _*_, _-_, _/_, _%_, _^_, _≤_, _<_}
-use mathlib.Core.Path.{_≡_, sym, fun-ext, _∙_}
+use mathlib.Core.Path.{_≡_, refl, sym, fun-ext, _∙_}
 use mathlib.Core.Logic.{_≢_}
 use mathlib.Core.Bool.{true, false, or-true, or-false}
 use native.Mathlib.Nat.{not-suc-le-zero, one-mul, mod-lt}
@@ -9,13 +9,18 @@ use native.Mathlib.Omega.{arith}
 use lib.Dec.{eqb}
 use lib.Bits.{bitOr}
 use lib.Pow.{pow-pos, split, high, shl-exact}
-use Rattle.base.proofs.Bits.{bit-or, bit-pow, withBit-other}
+use Rattle.base.proofs.Bits.{bit-of-zero, bit-or, bit-pow, withBit-other}
 use borrow.Author.Tests.{eqb-true, eqb-false, ne-eqb}
 use Rattle.base.specs.Finite.{at, fromOne}
 use Rattle.base.specs.Bits.{bit, withBit}
 use Rattle.base.proofs.Tests.{test, eq-test}
 use Rattle.base.proofs.Search.{at-same, at-other}
 use Rattle.packed.specs.Packed.{members}
+
+pub no-members : (k : ℕ) → members 0 k ≡ false
+unfolding members fromOne
+no-members zero = refl
+no-members (suc k) = bit-of-zero k
 
 -- as the code has it
 pub member-at : (m k : ℕ) → 1 ≤ k → eqb (m / 2 ^ (k - 1) % 2) 1 ≡ members m k

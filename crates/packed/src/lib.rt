@@ -1,9 +1,10 @@
 // Packed words: digits in base 16, and sets of agents.
 ghost use mathlib.Core.Path.{_≡_};
-ghost use Prim.Native.Nat.{_≤_, _<_};
-ghost use mathlib.Core.Bool.{true, false};
+ghost use Prim.Native.Nat.{ℕ, _+_, _*_, _-_, _≤_, _<_};
+ghost use mathlib.Core.Bool.{true, false, not, cond, _||_};
 ghost use mathlib.Core.Option.{some};
-ghost use Rattle.base.specs.Finite.{at, lowest, highest};
+ghost use lib.Dec.{eqb, leb};
+ghost use Rattle.base.specs.Finite.{at, lowest, highest, allTo};
 ghost use Rattle.agent_rules.specs.Message.{known};
 ghost use Rattle.agent_rules.specs.Shape.{maxNamed};
 ghost use Rattle.packed.specs.Packed.{assignment, members, numberOf};
@@ -24,8 +25,23 @@ pub fn with_digit(x: u64, k: u8, v: u8) -> u64
     ensures { λ r. ⌜ assignment r ≡ at (assignment x) k v ⌝ }
 {
     let place = 4 * (k - 1);
-    let old = (x >> place) % 16;
-    x - (old << place) + ((v as u64) << place)
+    x - (x & (15u64 << place)) + ((v as u64) << place)
+}
+
+// The word with one more as digit k, which is under 15.
+pub fn one_more(x: u64, k: u8) -> u64
+    requires { ⌜ (1 ≤ k) × (k ≤ 16) × (assignment x k < 15) ⌝ }
+    ensures { λ r. ⌜ assignment r ≡ at (assignment x) k (assignment x k + 1) ⌝ }
+{
+    x + (1u64 << (4 * (k - 1)))
+}
+
+// The word with one less as digit k, which is not 0.
+pub fn one_less(x: u64, k: u8) -> u64
+    requires { ⌜ (1 ≤ k) × (k ≤ 16) × (1 ≤ assignment x k) ⌝ }
+    ensures { λ r. ⌜ (assignment r ≡ at (assignment x) k (assignment x k - 1)) × (r < x) ⌝ }
+{
+    x - (1u64 << (4 * (k - 1)))
 }
 
 // The lowest digit of a word that is not 0, where there is one.
@@ -41,6 +57,50 @@ pub fn last_digit(x: u64) -> u8
     ensures { λ r. ⌜ (r ≡ numberOf (highest maxNamed (λ k. known (assignment x k)))) × (r ≤ 16) ⌝ }
 {
     (67 - u64::leading_zeros(x)) as u8 / 4
+}
+
+// The word with 15 as each digit that is not 0 in x.
+pub fn named(x: u64) -> u64
+    ensures { λ r. ⌜ ((k : ℕ) → assignment r k ≡ cond (known (assignment x k)) 15 0) ⌝ }
+{
+    15 * ((x | (x >> 1) | (x >> 2) | (x >> 3)) & 0x1111_1111_1111_1111)
+}
+
+// Each digit of x is 0 or the same in y.
+pub fn within(x: u64, y: u64) -> bool
+    ensures { λ r. ⌜ r ≡ allTo maxNamed (λ k. not (known (assignment x k)) || eqb (assignment x k) (assignment y k)) ⌝ }
+{
+    y & named(x) == x
+}
+
+// Each digit of odd place, the low half of a byte, is at most the same in y: the top bit of the byte stays only then.
+fn odd_at_most(x: u64, y: u64) -> bool
+    ensures { λ r. ⌜ r ≡ allTo 8 (λ j. leb (assignment x (2 * j - 1)) (assignment y (2 * j - 1))) ⌝ }
+{
+    let lows: u64 = 0x0f0f_0f0f_0f0f_0f0f;
+    let tops: u64 = 0x8080_8080_8080_8080;
+    (((y & lows) + tops) - (x & lows)) & tops == tops
+}
+
+// Each digit of x is at most the same digit of y.
+pub fn at_most(x: u64, y: u64) -> bool
+    ensures { λ r. ⌜ r ≡ allTo maxNamed (λ k. leb (assignment x k) (assignment y k)) ⌝ }
+{
+    odd_at_most(x, y) && odd_at_most(x >> 4, y >> 4)
+}
+
+// The set of the agents that a word names.
+pub fn names(x: u64) -> u16
+    ensures { λ r. ⌜ ((k : ℕ) → members r k ≡ known (assignment x k)) ⌝ }
+{
+    let mut set: u16 = 0;
+    let mut rest = x;
+    while rest != 0 {
+        let k = first_digit(rest);
+        set = add(set, k);
+        rest = with_digit(rest, k, 0);
+    }
+    set
 }
 
 // ---- sets

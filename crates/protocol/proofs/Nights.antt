@@ -6,9 +6,9 @@ use Rattle.problem.specs.Problem.{maxAgents, maxDomain, maxPairs, domain, owns,
 use Rattle.problem.specs.Sheet.{faultNumber, headerLength, recordLength, maxRecords, byteAt, wordFrom, agentsIn, firstIn, recordsIn, domainsIn, withoutBans, domainGood, headerGood, recordStart, lowerOf, higherOf, lowerValueOf, higherValueOf, nextOf, recordGood, withRecord, walk, decode}
 use Rattle.problem.specs.Cases.{sameNumbers, twoBytes, header, row}
 use Rattle.agent_rules.specs.Message.{known, nobody, sentTo}
-use Rattle.agent_rules.specs.Agent.{noNogoods, noAgent, above, agrees}
+use Rattle.agent_rules.specs.Agent.{noNogoods, unusedAgent, above, agrees}
 use Rattle.agent_rules.specs.Choosing.{bars, blame, only, blaming, reasonOf, reason, choose, choice, infoTo, infos, chosen, took, join, lhsOf, union, failed, refusing, dropIf, without, forget, after, settle, checkView}
-use Rattle.agent_rules.specs.Receiving.{quiet, answer, keepIf, agreeing, updated, conflicts, onInfo, matches, holds, unheard, addLinkTo, addLinks, accepting, outdated, onBack, informing, onAddLink, receive, chooses, fresh, begin}
+use Rattle.agent_rules.specs.Receiving.{quiet, answer, keepIf, agreeing, updated, conflicts, onInfo, matches, holds, unheard, addLinkTo, addLinks, accepting, outdated, onBack, informing, onAddLink, receive, fresh, begin}
 use Rattle.agent_rules.specs.Shape.{maxNamed}
 use Rattle.agent_rules.specs.Cases.{values, sameAssignment, sameMessage}
 use Rattle.protocol.specs.Network.{emptyNetwork, selfOf, bansOf, posted, withStep, withChannel, stepOn, handed, begun, startAgent, startChannel, start, startedOn, startSheet}
@@ -18,5 +18,5 @@ use Rattle.protocol.specs.Run.{isLine, isEmpty, idle, visits, beginRound
 use Rattle.protocol.specs.Nights.{nextIndex, records, padded, sheet, sameMessages, asked, ranAs, holdsFrom, sheet1, sheet2, sheet3, sheet4, sheet5, sheet9, sheetBlame, sheetUnknown, sheetOrder, empty, nights, AllHold}
 
 pub nights-hold : AllHold nights
-unfolding at fromOne within lowest highest allTo every gather isSome bit withBit maxAgents maxDomain maxPairs domain owns pairsBefore wordAt bitAt isPair banned linked withBan noBans countInRange domainInRange wordOwned bansOwned sized inRange emptyProblem faultNumber headerLength recordLength maxRecords byteAt wordFrom agentsIn firstIn recordsIn domainsIn withoutBans domainGood headerGood recordStart lowerOf higherOf lowerValueOf higherValueOf nextOf recordGood withRecord walk decode sameNumbers twoBytes header row known nobody sentTo noNogoods noAgent above agrees bars blame only blaming reasonOf reason choose choice infoTo infos chosen took join lhsOf union failed refusing dropIf without forget after settle checkView quiet answer keepIf agreeing updated conflicts onInfo matches holds unheard addLinkTo addLinks accepting outdated onBack informing onAddLink receive chooses fresh begin maxNamed values sameAssignment sameMessage emptyNetwork selfOf bansOf posted withStep withChannel stepOn handed begun startAgent startChannel start startedOn startSheet capacity eachNamed eachIn holdsValue listensUpward informsDownward linkedListen informedListen viewListened nogoodFits nogoodsFit unused agentInShape lhsFits messageFits hasRoom channelInShape inShape rejectionNumber answerNumber isAccepted rejecting numbersGood asksAgain fits deliverHead deliver askValue isLine isEmpty idle visits beginRound stopped faultOf counts tally attempt sweep round isFull endingNumber endingWord faultEnding endingFor endingAt finish oneIf runFrom maxRounds allowed run nextIndex records padded sheet sameMessages asked ranAs holdsFrom sheet1 sheet2 sheet3 sheet4 sheet5 sheet9 sheetBlame sheetUnknown sheetOrder empty nights
+unfolding at fromOne within lowest highest allTo every gather isSome bit withBit maxAgents maxDomain maxPairs domain owns pairsBefore wordAt bitAt isPair banned linked withBan noBans countInRange domainInRange wordOwned bansOwned sized inRange emptyProblem faultNumber headerLength recordLength maxRecords byteAt wordFrom agentsIn firstIn recordsIn domainsIn withoutBans domainGood headerGood recordStart lowerOf higherOf lowerValueOf higherValueOf nextOf recordGood withRecord walk decode sameNumbers twoBytes header row known nobody sentTo noNogoods unusedAgent above agrees bars blame only blaming reasonOf reason choose choice infoTo infos chosen took join lhsOf union failed refusing dropIf without forget after settle checkView quiet answer keepIf agreeing updated conflicts onInfo matches holds unheard addLinkTo addLinks accepting outdated onBack informing onAddLink receive fresh begin maxNamed values sameAssignment sameMessage emptyNetwork selfOf bansOf posted withStep withChannel stepOn handed begun startAgent startChannel start startedOn startSheet capacity eachNamed eachIn holdsValue listensUpward informsDownward linkedListen informedListen viewListened nogoodFits nogoodsFit unused agentInShape lhsFits messageFits hasRoom channelInShape inShape rejectionNumber answerNumber isAccepted rejecting numbersGood asksAgain fits deliverHead deliver askValue isLine isEmpty idle visits beginRound stopped faultOf counts tally attempt sweep round isFull endingNumber endingWord faultEnding endingFor endingAt finish oneIf runFrom maxRounds allowed run nextIndex records padded sheet sameMessages asked ranAs holdsFrom sheet1 sheet2 sheet3 sheet4 sheet5 sheet9 sheetBlame sheetUnknown sheetOrder empty nights
 nights-hold = (refl, (refl, (refl, (refl, (refl, (refl, (refl, (refl, (refl, (refl, (refl, (refl, tt))))))))))))

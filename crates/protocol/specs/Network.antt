@@ -7,7 +7,7 @@ use Rattle.base.specs.Finite.{at, within, allTo}
 use Rattle.problem.specs.Problem.{Problem, domain, banned, linked, emptyProblem}
 use Rattle.problem.specs.Sheet.{faultNumber, Decoded, Valid, Invalid, decode}
 use Rattle.agent_rules.specs.Message.{Message, Post, sentTo}
-use Rattle.agent_rules.specs.Agent.{Self, Bans, Agent, Step, noAgent}
+use Rattle.agent_rules.specs.Agent.{Self, Bans, Agent, Step, unusedAgent}
 use Rattle.agent_rules.specs.Receiving.{receive, begin}
 
 -- Two networks are the same when they are equal: the record holds what document 01 says that two rails must agree in, and nothing else.
@@ -19,7 +19,18 @@ pub record Network : Type 0 where
 
 -- "empty rail (n = 0, all else zero)"
 unfoldable pub emptyNetwork : Network
-emptyNetwork = record { problem = emptyProblem; verdict = false; agents = λ i. noAgent; channel = λ i j. [] }
+emptyNetwork = record { problem = emptyProblem; verdict = false; agents = λ i. unusedAgent; channel = λ i j. [] }
+
+-- ---- a network with one part changed. The rules change networks by these alone.
+
+abbrev pub withVerdict : Network → Bool → Network
+withVerdict w verdict = record { problem = w .problem; verdict = verdict; agents = w .agents; channel = w .channel }
+
+abbrev pub withAgents : Network → (ℕ → Agent) → Network
+withAgents w agents = record { problem = w .problem; verdict = w .verdict; agents = agents; channel = w .channel }
+
+abbrev pub withChannels : Network → (ℕ → ℕ → List Message) → Network
+withChannels w channel = record { problem = w .problem; verdict = w .verdict; agents = w .agents; channel = channel }
 
 -- ---- what an agent has of the problem
 
@@ -37,22 +48,13 @@ posted j posts channel x y = elim (eqb x j) [ true ↦ channel x y ++ sentTo y p
 
 unfoldable pub withStep : Network → ℕ → Step → Network
 withStep w j t =
-    record {
-      problem = w .problem;
-      verdict = w .verdict || t .verdict;
-      agents = at (w .agents) j (t .agent);
-      channel = posted j (t .sent) (w .channel);
-    }
+    withVerdict
+    (withAgents (withChannels w (posted j (t .sent) (w .channel))) (at (w .agents) j (t .agent)))
+    (w .verdict || t .verdict)
 
 -- the channel from i to j with these messages left on it
 unfoldable pub withChannel : Network → ℕ → ℕ → List Message → Network
-withChannel w i j left =
-    record {
-      problem = w .problem;
-      verdict = w .verdict;
-      agents = w .agents;
-      channel = at (w .channel) i (at (w .channel i) j left);
-    }
+withChannel w i j left = withChannels w (at (w .channel) i (at (w .channel i) j left))
 
 -- agent j's step on the message m from i
 unfoldable pub stepOn : Network → ℕ → ℕ → Message → Step
@@ -69,7 +71,7 @@ unfoldable pub begun : Problem → ℕ → Step
 begun p i = begin (selfOf p i) (bansOf p i) (λ k. linked p k i) (λ k. linked p i k)
 
 unfoldable pub startAgent : Problem → ℕ → Agent
-startAgent p i = elim (within (p .count) i) [ true ↦ begun p i .agent | false ↦ noAgent ]
+startAgent p i = elim (within (p .count) i) [ true ↦ begun p i .agent | false ↦ unusedAgent ]
 
 unfoldable pub startChannel : Problem → ℕ → ℕ → List Message
 startChannel p i j = elim (within (p .count) i) [ true ↦ sentTo j (begun p i .sent) | false ↦ [] ]

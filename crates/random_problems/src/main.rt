@@ -4,7 +4,6 @@
 mod choices;
 mod drafts;
 mod draws;
-mod printing;
 mod rails;
 mod reading;
 mod tallies;

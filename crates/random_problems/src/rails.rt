@@ -15,7 +15,7 @@ fn with_asked(c: Choice, rail: Network, i: usize) -> Choice
     requires { ⌜ i < 12 ⌝ }
 {
     let mut o = c;
-    let a = start::value(rail, i as u8 + 1);
+    let a = network::value(rail, i as u8 + 1);
     o.of[i] = a.value;
     o
 }

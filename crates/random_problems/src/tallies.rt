@@ -1,8 +1,8 @@
 // How many of each kind were tried, and what failed.
-use crate::printing::put;
-use crate::printing::put_byte;
-use crate::printing::put_line;
-use crate::printing::put_number;
+use words::printing::put;
+use words::printing::put_byte;
+use words::printing::put_line;
+use words::printing::put_number;
 
 // Kinds 1 to 4 are the sheets that were refused with that number.
 pub const SHEETS: usize = 0;

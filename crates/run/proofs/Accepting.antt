@@ -1,99 +1,86 @@
--- A delivery that the run's code has made: what the loops that store the posts leave as it was (`Kept`), and the loop's head after it.
-use Prim.Native.Nat.{ℕ, pred, _+_, _-_, _^_, _≤_, _<_}
-use mathlib.Core.Bool.{Bool, true, false, _||_}
-use mathlib.Core.Path.{_≡_, refl, ap, _∙_}
-use mathlib.Core.Logic.{_≢_}
-use mathlib.Core.List.{List}
+-- A delivery whose posts the engine has stored as far as they found room: rejected at the first that found none, and else made.
+use Prim.Native.Nat.{ℕ, pred, _-_, _≤_}
+use mathlib.Core.Bool.{Bool, true, false, not}
+use mathlib.Core.Path.{_≡_, refl, sym, ap, _∙_}
+use mathlib.Core.List.{List, []}
 use native.Mathlib.Omega.{arith}
-use lib.ListN.{getD, set, length-set}
-use Rattle.base.specs.Finite.{at}
+use lib.ListN.{length, getD, set, length-set}
 use Rattle.problem.specs.Problem.{pairsBefore}
-use Rattle.packed.specs.Packed.{assignment}
-use Rattle.agent.specs.declared.Lhs.{Lhs}
-use Rattle.agent.specs.declared.Carried.{Carried}
-use Rattle.agent.specs.declared.Message.the-variants.{Back}
-use Rattle.agent.specs.declared.Own.{Own}
 use Rattle.agent.specs.declared.Bars.{Bars}
-use Rattle.agent.specs.declared.Outbox.{Outbox}
+use Rattle.agent.specs.declared.Posts.{Posts}
 use Rattle.agent.specs.declared.Step.{Step}
-use Rattle.agent.specs.Abstract.{assigned, unpacked, bansIn}
-use Rattle.agent.specs.Entries.{Barring, Refuses}
-use Rattle.protocol.specs.Run.{Ran as Ran′}
+use Rattle.agent.specs.Posting.{postsLeft}
+use Rattle.protocol.specs.Delivery.{AlreadyInformed, NoRoom, rejectionNumber, rejecting, deliver}
 use Rattle.network.specs.declared.Network.{Network}
-use Rattle.delivery.specs.Parts.{Postable}
-use Rattle.delivery.proofs.Named.{still-short}
-use Rattle.delivery.proofs.Sending.{receiverOf}
-use Rattle.delivery.proofs.Changes.{Sized, wordAt, arrived, placed, rowed, Taken}
-use Rattle.delivery.proofs.Joining.{Turn, Links, Backs, News, backs-go}
-use Rattle.delivery.proofs.Words.{part}
-use Rattle.delivery.proofs.Handing.{Stepped, Roomed, found-ends, delivers}
-use Rattle.run.proofs.Barrings.{barring-of, bars-stored}
-use Rattle.run.proofs.Here.{Here}
-use Rattle.run.proofs.Visiting.{accepts}
+use Rattle.network.specs.Abstract.{networkOf}
+use Rattle.network_laws.proofs.Changes.{FullArrays, rowed, arrived, arrived-sized, counted-sized, Taken}
+use Rattle.network_laws.proofs.Handing.{Stepped, finds-no-room, delivers}
+use Rattle.run.specs.Lines.{NextVisit}
+use Rattle.run.specs.Working.{isBroken, Worked}
+use Rattle.run.specs.declared.lines.Visit.{Visit}
+use Rattle.run.proofs.Barrings.{Barred, BarsOf, bars-stored}
+use Rattle.run.proofs.Here.{Live, Here}
+use Rattle.run.proofs.Storing.{Storing, stays-clean}
+use Rattle.run.proofs.Visiting.{line-channel, line-ends, here, rejects, accepts}
 
--- the problem and the agents are the same
-pub record Kept (o p : Network) : Type 0 where
-  pub count : p .count ≡ o .count
-  pub domains : p .domains ≡ o .domains
-  pub bans : p .bans ≡ o .bans
-  pub agents : p .agents ≡ o .agents
+module _ {once : Bool} {whole : Worked} {o₀ : Network} {number₀ : ℕ} {o : Network} {n : ℕ} {domains bans : List ℕ} {bars : List Bars} {ready : ℕ} {quota : List ℕ} {missed : Bool}
+    {left made number : ℕ} {going : Bool} {i rest : ℕ}
+    (h : Here once whole o₀ number₀ o n domains bans bars ready quota missed left made number going i rest)
+    (v : Visit) (nv : NextVisit quota n i rest v) (found : v .over ≡ false) (g : going ≡ true) where
+  abbrev L : Live o n domains bans bars ready
+  L = here h v nv found g
 
-pub kept-all : (o : Network) → Kept o o
-kept-all o = record { count = refl; domains = refl; bans = refl; agents = refl }
+  -- a link is asked for again: 9
+  pub meets-asking : deliver (networkOf o) (v .from) (v .to) ≡ rejecting AlreadyInformed (networkOf o)
+      → Here once whole o₀ number₀ o n domains bans bars ready quota true left made 9 false (v .from) (v .rest)
+  unfolding isBroken rejectionNumber
+  meets-asking e = rejects h v nv found g AlreadyInformed refl o bars ready e refl (h .sized) L
 
--- ---- a Back, as the code puts it together
+  module _ (bars′ : List Bars) (ready′ : ℕ) (wide : length bars′ ≡ 12) (barred : Barred bans (o .agents) bars′ ready′) {x : ℕ} {step : Step}
+      (s : Stepped o (v .from) (v .to) x step) {p : Network} {number′ : ℕ} {missed′ going′ : Bool} {posts : Posts} {now : ℕ}
+      (st : Storing o (v .to) step (step .backs) number missed p number′ missed′ going′ posts now) where
+    -- no room: 10
+    pub stored-jams : going′ ≡ false → Here once whole o₀ number₀ p n domains bans bars′ ready′ quota missed′ left made number′ going′ (v .from) (v .rest)
+    unfolding isBroken rejectionNumber
+    stored-jams f =
+        let k = st .posting .kept in
+        let b = st .stops f in
+        rw (b .0, b .1, f)
+        (rejects h v nv found g NoRoom refl p bars′ ready′ (finds-no-room s (b .2)) (st .posting .network) (st .posting .sized)
+        (record {
+          shape = rw (st .posting .network) (L .shape);
+          count = L .count ∙ sym (k .count);
+          clean = rw (k .counts) (L .clean);
+          owned = L .owned ∙ sym (k .domains);
+          table = L .table ∙ sym (k .bans);
+          beside = wide;
+          barred = rw (k .agents) barred;
+        }))
 
--- the word of Back i
-abbrev pub backAt : Outbox → ℕ → Lhs
-backAt out i = record { digits = getD (out .backs) i 0 }
-
-pub back-goes : {j : ℕ} {out : Outbox} {ends : ℕ} {o₀ : Network} {now₀ : ℕ} {o : Network} {now i : ℕ} → Backs j out ends o₀ now₀ o now i
-    → i < out .count → Postable (out .links) (out .backs) (out .count) (out .told) → (k : ℕ) → k ≡ receiverOf (getD (out .backs) i 0)
-    → (v : ℕ) (w : Lhs) (p : Carried) → v ≡ assigned (backAt out i) k → assigned w ≡ at (assigned (backAt out i)) k 0 → unpacked p ≡ w .digits
-    → (c g t x now′ : ℕ) → Turn j ends now k c g t x now′ → Backs j out ends o₀ now₀ (placed o x (record { message = Back v p })) now′ (i + 1)
-unfolding assigned
-back-goes h l s k e v w p ev ew ep c g t x now′ turn = backs-go h l s p e ev (ap assignment ep ∙ ew) turn
-
--- its left side fits a message
-pub back-fits : (own : Own) (out : Outbox) (i k : ℕ) (w : Lhs) → Refuses own (getD (out .backs) i 0) → w .digits < 2 ^ 64
-    → assigned w ≡ at (assigned (backAt out i)) k 0 → w .digits < 281474976710656
-unfolding assigned
-back-fits own out i k w r h e = still-short (getD (out .backs) i 0) (w .digits) k (r .short) h e
-
--- ---- the delivery
-
-rowed-sized : (o : Network) (j row : ℕ) → Sized o → Sized (rowed o j row)
-rowed-sized o j row z =
-    record {
-      domains = z .domains;
-      bans = z .bans;
-      agents = z .agents;
-      heads = z .heads;
-      counts = rw length-set (z .counts);
-      places = z .places;
-    }
-
-module _ {whole : Ran′} {o : Network} {n : ℕ} {domains bans : List ℕ} {bars : List Bars} {quota : List ℕ} {left made : ℕ}
-    {missed faulty jammed : Bool} {i rest j q : ℕ}
-    (h : Here whole o n domains bans bars quota left made missed faulty jammed i rest j q) (z : q ≢ 0) (b : o .verdict || faulty || jammed ≡ false)
-    {x : ℕ} {t : Step} (s : Stepped o i j x t) (r : Bool) (room : Roomed o j (t .outbox) r) (y : r ≡ true)
-    {heads counts : ℕ} (taken : Taken o i j heads counts) where
-  pub delivered : {ends : ℕ} {o₁ o₂ o₃ : Network} {now₁ now₂ now₃ links k told : ℕ}
-      → Links j (t .outbox) ends (arrived o i j heads counts (t .agent) (t .verdict)) (wordAt (o .counts) j) (t .outbox .links) o₁ now₁ links
-      → Kept (arrived o i j heads counts (t .agent) (t .verdict)) o₁ → links ≡ 0
-      → Backs j (t .outbox) ends o₁ now₁ o₂ now₂ k → Kept o₁ o₂ → t .outbox .count ≤ k
-      → News j (t .outbox) ends o₂ now₂ (t .outbox .told) o₃ now₃ told → Kept o₂ o₃ → told ≡ 0
-      → (a : ℕ) → a ≡ pairsBefore (pred j) → Barring (bansIn (part bans a j)) (assigned (t .agent .view)) (t .bars)
-      → Here whole (rowed o₃ j now₃) n domains bans (set bars (j - 1) (t .bars)) quota left made missed faulty jammed i rest j (q - 1)
-  delivered {o₃ = o₃} {now₃ = now₃} l kl el c kc ec w kw ew a e d =
-      let E = found-ends (s .found) in
-      let lo = E .to-low in
-      let hi = E .to-high in
-      let at : j - 1 ≡ pred j = omega arith in
-      accepts h z b (rowed o₃ j now₃) _ (rowed-sized o₃ j now₃ (w .storing .sized))
-      (kw .count ∙ kc .count ∙ kl .count) (kw .domains ∙ kc .domains ∙ kl .domains) (kw .bans ∙ kc .bans ∙ kl .bans)
-      (set bars (j - 1) (t .bars)) (rw length-set (h .beside))
-      (rw (kw .agents ∙ kc .agents ∙ kl .agents)
-      (bars-stored bans j (j - 1) lo at (o .agents) bars (t .agent) (t .bars) n (rw (h .sized .agents) hi) (rw (h .beside) hi)
-      (barring-of bans j (j - 1) a lo at e (t .agent .view) (t .bars) d) (h .barred)))
-      (delivers s r room y taken l el c ec w ew)
+    -- all have found room
+    pub stored-goes : going′ ≡ true → postsLeft posts (step .backs) ≡ [] → {heads counts : ℕ} → Taken (rowed p (v .to) now) (v .from) (v .to) heads counts
+        → (a : ℕ) → a ≡ pairsBefore (pred (v .to)) → BarsOf bans (v .to) a (step .agent) (step .bars)
+        → Here once whole o₀ number₀ (arrived (rowed p (v .to) now) (v .from) (v .to) heads counts (step .agent) (step .verdict)) n domains bans
+        (set bars′ (v .to - 1) (step .bars)) ready′ quota missed′ left made number′ (not (step .verdict)) (v .from) (v .rest)
+    stored-goes f none {heads} {counts} t a e b =
+        let P = st .posting in
+        let k = P .kept in
+        let q = st .goes f in
+        let E = line-ends h v nv found in
+        rw (q .1)
+        (accepts h v nv found g (arrived (rowed p (v .to) now) (v .from) (v .to) heads counts (step .agent) (step .verdict))
+        (set bars′ (v .to - 1) (step .bars)) ready′ _ number′ (delivers s P none t)
+        (arrived-sized (rowed p (v .to) now) (v .from) (v .to) heads counts (step .agent) (step .verdict) (counted-sized p _ (P .sized) (rw length-set (P .sized .counts))))
+        (q .0)
+        (λ shape.
+        record {
+          shape = shape;
+          count = L .count ∙ sym (k .count);
+          clean = stays-clean p (v .from) (v .to) now heads counts (P .sized) (rw (k .counts) (L .clean)) (line-channel h v nv found) (rw (k .counts) (P .outside)) (t .count);
+          owned = L .owned ∙ sym (k .domains);
+          table = L .table ∙ sym (k .bans);
+          beside = rw length-set wide;
+          barred =
+              rw (k .agents)
+              (bars-stored bans (v .to) a (E .to-low) (E .to-high) e (o .agents) bars′ ready′ wide barred (step .agent) (step .bars) (h .sized .agents) b);
+        }))

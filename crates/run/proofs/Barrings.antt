@@ -1,76 +1,81 @@
--- What the agents' views bar, kept in an array beside them: one agent's changed, the others' as they were. And what working it out needs.
+-- What the agents' views bar, kept in an array beside them for the agents of a set: worked out for one agent more, or one agent's changed.
 use Prim.Native.Nat.{ℕ, pred, _+_, _-_, _≤_}
-use mathlib.Core.Path.{_≡_, _∙_}
+use mathlib.Core.Bool.{Bool, true, false, false≢true}
+use mathlib.Core.Path.{_≡_, sym, ap, _∙_}
 use mathlib.Core.Logic.{_≢_}
-use mathlib.Core.List.{List}
+use mathlib.Core.List.{List, []}
 use native.Mathlib.Omega.{arith}
-use lib.ListN.{length, getD, set, take, drop, length-drop}
-use lib.Seq.{getD-set-same, getD-set-other, length-take-le}
+use lib.ListN.{length, getD, set, length-set}
+use lib.Seq.{getD-set-same, getD-set-other}
+use Rattle.base.specs.Finite.{at}
 use Rattle.base.proofs.Tests.{eq-test}
-use Rattle.problem.specs.Problem.{maxDomain, pairsBefore}
+use Rattle.base.proofs.Search.{at-other}
+use Rattle.problem.specs.Problem.{pairsBefore}
+use Rattle.packed.specs.Packed.{members}
 use Rattle.agent.specs.declared.Agent.{Agent}
-use Rattle.agent.specs.declared.Lhs.{Lhs}
 use Rattle.agent.specs.declared.Bars.{Bars}
 use Rattle.agent.specs.Abstract.{assigned, bansIn}
-use Rattle.agent.specs.Entries.{Able, Barring}
-use Rattle.agent.specs.Parts.{Ranged}
-use Rattle.run.specs.Barred.{noAgent, noBars, Seeing, wordsOf, BarsAt}
+use Rattle.agent.specs.Entries.{Barring}
+use Rattle.network_laws.proofs.Words.{part}
 
--- agent j stands at place k, and a words of bans come before its own
-module _ (bans : List ℕ) (j k a : ℕ) (lo : 1 ≤ j) (e : k ≡ pred j) (before : a ≡ pairsBefore (pred j)) where
-  -- the words of its bans, as the code lends them
-  words-part : take (a + k - a) (drop a bans) ≡ wordsOf bans j
-  unfolding wordsOf
-  words-part = let d : a + k - a ≡ pred j = omega arith in rw (d, before)
+-- what an array past its end has
+abbrev pub noAgent : Agent
+noAgent = record { value = 0; stored = 0; listens = 0; informs = 0; view = record { digits = 0 }; nogoods = [] }
 
-  -- what `Bars::of` asks
-  pub bars-asks : (domains : List ℕ) (agents : List Agent) → j ≤ 12 → a + j ≤ 67 → length bans ≡ 66 → Seeing domains agents j
-      → Able (record { number = j; domain = getD domains k 0 }) (take (a + k - a) (drop a bans))
-      × Ranged (j - 1) (assigned (getD agents k noAgent .view))
-  unfolding maxDomain
-  bars-asks domains agents hi few wide s =
-      let m : a + k - a ≡ k = omega arith in
-      let n : k ≡ j - 1 = omega arith in (
-        record {
-          sized = record { first = lo; last = hi; some = rw e (s .0); few = rw e (s .1) };
-          bans = rw m (length-take-le k (drop a bans) (rw (length-drop, wide) (omega arith)) ∙ n);
-        },
-        λ x l h. rw e (s .2 x l (omega arith)),
-      )
+abbrev pub noBars : Bars
+noBars = record { low = 0; high = 0 }
 
-  -- what it ensures, and what a step does, in the words of the table
-  pub barring-of : (view : Lhs) (b : Bars) → Barring (bansIn (take (a + k - a) (drop a bans))) (assigned view) b
-      → Barring (bansIn (wordsOf bans j)) (assigned view) b
-  barring-of view b f = rw (← words-part) f
+-- what agent i's view bars stands in its bars
+abbrev pub BarsAt : List ℕ → List Agent → List Bars → ℕ → Type 0
+BarsAt bans agents bars i =
+    Barring (bansIn (part bans (pairsBefore (pred i)) i)) (assigned (getD agents (i - 1) noAgent .view)) (getD bars (i - 1) noBars)
 
-  -- what a step asks of its bars
-  pub barring-at : (agents : List Agent) (bars : List Bars) → BarsAt bans agents bars j
-      → Barring (bansIn (take (a + k - a) (drop a bans))) (assigned (getD agents k noAgent .view)) (getD bars k noBars)
-  barring-at agents bars f = rw (words-part, e) f
+-- .. for every agent of the set
+abbrev pub Barred : List ℕ → List Agent → List Bars → ℕ → Type 0
+Barred bans agents bars ready = (i : ℕ) → 1 ≤ i → i ≤ 12 → members ready i ≡ true → BarsAt bans agents bars i
 
-module _ (bans : List ℕ) (j k : ℕ) (lo : 1 ≤ j) (e : k ≡ pred j) where
-  -- agent j's bars stored
-  bars-here : (agents : List Agent) (bars : List Bars) (b : Bars) → j ≤ length bars
-      → Barring (bansIn (wordsOf bans j)) (assigned (getD agents (pred j) noAgent .view)) b → BarsAt bans agents (set bars k b) j
-  bars-here agents bars b h d = rw (e, getD-set-same bars (pred j) b noBars (omega arith)) d
+-- what an agent's view bars, where so many words of bans come before its own, as the code lends them
+abbrev pub BarsOf : List ℕ → ℕ → ℕ → Agent → Bars → Type 0
+BarsOf bans j a agent b = Barring (bansIn (part bans a j)) (assigned (agent .view)) b
 
-  bars-elsewhere : (agents : List Agent) (bars : List Bars) (b : Bars) (x : ℕ) → 1 ≤ x → x ≢ j → BarsAt bans agents bars x
-      → BarsAt bans agents (set bars k b) x
-  bars-elsewhere agents bars b x l n d = rw (getD-set-other bars k (pred x) b noBars (λ z. n (omega arith))) d
+-- agent j has its bars, or they are worked out now
+pub data Readied (bans : List ℕ) (j a : ℕ) (agent : Agent) (bars : List Bars) (ready : ℕ) (bars′ : List Bars) (ready′ : ℕ) : Type 0 where
+  had : members ready j ≡ true → bars′ ≡ bars → ready′ ≡ ready → Readied bans j a agent bars ready bars′ ready′
+  worked : (b : Bars) (r : ℕ) → BarsOf bans j a agent b → members r ≡ at (members ready) j true → bars′ ≡ set bars (j - 1) b → ready′ ≡ r
+      → Readied bans j a agent bars ready bars′ ready′
 
-  -- one agent more
-  pub bars-next : (agents : List Agent) (bars : List Bars) (b : Bars) → j ≤ length bars
-      → Barring (bansIn (wordsOf bans j)) (assigned (getD agents k noAgent .view)) b
-      → ((x : ℕ) → 1 ≤ x → x ≤ k → BarsAt bans agents bars x) → (x : ℕ) → 1 ≤ x → x ≤ j → BarsAt bans agents (set bars k b) x
-  bars-next agents bars b h d f x l u =
-      eq-test x j (λ q. rw q (bars-here agents bars b h (rw e at d))) (λ n. bars-elsewhere agents bars b x l n (f x l (omega arith)))
+module _ (bans : List ℕ) (j a : ℕ) (lo : 1 ≤ j) (hi : j ≤ 12) (e : a ≡ pairsBefore (pred j)) where
+  barring-is : (agent : Agent) (b : Bars) → BarsOf bans j a agent b → Barring (bansIn (part bans (pairsBefore (pred j)) j)) (assigned (agent .view)) b
+  barring-is agent b f = rw (← e) f
 
-  -- agent j and its bars stored
-  pub bars-stored : (agents : List Agent) (bars : List Bars) (a : Agent) (b : Bars) (m : ℕ) → j ≤ length agents → j ≤ length bars
-      → Barring (bansIn (wordsOf bans j)) (assigned (a .view)) b → ((x : ℕ) → 1 ≤ x → x ≤ m → BarsAt bans agents bars x)
-      → (x : ℕ) → 1 ≤ x → x ≤ m → BarsAt bans (set agents k a) (set bars k b) x
-  bars-stored agents bars a b m ha hb d f x l h =
-      eq-test x j
-      (λ q. rw q (bars-here (set agents k a) bars b hb (rw (e, getD-set-same agents (pred j) a noAgent (omega arith)) d)))
-      (λ n.
-      bars-elsewhere (set agents k a) bars b x l n (rw (getD-set-other agents k (pred x) a noAgent (λ z. n (omega arith))) (f x l h)))
+  bars-other : (agents : List Agent) (bars : List Bars) (b : Bars) (x : ℕ) → 1 ≤ x → x ≢ j → BarsAt bans agents bars x
+      → BarsAt bans agents (set bars (j - 1) b) x
+  bars-other agents bars b x l n d = rw (getD-set-other bars (j - 1) (x - 1) b noBars (λ z. n (omega arith))) d
+
+  module _ (agents : List Agent) (bars : List Bars) (ready : ℕ) (wide : length bars ≡ 12) (h : Barred bans agents bars ready) where
+    bars-had : members ready j ≡ true → BarsOf bans j a (getD agents (j - 1) noAgent) (getD bars (j - 1) noBars)
+    bars-had t = rw e (h j lo hi t)
+
+    -- one agent more
+    bars-added : (b : Bars) (ready′ : ℕ) → BarsOf bans j a (getD agents (j - 1) noAgent) b → members ready′ ≡ at (members ready) j true
+        → Barred bans agents (set bars (j - 1) b) ready′
+    bars-added b ready′ f r x l u t =
+        eq-test x j
+        (λ q. rw (q, getD-set-same bars (j - 1) b noBars (rw wide (omega arith))) (barring-is (getD agents (j - 1) noAgent) b f))
+        (λ n. bars-other agents bars b x l n (h x l u (sym (ap (λ (g : ℕ → Bool). g x) r ∙ at-other (members ready) j true x n) ∙ t)))
+
+    -- agent j and its bars stored
+    pub bars-stored : (agent : Agent) (b : Bars) → length agents ≡ 12 → BarsOf bans j a agent b
+        → Barred bans (set agents (j - 1) agent) (set bars (j - 1) b) ready
+    bars-stored agent b long f x l u t =
+        eq-test x j
+        (λ q. rw (q, getD-set-same bars (j - 1) b noBars (rw wide (omega arith)), getD-set-same agents (j - 1) agent noAgent (rw long (omega arith))) (barring-is agent b f))
+        (λ n. bars-other (set agents (j - 1) agent) bars b x l n
+        (rw (getD-set-other agents (j - 1) (x - 1) agent noAgent (λ z. n (omega arith))) (h x l u t)))
+
+    -- the bars of agent j, had or worked out: those of all that have them, and its own
+    pub bars-ready : (bars′ : List Bars) (ready′ : ℕ) → Readied bans j a (getD agents (j - 1) noAgent) bars ready bars′ ready′
+        → (length bars′ ≡ 12) × Barred bans agents bars′ ready′ × BarsOf bans j a (getD agents (j - 1) noAgent) (getD bars′ (j - 1) noBars)
+    bars-ready bars′ ready′ (had t p q) = rw (p, q) (wide, h, bars-had t)
+    bars-ready bars′ ready′ (worked b r f m p q) =
+        rw (p, q) (rw length-set wide, bars-added b r f m, rw (getD-set-same bars (j - 1) b noBars (rw wide (omega arith))) f)

@@ -1,115 +1,79 @@
--- What holds at the head of the run's loop (`Here`): the work left, described at the network as it stands, is the run. Before the first round it is the
--- run itself, within a round also the visits ahead.
+-- What holds at the head of the engine's loop (`Here`): the work left, described at the network as it stands, is the whole work. A single delivery is a
+-- round of its own with one line ahead; before its first round a run has none ahead.
 use Prim.Native.Nat.{ℕ, _+_, _≤_, _<_}
-use mathlib.Core.Bool.{Bool, true, false, not}
-use mathlib.Core.Path.{_≡_, refl}
-use mathlib.Core.Logic.{_⊎_, inl, inr}
+use mathlib.Core.Bool.{Bool, true, false, not, _||_}
+use mathlib.Core.Path.{_≡_}
+use mathlib.Core.Option.{Option}
 use mathlib.Core.List.{List, []}
-use native.Mathlib.Omega.{arith}
 use lib.Dec.{eqb}
 use lib.ListN.{length}
+use Rattle.base.specs.Finite.{isSome}
 use Rattle.problem.specs.Problem.{maxAgents}
 use Rattle.agent.specs.declared.Bars.{Bars}
 use Rattle.protocol.specs.Shape.{inShape}
-use Rattle.protocol.specs.Run.{Try, Sweep, Round, Ran as Ran′, runFrom}
+use Rattle.protocol.specs.Delivery.{Rejection}
+use Rattle.protocol.specs.Run.{Try, Sweep, sweep, Round}
 use Rattle.shape_laws.proofs.ShapeClauses.{shaped}
 use Rattle.shape_laws.proofs.RunFaults.{Supplied}
 use Rattle.network.specs.declared.Network.{Network}
 use Rattle.network.specs.Abstract.{problemOf, networkOf}
-use Rattle.run.specs.Parts.{stopping}
-use Rattle.run.specs.Barred.{BarsAt}
-use Rattle.delivery.proofs.Changes.{Sized}
-use Rattle.run.proofs.Lines.{ahead}
-use Rattle.run.proofs.Resuming.{onward, resume, begins}
+use Rattle.network_laws.specs.Held.{Clean}
+use Rattle.network_laws.proofs.Changes.{FullArrays}
+use Rattle.run.specs.Lines.{ahead}
+use Rattle.run.specs.Working.{numberFor, brokenBy, Worked, stoppedWith, ranAs}
+use Rattle.run.proofs.Resuming.{further}
+use Rattle.run.proofs.Barrings.{Barred}
 
 -- a round on its way, as the code has it
-abbrev pub sweepOf : Network → ℕ → Bool → Bool → List Try → Sweep
-sweepOf o delivered faulty jammed tried =
-    record { network = networkOf o; delivered = delivered; fault = stopping faulty jammed; tried = tried }
+abbrev pub sweepOf : Network → ℕ → Option Rejection → List Try → Sweep
+sweepOf o delivered fault tried = record { network = networkOf o; delivered = delivered; fault = fault; tried = tried }
 
--- what was delivered and what is ahead is all that waited when the round began, exactly if nothing was missed
-pub record InRound (whole : Ran′) (o : Network) (n : ℕ) (quota : List ℕ) (left made : ℕ) (missed faulty jammed : Bool) (i rest j q : ℕ) : Type 0 where
-  pub few : made + left < 1000000
-  pub waited : ℕ
-  pub delivered : ℕ
-  pub most : delivered + length (ahead quota n i rest j q) ≤ waited
-  pub missing : missed ≡ not (eqb (delivered + length (ahead quota n i rest j q)) waited)
-  pub supplied : Supplied (ahead quota n i rest j q) (networkOf o)
-  pub rounds : List Round
-  pub tried : List Try
-  pub same : whole ≡ resume waited left made rounds (sweepOf o delivered faulty jammed tried) (ahead quota n i rest j q)
+-- what the work comes to at the end of a round
+abbrev pub stoppedAs : Sweep → Worked
+stoppedAs t = stoppedWith (t .network) (t .fault)
 
-pub record BetweenRounds (whole : Ran′) (o : Network) (left made : ℕ) (faulty jammed : Bool) : Type 0 where
-  pub few : made + left ≤ 1000000
-  pub rounds : List Round
-  pub same : whole ≡ onward (stopping faulty jammed) left made rounds (networkOf o)
+pub data Kind (once missed going : Bool) (fault : Option Rejection) (left made waited : ℕ) (end : Sweep → Worked) : Type 0 where
+  -- a single delivery, or none where the shape is broken: no round counts
+  single : (brokenBy fault ≡ false → once ≡ true) → missed ≡ true → (going ≡ true → left ≡ 0) → made ≡ 0
+      → ((t : Sweep) → end t ≡ stoppedAs t) → Kind once missed going fault left made waited end
+  -- a round of a run
+  rounds : once ≡ false → brokenBy fault ≡ false → (after : Sweep → List Round)
+      → ((t : Sweep) → end t ≡ ranAs (further left made waited after t)) → Kind once missed going fault left made waited end
 
--- before the first round nothing is ahead, and the round that seems to end does not count
-pub record AtStart (whole : Ran′) (o : Network) (n left made : ℕ) (missed faulty jammed : Bool) (i rest q : ℕ) : Type 0 where
-  pub none : q ≡ 0
-  pub empty : rest ≡ 0
-  pub last : n ≤ i
-  pub uncounted : missed ≡ true
-  pub between : BetweenRounds whole o left made faulty jammed
-
-pub record Here (whole : Ran′) (o : Network) (n : ℕ) (domains bans : List ℕ) (bars : List Bars) (quota : List ℕ) (left made : ℕ)
-    (missed faulty jammed : Bool) (i rest j q : ℕ) : Type 0 where
-  pub sized : Sized o
+-- what a network in shape has
+pub record Live (o : Network) (n : ℕ) (domains bans : List ℕ) (bars : List Bars) (ready : ℕ) : Type 0 where
   pub shape : inShape (networkOf o) ≡ true
   pub count : n ≡ o .count
+  pub clean : Clean (o .counts)
   pub owned : domains ≡ o .domains
   pub table : bans ≡ o .bans
   pub beside : length bars ≡ 12
-  pub barred : (k : ℕ) → 1 ≤ k → k ≤ n → BarsAt bans (o .agents) bars k
+  pub barred : Barred bans (o .agents) bars ready
+
+-- what was delivered and what is ahead is all that waited when the round began, exactly if nothing was missed
+pub record Here (once : Bool) (whole : Worked) (o₀ : Network) (number₀ : ℕ) (o : Network) (n : ℕ) (domains bans : List ℕ) (bars : List Bars) (ready : ℕ) (quota : List ℕ)
+    (missed : Bool) (left made number : ℕ) (going : Bool) (i rest : ℕ) : Type 0 where
+  pub sized : FullArrays o
+  pub agents : n ≤ 12
   pub high : i ≤ n
-  pub phase : AtStart whole o n left made missed faulty jammed i rest q ⊎ InRound whole o n quota left made missed faulty jammed i rest j q
+  pub few : made + left ≤ 1000000
+  pub fault : Option Rejection
+  pub numbered : number ≡ numberFor fault
+  pub goes : going ≡ not (o .verdict || isSome fault)
+  pub live : brokenBy fault ≡ false → Live o n domains bans bars ready
+  pub untouched : brokenBy fault ≡ true → (o ≡ o₀) × (number₀ ≡ 5)
+  pub quiet : brokenBy fault ≡ true → ahead quota n i rest ≡ []
+  pub waited : ℕ
+  pub delivered : ℕ
+  pub tried : List Try
+  pub most : delivered + length (ahead quota n i rest) ≤ waited
+  pub missing : missed ≡ not (eqb (delivered + length (ahead quota n i rest)) waited)
+  pub supplied : Supplied (ahead quota n i rest) (networkOf o)
+  pub end : Sweep → Worked
+  pub kind : Kind once missed going fault left made waited end
+  pub same : whole ≡ end (sweep (sweepOf o delivered fault tried) (ahead quota n i rest))
 
-pub count-range : (o : Network) (n : ℕ) → inShape (networkOf o) ≡ true → n ≡ o .count → (1 ≤ n) × (n ≤ 12)
+-- a network in shape has at most twelve agents
+pub shape-few : (o : Network) → inShape (networkOf o) ≡ true → o .count ≤ 12
 unfolding networkOf problemOf maxAgents
-count-range o n s e = let r = shaped (networkOf o) s .range in rw e (r .low, r .high)
-
--- ---- the start
-
-pub starts : (r : Network) (allowed : ℕ) (bars : List Bars) → Sized r → inShape (networkOf r) ≡ true → allowed ≤ 1000000 → length bars ≡ 12
-    → ((k : ℕ) → 1 ≤ k → k ≤ r .count → BarsAt (r .bans) (r .agents) bars k)
-    → Here (runFrom allowed 0 [] (networkOf r)) r (r .count) (r .domains) (r .bans) bars (r .counts) allowed 0 true false false (r .count) 0 1 0
-unfolding stopping
-starts r allowed bars z s h l b =
-    record {
-      sized = z;
-      shape = s;
-      count = refl;
-      owned = refl;
-      table = refl;
-      beside = l;
-      barred = b;
-      high = omega arith;
-      phase =
-          inl (record {
-            none = refl;
-            empty = refl;
-            last = omega arith;
-            uncounted = refl;
-            between = record { few = omega arith; rounds = []; same = begins allowed 0 [] (networkOf r) };
-          });
-    }
-
--- ---- where the loop is
-
-module _ {whole : Ran′} {o : Network} {n : ℕ} {domains bans : List ℕ} {bars : List Bars} {quota : List ℕ} {left made : ℕ}
-    {missed faulty jammed : Bool} {i rest j q : ℕ}
-    (h : Here whole o n domains bans bars quota left made missed faulty jammed i rest j q) where
-  pub in-round : (q ≡ 0 → rest ≡ 0 → n ≤ i → ⊥) → InRound whole o n quota left made missed faulty jammed i rest j q
-  in-round f = go (h .phase)
-    where
-      go : AtStart whole o n left made missed faulty jammed i rest q ⊎ InRound whole o n quota left made missed faulty jammed i rest j q
-          → InRound whole o n quota left made missed faulty jammed i rest j q
-      go (inl s) = absurd (f (s .none) (s .empty) (s .last))
-      go (inr r) = r
-
-  pub made-few : made ≤ 1000000
-  made-few = go (h .phase)
-    where
-      go : AtStart whole o n left made missed faulty jammed i rest q ⊎ InRound whole o n quota left made missed faulty jammed i rest j q → made ≤ 1000000
-      go (inl s) = omega (arith, s .between .few)
-      go (inr r) = omega (arith, r .few)
+shape-few o s = shaped (networkOf o) s .range .high

@@ -1,50 +1,95 @@
--- The run's loop between two rounds: the run stops with its word, or a round begins. And the run as a whole, with the shape tested first.
+-- The engine's loop between two rounds: the work stops, with its number and its word, or a round begins.
 use Prim.Native.Nat.{ℕ, _+_, _-_, _≤_}
-use mathlib.Core.Bool.{Bool, true, false, not, _||_}
+use mathlib.Core.Bool.{Bool, true, false, not, _&&_, _||_, false≢true}
 use mathlib.Core.Path.{_≡_, refl, sym, ap, _∙_}
-use mathlib.Core.Logic.{_⊎_, inl, inr}
+use mathlib.Core.Logic.{_≢_, _⊎_, inl, inr}
+use mathlib.Core.Option.{Option, none, some}
 use mathlib.Core.List.{List, [], _∷_, _++_}
 use native.Mathlib.Omega.{arith}
 use native.Mathlib.Nat.{add-zero}
 use lib.Dec.{eqb}
 use lib.ListN.{length}
-use borrow.Author.Tests.{eq-eqb, eqb-false}
-use Rattle.base.specs.Finite.{allTo}
-use Rattle.base.proofs.Tests.{or-false-both}
+use borrow.Author.Tests.{eq-eqb, ne-eqb, eqb-false, not-true, not-false}
+use Rattle.base.specs.Finite.{allTo, isSome}
+use Rattle.base.proofs.Tests.{test, or-false-both}
 use Rattle.problem.specs.Problem.{maxAgents}
 use Rattle.agent.specs.declared.Bars.{Bars}
-use Rattle.protocol.specs.Shape.{inShape}
-use Rattle.protocol.specs.Run.{idle, visits, beginRound, Round, Ran as Ran′, Broken as Broken′, faultEnding, endingFor, endingAt, finish, oneIf, runFrom, allowed, run}
+use Rattle.protocol.specs.Network.{Network as Network′}
+use Rattle.protocol.specs.Delivery.{
+  Rejection,
+  BadShape,
+  BadNumbers,
+  VerdictStands,
+  EmptyChannel,
+  AlreadyInformed,
+  NoRoom,
+  rejectionNumber,
+}
+use Rattle.protocol.specs.Run.{
+  Line,
+  idle,
+  visits,
+  Sweep,
+  beginRound,
+  sweep,
+  endingNumber,
+  faultEnding,
+  endingFor,
+  endingAt,
+  finish,
+  oneIf,
+}
 use Rattle.shape_laws.proofs.RunFaults.{visits-supplied}
 use Rattle.network.specs.declared.Network.{Network}
 use Rattle.network.specs.Abstract.{networkOf}
+use Rattle.network_laws.specs.Held.{heldAt, Clean}
+use Rattle.run.specs.Lines.{rows, ahead, NextVisit}
+use Rattle.run.specs.Working.{numberFor, isBroken, brokenBy, endsBy, Worked, stoppedWith, ranAs}
+use Rattle.run.specs.Answers.{endingOf, WorksAs}
 use Rattle.run.specs.declared.Ending.{Ending}
-use Rattle.run.specs.declared.Ending.the-variants.{Broken}
-use Rattle.run.specs.declared.Ran.{Ran}
-use Rattle.run.specs.Abstract.{endingOf, RunsAs}
-use Rattle.delivery.specs.Parts.{heldAt}
-use Rattle.run.specs.Parts.{stopping, endsAs}
-use Rattle.run.proofs.Lines.{rows, ahead, ahead-none, ahead-all}
+use Rattle.run.specs.declared.Answer.{Answer}
+use Rattle.run.specs.declared.lines.Visit.{Visit}
+use Rattle.run.proofs.Endings.{broken-five, not-five}
+use Rattle.run.proofs.Ahead.{ahead-all}
 use Rattle.run.proofs.Visits.{visits-are, idle-is}
-use Rattle.run.proofs.Resuming.{onward, recorded, ends, stops, goes-on}
-use Rattle.run.proofs.Here.{sweepOf, InRound, BetweenRounds, AtStart, Here}
+use Rattle.run.proofs.Resuming.{onward, recorded, further, stops, goes-on}
+use Rattle.run.proofs.Here.{sweepOf, stoppedAs, Kind, single, rounds, Live, Here}
 
-not-broken : (verdict rest faulty jammed : Bool) → endsAs verdict rest faulty jammed ≡ Broken′ → ⊥
-unfolding endsAs stopping endingFor faultEnding
-not-broken true rest faulty jammed e = let z : _≡_ {A = ℕ} 0 1 = cc in omega arith
-not-broken false true faulty jammed e = let z : _≡_ {A = ℕ} 0 1 = cc in omega arith
-not-broken false false true jammed e = let z : _≡_ {A = ℕ} 0 1 = cc in omega arith
-not-broken false false false true e = let z : _≡_ {A = ℕ} 0 1 = cc in omega arith
-not-broken false false false false e = let z : _≡_ {A = ℕ} 0 1 = cc in omega arith
+-- ---- numbers and words
+
+fault-number : (f : Option Rejection) → endingNumber (endingFor f) ≡ 0
+unfolding endingFor faultEnding endingNumber
+fault-number none = refl
+fault-number (some BadShape) = refl
+fault-number (some BadNumbers) = refl
+fault-number (some VerdictStands) = refl
+fault-number (some EmptyChannel) = refl
+fault-number (some AlreadyInformed) = refl
+fault-number (some NoRoom) = refl
+
+ending-number : (w : Network′) (f : Option Rejection) → endingNumber (endingAt w f) ≡ 0
+unfolding endingAt endingNumber
+ending-number w f =
+    test (w .verdict)
+    (λ v. rw (v, endingAt))
+    (λ v. test (idle w) (λ z. rw (v, endingAt, z)) (λ z. rw (v, endingAt, z) (fault-number f)))
+
+mild-ending : (w : Network′) (f : Option Rejection) → brokenBy f ≡ false → endsBy (w .verdict) (idle w) f ≡ endingAt w f
+unfolding endsBy endingAt
+mild-ending w f e = rw (e, endsBy)
+
+broken-ending : (v a b : Bool) (f : Option Rejection) → brokenBy f ≡ true → endsBy v a f ≡ endsBy v b f
+unfolding endsBy
+broken-ending v a b f e = rw (e, endsBy)
+
+not-not : (b : Bool) → not (not b) ≡ b
+not-not true = refl
+not-not false = refl
 
 one-at-most : (b : Bool) → oneIf b ≤ 1
 unfolding oneIf
 one-at-most true = omega arith
 one-at-most false = omega arith
-
-not-not : (b : Bool) → not (not b) ≡ b
-not-not true = refl
-not-not false = refl
 
 -- the rounds made, counted on if nothing was missed
 pub one-more : (made m : ℕ) (missed : Bool) → not missed ≡ true → m ≡ made + 1 → m ≡ made + oneIf (not missed)
@@ -56,114 +101,186 @@ unfolding oneIf
 no-more made m missed t e = rw (t, e) (sym (add-zero made))
 
 -- whether something waits, as the code tests it
-abbrev Waits : Network → ℕ → Bool → Type 0
-Waits o n w = w ≡ not (allTo n (λ i. allTo maxAgents (λ j. eqb (heldAt (o .counts) i j) 0)))
+abbrev pub Waits : Network → ℕ → Bool → Type 0
+Waits o n w = Clean (o .counts) → w ≡ not (allTo n (λ i. allTo maxAgents (λ j. eqb (heldAt (o .counts) i j) 0)))
 
-module _ {whole : Ran′} {o : Network} {n : ℕ} {domains bans : List ℕ} {bars : List Bars} {quota : List ℕ} {left made : ℕ}
-    {missed faulty jammed : Bool} {i rest j q : ℕ}
-    (h : Here whole o n domains bans bars quota left made missed faulty jammed i rest j q) (z : q ≡ 0) (e : rest ≡ 0) (l : n ≤ i) where
-  -- the round is over, and counts if nothing was missed
-  round-over : (m : ℕ) → m ≡ made + oneIf (not missed) → BetweenRounds whole o left m faulty jammed
-  unfolding oneIf
-  round-over m d = go (h .phase)
-    where
-      go : AtStart whole o n left made missed faulty jammed i rest q ⊎ InRound whole o n quota left made missed faulty jammed i rest j q
-          → BetweenRounds whole o left m faulty jammed
-      go (inl s) =
-          let k : m ≡ made = d ∙ ap (λ (b : Bool). made + oneIf (not b)) (s .uncounted) ∙ add-zero made in
-          rw k (s .between)
-      go (inr r) =
-          let none : ahead quota n i rest j q ≡ [] = rw z (ahead-none quota n i rest j e l) in
-          let plain : r .delivered + 0 ≡ r .delivered = omega arith in
-          let miss : missed ≡ not (eqb (r .delivered) (r .waited)) = rw (none, plain) at (r .missing) in
-          let full : m ≡ made + oneIf (eqb (r .delivered) (r .waited)) =
-          d ∙ ap (λ (b : Bool). made + oneIf b) (ap not miss ∙ not-not (eqb (r .delivered) (r .waited))) in
-          let after : List Round = r .rounds ++ (recorded (r .waited) (sweepOf o (r .delivered) faulty jammed (r .tried)) ∷ []) in
-          record {
-            few = omega (arith, one-at-most (eqb (r .delivered) (r .waited)), r .few);
-            rounds = after;
-            same =
-                r .same
-                ∙ ends (r .waited) left made (r .rounds) (sweepOf o (r .delivered) faulty jammed (r .tried)) (ahead quota n i rest j q) none
-                ∙ ap (λ (x : ℕ). onward (stopping faulty jammed) left x after (networkOf o)) (sym full);
-          }
+-- the number that is handed back: a run has none but 5
+abbrev pub Told : Bool → ℕ → ℕ → Type 0
+Told once number told =
+    ((not once && not (eqb number 5) ≡ true) × (told ≡ 0)) ⊎ ((not once && not (eqb number 5) ≡ false) × (told ≡ number))
+
+told-kept : (once : Bool) (number told : ℕ) → Told once number told → (once ≡ false → number ≡ 5) → told ≡ number
+told-kept true number told (inl a) e = absurd (false≢true (a .0))
+told-kept true number told (inr a) e = a .1
+told-kept false number told (inl a) e = absurd (false≢true (rw (eq-eqb number 5 (e refl)) at (a .0)))
+told-kept false number told (inr a) e = a .1
+
+told-none : (once : Bool) (number told : ℕ) → Told once number told → once ≡ false → number ≢ 5 → told ≡ 0
+told-none true number told t e n = absurd (false≢true (sym e))
+told-none false number told (inl a) e n = a .1
+told-none false number told (inr a) e n = absurd (false≢true (sym (rw (ne-eqb number 5 n) at (a .0))))
+
+told-five : (once : Bool) (number told : ℕ) → Told once number told → told ≡ 5 → number ≡ 5
+told-five once number told (inl a) e = absurd (omega (arith, a .1))
+told-five once number told (inr a) e = sym (a .1) ∙ e
+
+module _ {once : Bool} {whole : Worked} {o₀ : Network} {number₀ : ℕ} {o : Network} {n : ℕ} {domains bans : List ℕ} {bars : List Bars} {ready : ℕ} {quota : List ℕ} {missed : Bool}
+    {left made number : ℕ} {going : Bool} {i rest : ℕ}
+    (h : Here once whole o₀ number₀ o n domains bans bars ready quota missed left made number going i rest)
+    (v : Visit) (nv : NextVisit quota n i rest v) (over : v .over ≡ true) where
+  abbrev now : Sweep
+  now = sweepOf o (h .delivered) (h .fault) (h .tried)
+
+  none-ahead : ahead quota n i rest ≡ []
+  none-ahead = nv .over over
+
+  at-end : whole ≡ h .end now
+  unfolding sweep
+  at-end = h .same ∙ ap (λ (x : List Line). h .end (sweep now x)) none-ahead
+
+  full-is : not missed ≡ eqb (h .delivered) (h .waited)
+  full-is =
+      let plain : h .delivered + 0 ≡ h .delivered = omega arith in
+      let e : missed ≡ not (eqb (h .delivered) (h .waited)) = rw (none-ahead, plain) at (h .missing) in
+      ap not e ∙ not-not (eqb (h .delivered) (h .waited))
 
   module _ (m : ℕ) (d : m ≡ made + oneIf (not missed)) (w : Bool) (ew : Waits o n w) where
-    idle-by : not w ≡ idle (networkOf o)
-    idle-by =
-        ap not ew
+    made-is : m ≡ made + oneIf (eqb (h .delivered) (h .waited))
+    made-is = d ∙ ap (λ (b : Bool). made + oneIf b) full-is
+
+    few-made : m ≤ made + 1
+    few-made = omega (arith, d, one-at-most (not missed))
+
+    idle-by : brokenBy (h .fault) ≡ false → not w ≡ idle (networkOf o)
+    idle-by b =
+        let a = h .live b in
+        ap not (ew (a .clean))
         ∙ not-not _
-        ∙ ap (λ (k : ℕ). allTo k (λ i. allTo maxAgents (λ j. eqb (heldAt (o .counts) i j) 0))) (h .count)
-        ∙ sym (idle-is o (h .shape))
+        ∙ ap (λ (k : ℕ). allTo k (λ i. allTo maxAgents (λ j. eqb (heldAt (o .counts) i j) 0))) (a .count)
+        ∙ sym (idle-is o (a .shape) (a .clean))
 
-    -- the test for a stop, by the counts
-    stop-is : networkOf o .verdict || idle (networkOf o) || faulty || jammed || eqb left 0 ≡ o .verdict || not w || faulty || jammed || eqb left 0
+    word-is : (x : Ending) → ((f : Option Rejection) → number ≡ numberFor f → endingOf x ≡ endsBy (o .verdict) (not w) f)
+        → endingOf x ≡ endsBy (o .verdict) (idle (networkOf o)) (h .fault)
+    word-is x s =
+        s (h .fault) (h .numbered)
+        ∙ test (brokenBy (h .fault))
+        (λ b. broken-ending (o .verdict) (not w) (idle (networkOf o)) (h .fault) b)
+        (λ b. ap (λ (z : Bool). endsBy (o .verdict) z (h .fault)) (idle-by b))
+
+    -- the test for a stop, by the definitions
+    stop-is : brokenBy (h .fault) ≡ false
+        → networkOf o .verdict || isSome (h .fault) || idle (networkOf o) || eqb left 0 ≡ not going || not w || eqb left 0
     unfolding networkOf
-    stop-is = ap (λ (b : Bool). o .verdict || b || faulty || jammed || eqb left 0) (sym idle-by)
+    stop-is b =
+        let still : o .verdict || isSome (h .fault) ≡ not going = sym (ap not (h .goes) ∙ not-not _) in
+        rw (still, ← idle-by b)
 
-    pub run-stops : (r : Network) → o .verdict || not w || faulty || jammed || eqb left 0 ≡ true
-        → (x : Ending) → endingOf x ≡ endsAs (o .verdict) (not w) faulty jammed → RunsAs r whole (record { network = o; rounds = m; ending = x })
-    unfolding finish endingAt endsAs networkOf endingOf
-    run-stops r b ending s =
-        let over = round-over m d in
-        let fin = over .same ∙ stops faulty jammed left m (over .rounds) (networkOf o) (stop-is ∙ b) in
-        record {
-          network = sym (ap (λ (x : Ran′). x .network) fin);
-          rounds = sym (ap (λ (x : Ran′). x .made) fin);
-          ending =
-              s ∙ ap (λ (x : Bool). endsAs (o .verdict) x faulty jammed) idle-by ∙ sym (ap (λ (x : Ran′). x .ending) fin);
-          untouched = λ x. absurd (not-broken (o .verdict) (not w) faulty jammed (sym s ∙ ap endingOf x));
-        }
+    module _ (stop : not going || not w || eqb left 0 ≡ true) (x : Ending)
+        (s : (f : Option Rejection) → number ≡ numberFor f → endingOf x ≡ endsBy (o .verdict) (not w) f) (told : ℕ) (t : Told once number told) where
+      pub work-stops : WorksAs whole (record { network = o; rounds = m; number = told; ending = x })
+      unfolding finish networkOf oneIf stoppedWith ranAs
+      work-stops = go (h .kind)
+        where
+          go : Kind once missed going (h .fault) left made (h .waited) (h .end) → WorksAs whole (record { network = o; rounds = m; number = told; ending = x })
+          go (single b y z e k) =
+              let done : whole ≡ stoppedWith (networkOf o) (h .fault) = at-end ∙ k now in
+              record {
+                network = sym (ap (λ (q : Worked). q .network) done);
+                rounds = d ∙ rw (y, e) (sym (ap (λ (q : Worked). q .made) done));
+                number =
+                    told-kept once number told t
+                    (λ f. test (brokenBy (h .fault))
+                    (λ r. h .numbered ∙ broken-five (h .fault) r)
+                    (λ r. absurd (false≢true (sym f ∙ b r))))
+                    ∙ h .numbered
+                    ∙ sym (ap (λ (q : Worked). q .number) done);
+                ending = word-is x s ∙ sym (ap (λ (q : Worked). q .ending) done);
+              }
+          go (rounds b c after k) =
+              let w′ = networkOf o in
+              let done : whole ≡ ranAs (finish w′ m (after now) (h .fault)) =
+              at-end
+              ∙ k now
+              ∙ ap ranAs (ap (λ (q : ℕ). onward (h .fault) left q (after now) w′) (sym made-is) ∙ stops (h .fault) left m (after now) w′ (stop-is c ∙ stop)) in
+              record {
+                network = sym (ap (λ (q : Worked). q .network) done);
+                rounds = sym (ap (λ (q : Worked). q .made) done);
+                number =
+                    told-none once number told t b (λ e. not-five (h .fault) c (sym (h .numbered) ∙ e))
+                    ∙ sym (ending-number w′ (h .fault))
+                    ∙ sym (ap (λ (q : Worked). q .number) done);
+                ending = word-is x s ∙ mild-ending w′ (h .fault) c ∙ sym (ap (λ (q : Worked). q .ending) done);
+              }
 
-    pub round-left : o .verdict || not w || faulty || jammed || eqb left 0 ≡ false → 1 ≤ left
-    round-left b = omega (arith, eqb-false left 0 (or-false-both (o .verdict || not w || faulty || jammed) _ b .1))
+      pub stops-untouched : told ≡ 5 → (o ≡ o₀) × (number₀ ≡ 5)
+      stops-untouched e =
+          test (brokenBy (h .fault))
+          (λ b. h .untouched b)
+          (λ b. absurd (not-five (h .fault) b (sym (h .numbered) ∙ told-five once number told t e)))
 
-    pub round-begins : o .verdict || not w || faulty || jammed || eqb left 0 ≡ false
-        → Here whole o n domains bans bars (o .counts) (left - 1) m false faulty jammed 0 rest j q
-    unfolding beginRound stopping
-    round-begins b =
-        let over = round-over m d in
-        let u = or-false-both (o .verdict || not w || faulty || jammed) _ b in
-        let v = or-false-both (o .verdict || not w || faulty) _ (u .0) in
-        let none-faulty = or-false-both (o .verdict || not w) _ (v .0) .1 in
-        let some-left = round-left b in
-        let all : visits (networkOf o) ≡ ahead (o .counts) n 0 rest j q =
-        visits-are o (h .shape) ∙ ap (λ (k : ℕ). rows (o .counts) k 1) (sym (h .count)) ∙ rw z (ahead-all (o .counts) n rest j e) in
-        let fresh : beginRound (networkOf o) ≡ sweepOf o 0 faulty jammed [] = rw (none-faulty, v .1) in
-        record {
-          sized = h .sized;
-          shape = h .shape;
-          count = h .count;
-          owned = h .owned;
-          table = h .table;
-          beside = h .beside;
-          barred = h .barred;
-          high = omega arith;
-          phase =
-              inr (record {
-                few = omega (arith, over .few);
-                waited = length (visits (networkOf o));
+    module _ (on : not going || not w || eqb left 0 ≡ false) where
+      goes : going ≡ true
+      goes = not-false _ (or-false-both (not going) (not w) (or-false-both (not going || not w) _ on .0) .0)
+
+      no-fault : (f : Option Rejection) → isSome f ≡ false → f ≡ none
+      unfolding isSome
+      no-fault none e = refl
+      no-fault (some r) e = absurd (false≢true (sym e))
+
+      unfaulted : h .fault ≡ none
+      unfaulted = no-fault (h .fault) (or-false-both (o .verdict) (isSome (h .fault)) (not-true _ (sym (h .goes) ∙ goes)) .1)
+
+      mild : brokenBy (h .fault) ≡ false
+      unfolding brokenBy
+      mild = rw unfaulted
+
+      pub round-left : 1 ≤ left
+      round-left = omega (arith, eqb-false left 0 (or-false-both (not going || not w) _ on .1))
+
+      alive : Live o n domains bans bars ready
+      alive = h .live mild
+
+      all : visits (networkOf o) ≡ ahead (o .counts) n 0 (v .rest)
+      all =
+          visits-are o (alive .shape) (alive .clean)
+          ∙ ap (λ (k : ℕ). rows (o .counts) k 1) (sym (alive .count))
+          ∙ ahead-all (o .counts) n (v .rest) (nv .empty over)
+
+      abbrev waiting : ℕ
+      waiting = length (visits (networkOf o))
+
+      pub round-begins : Here once whole o₀ number₀ o n domains bans bars ready (o .counts) false (left - 1) m number going 0 (v .rest)
+      unfolding beginRound brokenBy
+      round-begins = go (h .kind)
+        where
+          go : Kind once missed going (h .fault) left made (h .waited) (h .end)
+              → Here once whole o₀ number₀ o n domains bans bars ready (o .counts) false (left - 1) m number going 0 (v .rest)
+          go (single b y z e k) = absurd (omega (arith, z goes, round-left))
+          go (rounds b c after k) =
+              record {
+                sized = h .sized;
+                agents = h .agents;
+                high = omega arith;
+                few = omega (arith, few-made, h .few, round-left);
+                fault = none;
+                numbered = h .numbered ∙ ap numberFor unfaulted;
+                goes = h .goes ∙ ap (λ (f : Option Rejection). not (o .verdict || isSome f)) unfaulted;
+                live = λ _. alive;
+                untouched = λ r. absurd (false≢true r);
+                quiet = λ r. absurd (false≢true r);
+                waited = waiting;
                 delivered = 0;
-                most = rw (← all) (omega arith);
-                missing = rw (← all, eq-eqb (0 + length (visits (networkOf o))) (length (visits (networkOf o))) (omega arith));
-                supplied = rw (← all) (visits-supplied (networkOf o) (h .shape));
-                rounds = over .rounds;
                 tried = [];
+                most = rw (← all) (omega arith);
+                missing = rw (← all, eq-eqb (0 + waiting) waiting (omega arith));
+                supplied = rw (← all) (visits-supplied (networkOf o) (alive .shape));
+                end = λ t. ranAs (further (left - 1) m waiting (λ u. after now ++ (recorded waiting u ∷ [])) t);
+                kind = rounds b refl (λ u. after now ++ (recorded waiting u ∷ [])) (λ t. refl);
                 same =
-                    over .same
-                    ∙ goes-on faulty jammed left (left - 1) m (over .rounds) (networkOf o) (omega arith) (stop-is ∙ b)
-                    ∙ rw (fresh, all);
-              });
-        }
-
--- ---- the run as a whole
-
-pub run-broken : (k : ℕ) (r : Network) → inShape (networkOf r) ≡ false
-    → RunsAs r (run k (networkOf r)) (record { network = r; rounds = 0; ending = Broken })
-unfolding run endingOf
-run-broken k r s = rw (s, run) (record { network = refl; rounds = refl; ending = refl; untouched = λ e. refl })
-
-pub run-in-shape : (k : ℕ) (r : Network) (a : ℕ) (answer : Ran) → inShape (networkOf r) ≡ true → a ≡ allowed k
-    → RunsAs r (runFrom a 0 [] (networkOf r)) answer → RunsAs r (run k (networkOf r)) answer
-unfolding run
-run-in-shape k r a answer s e h = rw (s, run, ← e) h
+                    at-end
+                    ∙ k now
+                    ∙ ap ranAs
+                    (ap (λ (q : ℕ). onward (h .fault) left q (after now) (networkOf o)) (sym made-is)
+                    ∙ goes-on (h .fault) left (left - 1) m (after now) (networkOf o) (omega (arith, round-left)) (stop-is mild ∙ on)
+                    ∙ ap (λ (ls : List Line). further (left - 1) m waiting (λ u. after now ++ (recorded waiting u ∷ [])) (sweep (beginRound (networkOf o)) ls)) all);
+              }

@@ -1,229 +1,239 @@
--- The run's loop within a round: from one channel to the next, and one delivery tried or passed over.
+-- The engine's loop within a round: a line is passed over, or a delivery is tried on it and rejected or accepted.
 use Prim.Native.Nat.{ℕ, suc, _+_, _-_, _*_, _%_, _≤_, _<_}
-use mathlib.Core.Bool.{Bool, true, false, not, _&&_, _||_}
+use mathlib.Core.Bool.{Bool, true, false, not, _&&_, _||_, false≢true}
 use mathlib.Core.Path.{_≡_, refl, sym, ap, _∙_}
-use mathlib.Core.Logic.{_≢_, inr}
-use mathlib.Core.Option.{some}
+use mathlib.Core.Option.{Option, none, some}
 use mathlib.Core.List.{List, [], _∷_, _++_}
 use native.Mathlib.Omega.{arith}
 use native.Mathlib.Nat.{add-zero}
 use lib.Dec.{eqb}
 use lib.ListN.{length}
-use borrow.Author.Tests.{eq-eqb, ne-eqb}
-use Rattle.base.specs.Finite.{at, within, lowest, isSome}
-use Rattle.base.proofs.Tests.{within-true, both, or-false-both}
-use Rattle.agent_rules.specs.Message.{known, Post as Post′}
-use Rattle.agent_rules.specs.Shape.{maxNamed}
-use Rattle.agent.specs.declared.Bars.{Bars}
+use borrow.Author.Tests.{ne-eqb, not-true, not-false}
+use Rattle.base.specs.Finite.{isSome}
+use Rattle.base.proofs.Tests.{test, or-false-both}
+use Rattle.agent_rules.specs.Message.{Post as Post′}
 use Rattle.packed.specs.Packed.{assignment}
-use Rattle.protocol.specs.Network.{Network as Network′}
-use Rattle.protocol.specs.Delivery.{AlreadyInformed, NoRoom, Answer, Accepted, Rejected, Delivery, rejecting, numbersGood, deliver}
-use Rattle.protocol.specs.Run.{Line, Try, Sweep, stopped, faultOf, counts, tally, attempt, Ran as Ran′, oneIf, isLine}
+use Rattle.agent.specs.declared.Bars.{Bars}
+use Rattle.protocol.specs.Shape.{inShape}
+use Rattle.protocol.specs.Delivery.{
+  Rejection,
+  AlreadyInformed,
+  NoRoom,
+  rejectionNumber,
+  Answer,
+  Accepted,
+  Rejected,
+  Delivery,
+  rejecting,
+  numbersGood,
+  deliver,
+}
+use Rattle.protocol.specs.Run.{Line, Sweep, stopped, faultOf, counts, tally, attempt, sweep}
 use Rattle.shape_laws.proofs.Shape.{attempt-keeps}
-use Rattle.shape_laws.proofs.RunFaults.{triesOn, Supplied, attempt-supplied}
+use Rattle.shape_laws.proofs.RunFaults.{Supplied, supplied-waits, attempt-supplied}
 use Rattle.network.specs.declared.Network.{Network}
-use Rattle.network.specs.Abstract.{isChannel, channelAt, problemOf, networkOf}
+use Rattle.network.specs.Abstract.{isChannel, channelAt, networkOf}
 use Rattle.network.proofs.Numbering.{Ends, ends}
-use Rattle.delivery.specs.Parts.{heldAt}
-use Rattle.run.specs.Parts.{stopping}
-use Rattle.run.specs.Barred.{BarsAt}
-use Rattle.delivery.proofs.Changes.{Sized, wordAt, channel-held, held-is}
-use Rattle.delivery.proofs.Handing.{Found, numbers-line}
-use Rattle.run.proofs.Lines.{line, ahead, ahead-one, ahead-next}
-use Rattle.run.proofs.Going.{Going}
-use Rattle.run.proofs.Resuming.{resume, attempts, passes, tries}
-use Rattle.run.proofs.Here.{sweepOf, InRound, Here, in-round}
+use Rattle.network_laws.specs.Held.{heldAt}
+use Rattle.network_laws.proofs.Changes.{FullArrays, wordAt, channel-held, held-is}
+use Rattle.network_laws.proofs.Handing.{Found, numbers-line}
+use Rattle.run.specs.Lines.{line, ahead, NextVisit}
+use Rattle.run.specs.Working.{numberFor, isBroken, brokenBy, Worked}
+use Rattle.run.specs.declared.lines.Visit.{Visit}
+use Rattle.run.proofs.Resuming.{passes, tries}
+use Rattle.run.proofs.Here.{sweepOf, Kind, single, rounds, Live, Here}
 
--- the code's test that the round is stopped
-stopped-by : (verdict faulty jammed : Bool) → verdict || isSome (stopping faulty jammed) ≡ verdict || faulty || jammed
-unfolding isSome stopping
-stopped-by true faulty jammed = refl
-stopped-by false true jammed = refl
-stopped-by false false true = refl
-stopped-by false false false = refl
+-- one line less ahead: missed, or delivered as well
+fewer : (missed : Bool) (d k waited : ℕ) → d + suc k ≤ waited → true ≡ not (eqb (d + k) waited)
+fewer missed d k waited h = rw (ne-eqb (d + k) waited (λ q. absurd (omega arith)))
 
--- a line that is tried holds a message
-some-waits : (i j : ℕ) (ls : List Line) (w : Network′) → Supplied (line i j ∷ ls) w → 1 ≤ length (w .channel i j)
-unfolding triesOn isLine oneIf
-some-waits i j ls w s =
-    let e : 1 + triesOn i j ls ≤ length (w .channel i j) = rw (eq-eqb i i refl, eq-eqb j j refl) at (s .enough i j) in
-    omega arith
+module _ {once : Bool} {whole : Worked} {o₀ : Network} {number₀ : ℕ} {o : Network} {n : ℕ} {domains bans : List ℕ} {bars : List Bars} {ready : ℕ} {quota : List ℕ} {missed : Bool}
+    {left made number : ℕ} {going : Bool} {i rest : ℕ}
+    (h : Here once whole o₀ number₀ o n domains bans bars ready quota missed left made number going i rest)
+    (v : Visit) (nv : NextVisit quota n i rest v) (found : v .over ≡ false) where
+  abbrev l : Line
+  l = line (v .from) (v .to)
 
--- one line less ahead: delivered as well, or missed
-record Goes (missed m : Bool) (a : ℕ → ℕ) : Type 0 where
-  goes : (d k waited : ℕ) → d + suc k ≤ waited → missed ≡ not (eqb (d + suc k) waited) → (a d + k ≤ waited) × (m ≡ not (eqb (a d + k) waited))
+  abbrev ls : List Line
+  ls = ahead quota n (v .from) (v .rest)
 
-goes-by : (missed : Bool) → Goes missed true (λ d. d)
-goes-by missed = record { goes = λ d k waited h e. (omega arith, rw (ne-eqb (d + k) waited (λ q. absurd (omega arith)))) }
+  first : ahead quota n i rest ≡ l ∷ ls
+  first = nv .some found
 
-goes-on : (missed : Bool) → Goes missed missed (λ d. d + 1)
-goes-on missed =
-    record { goes = λ d k waited h e. let s : d + 1 + k ≡ d + suc k = omega arith in rw s (h, e) }
+  not-broken : brokenBy (h .fault) ≡ false
+  not-broken =
+      test (brokenBy (h .fault))
+      (λ b. let z = ap length (sym first ∙ h .quiet b) in absurd (omega arith))
+      (λ b. b)
 
-module _ {whole : Ran′} {o : Network} {n : ℕ} {domains bans : List ℕ} {bars : List Bars} {quota : List ℕ} {left made : ℕ}
-    {missed faulty jammed : Bool} {i rest j q : ℕ}
-    (h : Here whole o n domains bans bars quota left made missed faulty jammed i rest j q) where
-  -- on to a channel from which the same visits are ahead
-  moves : InRound whole o n quota left made missed faulty jammed i rest j q → (x rest′ y v : ℕ) → x ≤ n
-      → ahead quota n i rest j q ≡ ahead quota n x rest′ y v
-      → Here whole o n domains bans bars quota left made missed faulty jammed x rest′ y v
-  moves r x rest′ y v hx e =
+  alive : Live o n domains bans bars ready
+  alive = h .live not-broken
+
+  supply : Supplied (l ∷ ls) (networkOf o)
+  supply = rw first at (h .supplied)
+
+  least : h .delivered + suc (length ls) ≤ h .waited
+  least = let e = ap length first in omega (arith, h .most)
+
+  abbrev now : Sweep
+  now = sweepOf o (h .delivered) (h .fault) (h .tried)
+
+  same-first : whole ≡ h .end (sweep (attempt now l) ls)
+  unfolding sweep
+  same-first = h .same ∙ ap (λ (x : List Line). h .end (sweep now x)) first
+
+  kind-missed : Kind once missed going (h .fault) left made (h .waited) (h .end) → Kind once true going (h .fault) left made (h .waited) (h .end)
+  kind-missed (single b y z e t) = single b refl z e t
+  kind-missed (rounds b c k t) = rounds b c k t
+
+  -- after a verdict or a rejection the line is passed over
+  pub passes-over : going ≡ false → Here once whole o₀ number₀ o n domains bans bars ready quota true left made number going (v .from) (v .rest)
+  unfolding stopped networkOf
+  passes-over g =
+      let stop : o .verdict || isSome (h .fault) ≡ true = not-false _ (sym (h .goes) ∙ g) in
+      let same = passes now l stop in
       record {
         sized = h .sized;
-        shape = h .shape;
-        count = h .count;
-        owned = h .owned;
-        table = h .table;
-        beside = h .beside;
-        barred = h .barred;
-        high = hx;
-        phase =
-            inr (record {
-              few = r .few;
-              waited = r .waited;
-              delivered = r .delivered;
-              most = rw (← e) (r .most);
-              missing = rw (← e) (r .missing);
-              supplied = rw (← e) (r .supplied);
-              rounds = r .rounds;
-              tried = r .tried;
-              same = r .same ∙ ap (resume (r .waited) left made (r .rounds) (sweepOf o (r .delivered) faulty jammed (r .tried))) e;
-            });
+        agents = h .agents;
+        high = nv .high;
+        few = h .few;
+        fault = h .fault;
+        numbered = h .numbered;
+        goes = h .goes;
+        live = h .live;
+        untouched = h .untouched;
+        quiet = λ b. absurd (false≢true (sym not-broken ∙ b));
+        waited = h .waited;
+        delivered = h .delivered;
+        tried = h .tried;
+        most = omega (arith, least);
+        missing = fewer missed (h .delivered) (length ls) (h .waited) least;
+        supplied = rw (ap (λ (x : Sweep). x .network) same) at (attempt-supplied now l ls (alive .shape) supply);
+        end = h .end;
+        kind = kind-missed (h .kind);
+        same = same-first ∙ ap (λ (x : Sweep). h .end (sweep x ls)) same;
       }
 
-  pub next-receiver : q ≡ 0 → rest ≢ 0 → (to v rest′ : ℕ) → lowest maxNamed 1 (λ k. known (assignment rest k)) ≡ some to
-      → v ≡ assignment rest to → assignment rest′ ≡ at (assignment rest) to 0
-      → Here whole o n domains bans bars quota left made missed faulty jammed i rest′ to v
-  next-receiver z l to v rest′ f e d =
-      moves (in-round h (λ _ k _. l k)) i rest′ to v (h .high) (rw (z, e) (ahead-next quota n i rest j to rest′ f d))
+  pub line-numbers : numbersGood (networkOf o) (v .from) (v .to) ≡ true
+  line-numbers = supply .lines .0
 
-  pub next-sender : i < n → (x rest′ : ℕ) → Going quota n j q i rest x rest′
-      → Here whole o n domains bans bars quota left made missed faulty jammed x rest′ j q
-  next-sender l x rest′ g = moves (in-round h (λ _ _ k. omega arith)) x rest′ j q (g .high) (g .same)
+  pub line-channel : isChannel (v .from) (v .to) ≡ true
+  line-channel = numbers-line (networkOf o) (v .from) (v .to) (alive .shape) line-numbers
 
-  module _ (z : q ≢ 0) where
-    trying : InRound whole o n quota left made missed faulty jammed i rest j q
-    trying = in-round h (λ k _ _. z k)
+  pub line-ends : Ends (v .from) (v .to)
+  line-ends = ends (v .from) (v .to) line-channel
 
-    tried-one : (p : Network) → Sized p → p .count ≡ o .count → p .domains ≡ o .domains → p .bans ≡ o .bans
-        → (bars′ : List Bars) → length bars′ ≡ 12 → ((k : ℕ) → 1 ≤ k → k ≤ n → BarsAt bans (p .agents) bars′ k)
-        → (m : Bool) (a : ℕ → ℕ) → Goes missed m a → (u v : Bool) (t : List Try → List Try)
-        → ((d : ℕ) (tried : List Try) → attempt (sweepOf o d faulty jammed tried) (line i j) ≡ sweepOf p (a d) u v (t tried))
-        → Here whole p n domains bans bars′ quota left made m u v i rest j (q - 1)
-    tried-one p s c w b bars′ lb fb m a g u v t e =
-        let r = trying in
-        let ls = ahead quota n i rest j (q - 1) in
-        let now = sweepOf o (r .delivered) faulty jammed (r .tried) in
-        let here = ahead-one quota n i rest j q (q - 1) (omega arith) in
-        let most : r .delivered + length (line i j ∷ ls) ≤ r .waited = rw here at (r .most) in
-        let missing : missed ≡ not (eqb (r .delivered + length (line i j ∷ ls)) (r .waited)) = rw here at (r .missing) in
-        let next = g .goes (r .delivered) (length ls) (r .waited) most missing in
-        let tried = e (r .delivered) (r .tried) in
+  line-held : 1 ≤ heldAt (o .counts) (v .from) (v .to)
+  line-held = rw (← channel-held o (v .from) (v .to)) (supplied-waits l ls (networkOf o) supply)
+
+  module _ (g : going ≡ true) where
+    running : (o .verdict ≡ false) × (isSome (h .fault) ≡ false)
+    running = or-false-both (o .verdict) (isSome (h .fault)) (not-true _ (sym (h .goes) ∙ g))
+
+    no-fault : (f : Option Rejection) → isSome f ≡ false → f ≡ none
+    unfolding isSome
+    no-fault none e = refl
+    no-fault (some r) e = absurd (false≢true (sym e))
+
+    unfaulted : h .fault ≡ none
+    unfaulted = no-fault (h .fault) (running .1)
+
+    pub here : Live o n domains bans bars ready
+    here = alive
+
+    pub running-still : o .verdict ≡ false
+    running-still = running .0
+
+    -- a delivery is tried, and finds a message
+    pub finds : (c x y : ℕ) → c ≡ channelAt (v .from) (v .to) → x ≡ assignment (wordAt (o .heads) (v .from)) (v .to) → y ≡ 8 * c + (x + 0) % 8
+        → Found o (v .from) (v .to) y
+    finds c x y ec eg ex =
         record {
-          sized = s;
-          shape = rw (ap (λ (x : Sweep). x .network) tried) at (attempt-keeps now (line i j) (h .shape));
-          count = h .count ∙ sym c;
-          owned = h .owned ∙ sym w;
-          table = h .table ∙ sym b;
-          beside = lb;
-          barred = fb;
-          high = h .high;
-          phase =
-              inr (record {
-                few = r .few;
-                waited = r .waited;
-                delivered = a (r .delivered);
-                most = next .0;
-                missing = next .1;
-                supplied = rw (ap (λ (x : Sweep). x .network) tried) at (attempt-supplied now (line i j) ls (h .shape) (rw here at (r .supplied)));
-                rounds = r .rounds;
-                tried = t (r .tried);
-                same =
-                    r .same
-                    ∙ attempts (r .waited) left made (r .rounds) now (line i j) (ahead quota n i rest j q) ls here
-                    ∙ ap (λ (x : Sweep). resume (r .waited) left made (r .rounds) x ls) tried;
-              });
+          sized = h .sized;
+          shape = alive .shape;
+          numbers = line-numbers;
+          running = running .0;
+          waits = λ k. absurd (omega (arith, line-held, held-is (o .counts) (v .from) (v .to) line-channel, k));
+          place = rw (← ec, ← eg) ex;
         }
 
-    -- the line that is tried
-    tried-line : Supplied (line i j ∷ ahead quota n i rest j (q - 1)) (networkOf o)
-    tried-line = rw (ahead-one quota n i rest j q (q - 1) (omega arith)) at (trying .supplied)
-
-    tried-numbers : numbersGood (networkOf o) i j ≡ true
-    tried-numbers = tried-line .lines .0
-
-    pub tried-channel : isChannel i j ≡ true
-    tried-channel = numbers-line (networkOf o) i j (h .shape) tried-numbers
-
-    pub tried-ends : Ends i j
-    tried-ends = ends i j tried-channel
-
-    pub tried-count : j ≤ n
-    unfolding numbersGood networkOf problemOf
-    tried-count =
-        let b = both (within (o .count) i && within (o .count) j) _ tried-numbers in
-        rw (h .count) (within-true (o .count) j (both (within (o .count) i) (within (o .count) j) (b .0) .1) .1)
-
-    tried-held : 1 ≤ heldAt (o .counts) i j
-    tried-held = rw (← channel-held o i j) (some-waits i j (ahead quota n i rest j (q - 1)) (networkOf o) tried-line)
-
-    -- after a stop the line is passed over
-    pub passes-over : o .verdict || faulty || jammed ≡ true
-        → Here whole o n domains bans bars quota left made true faulty jammed i rest j (q - 1)
+    tried-now : (d : Delivery) → deliver (networkOf o) (v .from) (v .to) ≡ d → attempt now l ≡ tally now l d
     unfolding stopped networkOf
-    passes-over b =
-        tried-one o (h .sized) refl refl refl bars (h .beside) (h .barred) true (λ d. d) (goes-by missed) faulty jammed (λ t. t)
-        (λ d tried. passes (sweepOf o d faulty jammed tried) (line i j) (stopped-by (o .verdict) faulty jammed ∙ b))
+    tried-now d e =
+        let still : o .verdict || isSome (h .fault) ≡ false = not-true _ (sym (h .goes) ∙ g) in
+        tries now l still ∙ ap (tally now l) e
 
-    module _ (b : o .verdict || faulty || jammed ≡ false) where
-      no-stop : (o .verdict ≡ false) × (faulty ≡ false) × (jammed ≡ false)
-      no-stop =
-          let c = or-false-both (o .verdict || faulty) jammed b in
-          let d = or-false-both (o .verdict) faulty (c .0) in
-          (d .0, d .1, c .1)
+    -- a delivery with this answer leaves the network p
+    module _ (p : Network) (bars′ : List Bars) (ready′ : ℕ) (m : Bool) (a : Answer) (number′ : ℕ) (going′ : Bool) (d : Delivery)
+        (tried : deliver (networkOf o) (v .from) (v .to) ≡ d) (net : d .network ≡ networkOf p) (ans : d .answer ≡ a)
+        (sized : FullArrays p) (num : number′ ≡ numberFor (faultOf a)) (go : going′ ≡ not (p .verdict || isSome (faultOf a)))
+        (mild : brokenBy (faultOf a) ≡ false) (live : inShape (networkOf p) ≡ true → Live p n domains bans bars′ ready′)
+        (misses : missed ≡ true → m ≡ true)
+        (counted : (m ≡ not (eqb (h .delivered + counts a + length ls) (h .waited))) × (h .delivered + counts a + length ls ≤ h .waited)) where
+      after : attempt now l ≡ sweepOf p (h .delivered + counts a) (faultOf a) (h .tried ++ (record { line = l; answer = a } ∷ []))
+      unfolding tally
+      after = tried-now d tried ∙ rw (net, ans)
 
-      -- a delivery is tried, and finds a message
-      pub finds : (c g x : ℕ) → c ≡ channelAt i j → g ≡ assignment (wordAt (o .heads) i) j → x ≡ 8 * c + (g + 0) % 8 → Found o i j x
-      finds c g x ec eg ex =
+      network-after : attempt now l .network ≡ networkOf p
+      network-after = ap (λ (x : Sweep). x .network) after
+
+      kind-after : Kind once missed going (h .fault) left made (h .waited) (h .end) → Kind once m going′ (faultOf a) left made (h .waited) (h .end)
+      unfolding brokenBy
+      kind-after (single b y z e t) = single (λ _. b (rw unfaulted)) (misses y) (λ _. z g) e t
+      kind-after (rounds b c k t) = rounds b mild k t
+
+      pub tried-one : Here once whole o₀ number₀ p n domains bans bars′ ready′ quota m left made number′ going′ (v .from) (v .rest)
+      tried-one =
           record {
-            sized = h .sized;
-            shape = h .shape;
-            numbers = tried-numbers;
-            running = no-stop .0;
-            waits = λ k. absurd (omega (arith, tried-held, held-is (o .counts) i j tried-channel, k));
-            place = rw (← ec, ← eg) ex;
+            sized = sized;
+            agents = h .agents;
+            high = nv .high;
+            few = h .few;
+            fault = faultOf a;
+            numbered = num;
+            goes = go;
+            live = λ _. live (rw network-after at (attempt-keeps now l (alive .shape)));
+            untouched = λ b. absurd (false≢true (sym mild ∙ b));
+            quiet = λ b. absurd (false≢true (sym mild ∙ b));
+            waited = h .waited;
+            delivered = h .delivered + counts a;
+            tried = h .tried ++ (record { line = l; answer = a } ∷ []);
+            most = counted .1;
+            missing = counted .0;
+            supplied = rw network-after at (attempt-supplied now l ls (alive .shape) supply);
+            end = h .end;
+            kind = kind-after (h .kind);
+            same = same-first ∙ ap (λ (x : Sweep). h .end (sweep x ls)) after;
           }
 
-      tries-it : (d : ℕ) (tried : List Try) (x : Delivery) → deliver (networkOf o) i j ≡ x
-          → attempt (sweepOf o d faulty jammed tried) (line i j) ≡ tally (sweepOf o d faulty jammed tried) (line i j) x
-      unfolding stopped networkOf
-      tries-it d tried x e =
-          tries (sweepOf o d faulty jammed tried) (line i j) (stopped-by (o .verdict) faulty jammed ∙ b)
-          ∙ ap (tally (sweepOf o d faulty jammed tried) (line i j)) e
+    -- rejected, with the places beyond the channels' ends free to have changed
+    module _ (r : Rejection) (mild : isBroken r ≡ false) (p : Network) (bars′ : List Bars) (ready′ : ℕ)
+        (tried : deliver (networkOf o) (v .from) (v .to) ≡ rejecting r (networkOf o)) (net : networkOf p ≡ networkOf o)
+        (sized : FullArrays p) (live : Live p n domains bans bars′ ready′) where
+      pub rejects : Here once whole o₀ number₀ p n domains bans bars′ ready′ quota true left made (rejectionNumber r) false (v .from) (v .rest)
+      unfolding rejecting faultOf numberFor brokenBy counts isSome
+      rejects =
+          tried-one p bars′ ready′ true (Rejected r) (rejectionNumber r) false (rejecting r (networkOf o)) tried (sym net) refl sized refl
+          (let b : p .verdict || true ≡ true = or-true (p .verdict) in rw b) mild (λ _. live) (λ _. refl)
+          (rw (add-zero (h .delivered)) (fewer missed (h .delivered) (length ls) (h .waited) least, omega (arith, least)))
+        where
+          or-true : (b : Bool) → b || true ≡ true
+          or-true true = refl
+          or-true false = refl
 
-      -- the try, noted
-      noted : Answer → List Try → List Try
-      noted a tried = tried ++ (record { line = line i j; answer = a } ∷ [])
-
-      pub meets-asking : deliver (networkOf o) i j ≡ rejecting AlreadyInformed (networkOf o)
-          → Here whole o n domains bans bars quota left made true true jammed i rest j (q - 1)
-      unfolding tally rejecting counts faultOf stopping noted
-      meets-asking e =
-          tried-one o (h .sized) refl refl refl bars (h .beside) (h .barred) true (λ d. d) (goes-by missed) true jammed (noted (Rejected AlreadyInformed))
-          (λ d tried. tries-it d tried (rejecting AlreadyInformed (networkOf o)) e ∙ rw (add-zero d))
-
-      pub meets-jam : deliver (networkOf o) i j ≡ rejecting NoRoom (networkOf o)
-          → Here whole o n domains bans bars quota left made true faulty true i rest j (q - 1)
-      unfolding tally rejecting counts faultOf stopping noted
-      meets-jam e =
-          tried-one o (h .sized) refl refl refl bars (h .beside) (h .barred) true (λ d. d) (goes-by missed) faulty true (noted (Rejected NoRoom))
-          (λ d tried. tries-it d tried (rejecting NoRoom (networkOf o)) e ∙ rw (add-zero d, no-stop .1))
-
-      pub accepts : (p : Network) (posts : List Post′) → Sized p → p .count ≡ o .count → p .domains ≡ o .domains → p .bans ≡ o .bans
-          → (bars′ : List Bars) → length bars′ ≡ 12 → ((k : ℕ) → 1 ≤ k → k ≤ n → BarsAt bans (p .agents) bars′ k)
-          → deliver (networkOf o) i j ≡ record { network = networkOf p; answer = Accepted; sent = posts }
-          → Here whole p n domains bans bars′ quota left made missed faulty jammed i rest j (q - 1)
-      unfolding tally counts faultOf stopping noted
-      accepts p posts s c w d bars′ lb fb e =
-          tried-one p s c w d bars′ lb fb missed (λ k. k + 1) (goes-on missed) faulty jammed (noted Accepted)
-          (λ k tried. tries-it k tried (record { network = networkOf p; answer = Accepted; sent = posts }) e ∙ rw (no-stop .1, no-stop .2))
+    -- accepted
+    module _ (p : Network) (bars′ : List Bars) (ready′ : ℕ) (posts : List Post′) (number′ : ℕ)
+        (tried : deliver (networkOf o) (v .from) (v .to) ≡ record { network = networkOf p; answer = Accepted; sent = posts })
+        (sized : FullArrays p) (same-number : number′ ≡ number) (live : inShape (networkOf p) ≡ true → Live p n domains bans bars′ ready′) where
+      pub accepts : Here once whole o₀ number₀ p n domains bans bars′ ready′ quota missed left made number′ (not (p .verdict)) (v .from) (v .rest)
+      unfolding faultOf numberFor brokenBy counts isSome
+      accepts =
+          tried-one p bars′ ready′ missed Accepted number′ (not (p .verdict)) _ tried refl refl sized
+          (same-number ∙ h .numbered ∙ ap numberFor unfaulted) (or-plain (p .verdict)) refl live (λ y. y)
+          (let e : h .delivered + 1 + length ls ≡ h .delivered + suc (length ls) = omega arith in
+          let q : h .delivered + length (ahead quota n i rest) ≡ h .delivered + 1 + length ls = ap (λ (x : List Line). h .delivered + length x) first ∙ sym e in
+          (rw q at (h .missing), omega (arith, least)))
+        where
+          or-plain : (b : Bool) → not b ≡ not (b || false)
+          or-plain true = refl
+          or-plain false = refl

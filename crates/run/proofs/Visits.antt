@@ -21,11 +21,11 @@ use Rattle.protocol.specs.Run.{isEmpty, idle, visits}
 use Rattle.shape_laws.proofs.ShapeClauses.{MessageShaped, Shaped, shaped}
 use Rattle.base.proofs.Gathers.{gather-same, gather-low}
 use Rattle.network.specs.declared.Network.{Network}
-use Rattle.network.specs.Abstract.{isChannel, problemOf, networkOf}
+use Rattle.network.specs.Abstract.{isChannel, rowOf, problemOf, networkOf}
 use Rattle.network.proofs.Numbering.{ends}
-use Rattle.delivery.specs.Parts.{heldAt}
-use Rattle.delivery.proofs.Changes.{channel-held}
-use Rattle.run.proofs.Lines.{line, cell, row, rows}
+use Rattle.network_laws.specs.Held.{heldAt, Clean}
+use Rattle.network_laws.proofs.Changes.{channel-held}
+use Rattle.run.specs.Lines.{line, cell, row, rows}
 
 -- an agent beyond n listens to nobody
 empty-beyond : (w : Network′) → Shaped w → (i j : ℕ) → 1 ≤ i → i ≤ w .problem .count → w .problem .count < j → j ≤ 12 → w .channel i j ≡ []
@@ -42,7 +42,7 @@ empty-beyond w s i j li hi lj hj =
     none [] h = refl
     none (m ∷ ms) h = absurd (never m (h .0))
 
-module _ (o : Network) (s : inShape (networkOf o) ≡ true) where
+module _ (o : Network) (s : inShape (networkOf o) ≡ true) (clean : Clean (o .counts)) where
   few : o .count ≤ 12
   unfolding networkOf problemOf maxAgents
   few = shaped (networkOf o) s .range .high
@@ -57,10 +57,10 @@ module _ (o : Network) (s : inShape (networkOf o) ≡ true) where
   pub visits-are : visits (networkOf o) ≡ rows (o .counts) (o .count) 1
   unfolding visits networkOf problemOf maxNamed
   visits-are =
-      gather-same (o .count) 1 _ (λ i. row (heldAt (o .counts) i) i) (λ i li hi.
-      gather-same (o .count) 1 _ (cell (heldAt (o .counts) i) i) (λ j lj hj. ap (λ (k : ℕ). replicate k (line i j)) (channel-held o i j))
-      ∙ sym (gather-low (o .count) 16 (cell (heldAt (o .counts) i) i) (omega (arith, few))
-      (λ j lj hj. ap (λ (k : ℕ). replicate k (line i j)) (held-beyond i j li (omega arith) lj))))
+      gather-same (o .count) 1 _ (λ i. row (rowOf (o .counts) i) i) (λ i li hi.
+      gather-same (o .count) 1 _ (cell (rowOf (o .counts) i) i) (λ j lj hj. ap (λ (k : ℕ). replicate k (line i j)) (channel-held o i j ∙ sym (clean i j)))
+      ∙ sym (gather-low (o .count) 16 (cell (rowOf (o .counts) i) i) (omega (arith, few))
+      (λ j lj hj. ap (λ (k : ℕ). replicate k (line i j)) (clean i j ∙ held-beyond i j li (omega arith) lj))))
 
   empty-is : (ms : List Message′) → isEmpty ms ≡ eqb (length ms) 0
   unfolding isEmpty

@@ -1,3 +1,3 @@
-pub mod Abstract
-pub mod Parts
-pub mod Barred
+pub mod Lines
+pub mod Working
+pub mod Answers

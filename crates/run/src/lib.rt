@@ -1,21 +1,16 @@
 // The network (rail) at work: one delivery, and the run.
 ghost use mathlib.Core.Path.{_≡_};
-ghost use mathlib.Core.Bool.{not, _&&_};
-ghost use lib.Dec.{eqb};
-ghost use Rattle.base.specs.Finite.{within};
 ghost use Prim.Native.Nat.{_≤_};
 ghost use Rattle.protocol.specs.Delivery.{deliver as deliverBy};
 ghost use Rattle.protocol.specs.Run.{allowed as allowedBy, run as runBy};
 ghost use Rattle.network.specs.Abstract.{networkOf};
-ghost use Rattle.delivery.specs.Abstract.{Answers};
-ghost use Rattle.run.specs.Abstract.{RunsAs};
+ghost use Rattle.run.specs.Answers.{endingOf, DeliversAs, standing, RunsAs};
 
-mod running;
-mod waiting;
+mod engine;
+mod lines;
+mod tests;
 
-use crate::running::run_in_shape;
-use delivery::Delivered;
-use delivery::deliver_in_shape;
+use crate::engine::work;
 use network::Network;
 
 // How a run ends.
@@ -28,37 +23,30 @@ pub enum Ending {
     Broken,
 }
 
-// What a run hands back: the network, the full rounds made and how it ended.
-pub struct Ran {
+// What a call hands back: the network, the full rounds made, the number of the rejection, 0 for none, and how the network stands.
+pub struct Answer {
     pub network: Network,
     pub rounds: u64,
+    pub number: u8,
     pub ending: Ending,
 }
 
-// The numbers are 1 to n, and different.
-fn numbers_good(n: u8, from: u8, to: u8) -> bool
-    ensures { λ b. ⌜ b ≡ within n from && within n to && not (eqb from to) ⌝ }
+// A delivery tests 5 to 10, in that order. A rejected one hands back the very network given.
+pub fn deliver(r: Network, from: u8, to: u8) -> Answer
+    ensures { λ a. ⌜ DeliversAs r (deliverBy (networkOf r) from to) (a .number) (a .network) ⌝ }
+    ensures { λ a. ⌜ (a .rounds ≡ 0) × (endingOf (a .ending) ≡ standing (deliverBy (networkOf r) from to)) ⌝ }
 {
-    (0 < from) & (from <= n) & ((0 < to) & (to <= n)) & (from != to)
-}
-
-// A delivery tests 5 to 10, in that order.
-pub fn deliver(r: Network, from: u8, to: u8) -> Delivered
-    ensures { λ d. ⌜ Answers r (deliverBy (networkOf r) from to) d ⌝ }
-{
-    if !network::in_shape(r) {
-        return Delivered {
-            number: 5,
+    let a = work(r, true, from, to, 0);
+    if a.number != 0 {
+        let ending = a.ending;
+        return Answer {
             network: r,
+            rounds: a.rounds,
+            number: a.number,
+            ending: ending,
         };
     }
-    if !numbers_good(r.count, from, to) {
-        return Delivered {
-            number: 6,
-            network: r,
-        };
-    }
-    deliver_in_shape(r, from, to)
+    a
 }
 
 // "0 to 1,000,000; more is taken as 1,000,000"
@@ -72,15 +60,8 @@ fn at_most_a_million(rounds: u64) -> u64
 }
 
 // The run tests the shape once, and rejects only with 5.
-pub fn run(r: Network, allowed: u64) -> Ran
-    ensures { λ e. ⌜ RunsAs r (runBy allowed (networkOf r)) e ⌝ }
+pub fn run(r: Network, allowed: u64) -> Answer
+    ensures { λ a. ⌜ RunsAs r (runBy allowed (networkOf r)) a ⌝ }
 {
-    if !network::in_shape(r) {
-        return Ran {
-            network: r,
-            rounds: 0,
-            ending: Ending::Broken,
-        };
-    }
-    run_in_shape(r, at_most_a_million(allowed))
+    work(r, false, 0, 0, at_most_a_million(allowed))
 }

@@ -1,8 +1,11 @@
-pub mod Posts
-pub mod ChooseShape
-pub mod StepShape
 pub mod ShapeClauses
+pub mod Lines
+pub mod Outcome
+pub mod Handing
 pub mod DeliverShape
+pub mod Start
 pub mod StartShape
+pub mod Runs
 pub mod Shape
+pub mod Visits
 pub mod RunFaults

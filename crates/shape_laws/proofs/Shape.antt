@@ -1,29 +1,13 @@
 -- A network in shape stays in shape, forged ones too, whether it is delivered or run: a run is nothing but deliveries.
 use mathlib.Core.Path.{_≡_}
 use mathlib.Core.List.{List, [], _∷_}
-use mathlib.Core.Bool.{true, _||_}
-use Prim.Native.Nat.{ℕ, zero, suc}
-use Rattle.base.specs.Finite.{isSome}
+use mathlib.Core.Bool.{true}
+use Prim.Native.Nat.{ℕ}
 use Rattle.base.proofs.Tests.{test}
 use Rattle.protocol.specs.Network.{Network}
 use Rattle.protocol.specs.Shape.{inShape}
-use Rattle.protocol.specs.Run.{
-  Line,
-  Sweep,
-  beginRound,
-  stopped,
-  tally,
-  attempt,
-  sweep,
-  round,
-  visits,
-  idle,
-  Round,
-  finish,
-  runFrom,
-  allowed,
-  run,
-}
+use Rattle.protocol.specs.Run.{Line, Sweep, beginRound, stopped, tally, attempt, sweep, round, visits, run}
+use Rattle.shape_laws.proofs.Runs.{kept-by-rounds}
 pub use Rattle.shape_laws.proofs.DeliverShape.{deliver-keeps}
 pub use Rattle.shape_laws.proofs.StartShape.{start-in-shape}
 
@@ -41,17 +25,6 @@ pub round-keeps : (w : Network) → inShape w ≡ true → inShape (round w .net
 unfolding round beginRound
 round-keeps w h = sweep-keeps (beginRound w) (visits w) h
 
-run-from-keeps : (left made : ℕ) (rounds : List Round) (w : Network) → inShape w ≡ true → inShape (runFrom left made rounds w .network) ≡ true
-unfolding runFrom finish
-run-from-keeps zero made rounds w h = h
-run-from-keeps (suc left) made rounds w h =
-    test (w .verdict || idle w)
-    (λ e. rw (e, runFrom) h)
-    (λ e. test (isSome (round w .fault))
-    (λ f. rw (e, runFrom, f) (round-keeps w h))
-    (λ f. rw (e, runFrom, f) (run-from-keeps left _ _ (round w .network) (round-keeps w h))))
-
 -- a run keeps the shape
 pub run-keeps : (k : ℕ) (w : Network) → inShape w ≡ true → inShape (run k w .network) ≡ true
-unfolding run
-run-keeps k w h = rw (h, run) (run-from-keeps (allowed k) 0 [] w h)
+run-keeps = kept-by-rounds (λ _ _ w. inShape w ≡ true) (λ _ _ w _ _ h. round-keeps w h)

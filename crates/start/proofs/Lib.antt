@@ -9,4 +9,3 @@ mod Beginning
 mod Opened
 mod Turns
 mod Sheets
-mod Asking

@@ -11,18 +11,18 @@ use borrow.Author.Tests.{eq-eqb, ne-eqb, lt-leb, le-leb, leb-true, leb-false}
 use Rattle.base.specs.Finite.{at, within, allTo}
 use Rattle.base.proofs.Tests.{test, eq-test, to-within, not-within}
 use Rattle.base.proofs.Search.{at-same, at-other}
-use Rattle.problem.specs.Problem.{Problem}
+use Rattle.problem.specs.Problem.{Problem, maxAgents, maxPairs, noBans, emptyProblem}
 use Rattle.agent_rules.specs.Message.{Message, sentTo}
-use Rattle.agent_rules.specs.Agent.{Agent, noAgent}
+use Rattle.agent_rules.specs.Agent.{Agent, unusedAgent}
 use Rattle.protocol.specs.Network.{Network as Network′, emptyNetwork, posted, withStep, begun, startAgent, startChannel, start}
-use Rattle.network.specs.declared.Network.{Network}
-use Rattle.network.specs.Abstract.{isChannel, ring, problemOf, channelOf, networkOf}
+use Rattle.network.specs.Abstract.{problemOf, channelOf, networkOf}
+use Rattle.network.proofs.Zeros.{zeros}
+use Rattle.start.specs.Started.{emptyAgent, emptyRail, railOf}
 use Rattle.start.proofs.Posting.{Silent}
-use Rattle.start.proofs.Rows.{none-counted}
 
 -- the first m agents have begun
 openedAgent : Problem → ℕ → ℕ → Agent
-openedAgent p m i = elim (within m i) [ true ↦ begun p i .agent | false ↦ noAgent ]
+openedAgent p m i = elim (within m i) [ true ↦ begun p i .agent | false ↦ unusedAgent ]
 
 openedChannel : Problem → ℕ → ℕ → ℕ → List Message
 openedChannel p m i j = elim (within m i) [ true ↦ sentTo j (begun p i .sent) | false ↦ [] ]
@@ -41,7 +41,7 @@ unfolding opened openedAgent openedChannel start startAgent startChannel
 all-opened p = refl
 
 -- one that has not
-waits-agent : (p : Problem) (m i : ℕ) → within m i ≡ false → openedAgent p m i ≡ noAgent
+waits-agent : (p : Problem) (m i : ℕ) → within m i ≡ false → openedAgent p m i ≡ unusedAgent
 unfolding openedAgent
 waits-agent p m i e = rw (e, openedAgent)
 
@@ -51,39 +51,27 @@ waits-channel p m i j e = rw (e, openedChannel)
 
 -- ---- nobody has begun
 
--- the empty network with a problem put into it, and heads, which do not count where nothing waits
-abbrev pub withProblem : Network → ℕ → List ℕ → List ℕ → List ℕ → Network
-withProblem o count domains bans heads =
-    record {
-      count = count;
-      domains = domains;
-      bans = bans;
-      verdict = o .verdict;
-      agents = o .agents;
-      heads = heads;
-      counts = o .counts;
-      places = o .places;
-    }
+-- the record of a refused start is the empty network
+pub rail-empty : networkOf emptyRail ≡ emptyNetwork
+unfolding emptyRail emptyAgent
+rail-empty = zeros emptyRail refl refl refl refl refl refl
 
-module _ (p : Problem) (o : Network) (heads : List ℕ) (e : networkOf o ≡ emptyNetwork) where
-  abbrev empty : Network
-  empty = withProblem o (p .count) (p .domains) (p .bans) heads
+pub none-opened : (p : Problem) → networkOf (railOf (p .count) (p .domains) (p .bans)) ≡ opened p 0
+unfolding railOf networkOf channelOf problemOf emptyNetwork opened allTo
+none-opened p = λ k. record {
+  problem = p;
+  verdict = ap (λ (w : Network′). w .verdict) rail-empty k;
+  agents =
+      (ap (λ (w : Network′). w .agents) rail-empty ∙ sym (fun-ext (λ i. waits-agent p 0 i (not-within 0 i (λ l h. omega arith))))) k;
+  channel =
+      (ap (λ (w : Network′). w .channel) rail-empty
+      ∙ sym (fun-ext (λ i. fun-ext (λ j. waits-channel p 0 i j (not-within 0 i (λ l h. omega arith)))))) k;
+}
 
-  none-waits : (i j : ℕ) → networkOf empty .channel i j ≡ []
-  unfolding networkOf channelOf ring emptyNetwork
-  none-waits i j =
-      test (isChannel i j)
-      (λ t. rw (t, networkOf, none-counted o i j t (ap (λ (w : Network′). w .channel i j) e)))
-      (λ t. rw (t, networkOf))
-
-  pub none-opened : networkOf empty ≡ opened p 0
-  unfolding networkOf emptyNetwork problemOf opened allTo
-  none-opened = λ k. record {
-    problem = p;
-    verdict = ap (λ (w : Network′). w .verdict) e k;
-    agents = (ap (λ (w : Network′). w .agents) e ∙ sym (fun-ext (λ i. waits-agent p 0 i (not-within 0 i (λ l h. omega arith))))) k;
-    channel = fun-ext (λ i. fun-ext (λ j. none-waits i j ∙ sym (waits-channel p 0 i j (not-within 0 i (λ l h. omega arith))))) k;
-  }
+-- the start of the empty problem, in which there is nobody
+pub nobody-starts : start emptyProblem ≡ emptyNetwork
+unfolding emptyProblem noBans maxAgents maxPairs railOf emptyRail
+nobody-starts = sym (all-opened emptyProblem) ∙ sym (none-opened emptyProblem) ∙ rail-empty
 
 -- ---- one more
 

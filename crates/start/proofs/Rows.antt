@@ -1,18 +1,14 @@
 -- Rows of digits, and the rings that they count: one row changed, and a ring in other places.
 use mathlib.Core.Path.{_≡_, refl, ap}
 use mathlib.Core.Logic.{_≢_}
-use mathlib.Core.Bool.{true}
-use mathlib.Core.List.{List, []}
-use Prim.Native.Nat.{ℕ, zero, suc, _+_, _*_, _%_, _<_}
-use native.Mathlib.Omega.{arith}
+use mathlib.Core.List.{List}
+use Prim.Native.Nat.{ℕ, zero, suc, _+_, _%_, _<_}
 use lib.ListN.{length, getD, set}
 use lib.Seq.{getD-set-same, getD-set-other}
 use Rattle.base.specs.Finite.{fromOne}
 use Rattle.packed.specs.Packed.{assignment}
 use Rattle.network.specs.declared.Place.{Place}
-use Rattle.network.specs.declared.Network.{Network}
-use Rattle.network.specs.Abstract.{isChannel, channelAt, noPlace, ring, rowOf, channelOf, networkOf}
-use Rattle.network.proofs.Rings.{ring-length}
+use Rattle.network.specs.Abstract.{noPlace, ring, rowOf}
 
 -- ---- rows
 
@@ -32,11 +28,3 @@ pub ring-same : (ps qs : List Place) (base head count : ℕ) → ((h : ℕ) → 
 unfolding ring
 ring-same ps qs base head zero e = refl
 ring-same ps qs base head (suc count) e = rw (e head, ring-same ps qs base (suc head) count e)
-
--- a channel that holds nothing counts nothing
-pub none-counted : (o : Network) (i j : ℕ) → isChannel i j ≡ true → networkOf o .channel i j ≡ [] → rowOf (o .counts) i j ≡ 0
-unfolding networkOf channelOf
-none-counted o i j e q =
-    let h : length (ring (o .places) (8 * channelAt i j) (rowOf (o .heads) i j) (rowOf (o .counts) i j)) ≡ 0 = ap length (rw (e, networkOf) at q) in
-    let l = ring-length (o .places) (8 * channelAt i j) (rowOf (o .heads) i j) (rowOf (o .counts) i j) in
-    omega arith

@@ -11,8 +11,8 @@ use Rattle.base.proofs.Tests.{test, eq-test}
 use Rattle.agent_rules.specs.Message.{Message, Info, sentTo}
 use Rattle.protocol.specs.Network.{posted}
 use Rattle.packed.specs.Packed.{assignment, members}
-use Rattle.agent.specs.Abstract.{newsTo}
-use Rattle.agent.proofs.Posts.{no-members}
+use Rattle.packed.proofs.Sets.{no-members}
+use Rattle.agent.specs.Posting.{newsTo}
 use Rattle.network.specs.declared.Network.{Network}
 use Rattle.network.specs.Abstract.{isChannel, channelAt, ring, channelOf, problemOf, networkOf}
 use Rattle.network.proofs.Numbering.{ends}

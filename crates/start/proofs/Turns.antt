@@ -3,22 +3,22 @@ use mathlib.Core.Path.{_≡_, sym, ap, _∙_}
 use mathlib.Core.Bool.{true, false, false≢true}
 use Prim.Native.Nat.{ℕ, suc, _≤_, _<_}
 use native.Mathlib.Omega.{arith}
-use lib.ListN.{length, replicate, length-set}
+use lib.ListN.{length, replicate, length-set, length-replicate}
 use Rattle.base.proofs.Tests.{test}
 use Rattle.problem.specs.Problem.{Problem}
 use Rattle.protocol.specs.Network.{Network as Network′, begun, withStep}
-use Rattle.agent.specs.declared.Step.{Step}
-use Rattle.agent.specs.Abstract.{newsTo, sentOf, stepOf}
+use Rattle.agent.specs.declared.Agent.{Agent}
+use Rattle.agent.specs.Entries.{BeginsAs}
 use Rattle.packed.specs.Packed.{members}
 use Rattle.network.specs.declared.Network.{Network}
 use Rattle.network.specs.Abstract.{isChannel, channelOf, networkOf}
 use Rattle.network.proofs.Numbering.{to-channel}
-use Rattle.start.proofs.News.{only-news}
-use Rattle.start.proofs.Posting.{withPosts, Silent, withRow}
+use Rattle.start.specs.Started.{emptyAgent, emptyPlace, emptyRail, railOf}
+use Rattle.start.proofs.Posting.{Silent, withRow}
 use Rattle.start.proofs.Telling.{Telling}
 use Rattle.start.proofs.Told.{all-told}
 use Rattle.start.proofs.Beginning.{withAgent, step-put}
-use Rattle.start.proofs.Opened.{opened, silent-next, opened-next}
+use Rattle.start.proofs.Opened.{opened, none-opened, silent-next, opened-next}
 
 pub record Opening (p : Problem) (m : ℕ) (r : Network) : Type 0 where
   pub network : networkOf r ≡ opened p m
@@ -27,39 +27,44 @@ pub record Opening (p : Problem) (m : ℕ) (r : Network) : Type 0 where
   pub counts : length (r .counts) ≡ 12
   pub places : length (r .places) ≡ 1056
 
+-- nobody has begun
+pub none-begun : (p : Problem) (r : Network) → r ≡ railOf (p .count) (p .domains) (p .bans) → Opening p 0 r
+unfolding railOf emptyRail
+none-begun p r e =
+    record {
+      network = ap networkOf e ∙ none-opened p;
+      heads = ap (λ (n : Network). n .heads) e;
+      agents = ap (λ (n : Network). length (n .agents)) e ∙ length-replicate 12 emptyAgent;
+      counts = ap (λ (n : Network). length (n .counts)) e ∙ length-replicate {A = ℕ} 12 0;
+      places = ap (λ (n : Network). length (n .places)) e ∙ length-replicate 1056 emptyPlace;
+    }
+
 -- an agent below is at the other end of a channel
 pub told-channel : (m j : ℕ) → m < 12 → (suc m < j) × (j ≤ 12) → isChannel (suc m) j ≡ true
 told-channel m j h b = to-channel (suc m) j (omega arith) h (omega arith) (b .1) (λ q. omega arith)
 
-module _ (p : Problem) (m : ℕ) (r : Network) (O : Opening p m r) (h : m < 12) (t : Step) (step : stepOf t ≡ begun p (suc m))
-    (links : t .outbox .links ≡ 0) (count : t .outbox .count ≡ 0)
-    (below : (j : ℕ) → 1 ≤ j → j ≤ 16 → members (t .outbox .told) j ≡ true → (suc m < j) × (j ≤ 12)) where
-  -- its record and its verdict put in
+module _ (p : Problem) (m : ℕ) (r : Network) (O : Opening p m r) (h : m < 12) (a : Agent) (step : BeginsAs a (begun p (suc m)))
+    (below : (j : ℕ) → members (a .informs) j ≡ true → (suc m < j) × (j ≤ 12)) where
+  -- its record put in
   abbrev begins : Network
-  begins = withAgent r m (t .agent) (t .verdict)
+  begins = withAgent r m a
 
-  no-others : (j : ℕ) → isChannel (suc m) j ≡ false → 1 ≤ j → j ≤ 12 → members (t .outbox .told) j ≡ false
+  no-others : (j : ℕ) → isChannel (suc m) j ≡ false → 1 ≤ j → j ≤ 12 → members (a .informs) j ≡ false
   no-others j e l u =
-      test (members (t .outbox .told) j)
-      (λ f. absurd (false≢true (sym e ∙ told-channel m j h (below j l (omega arith) f))))
+      test (members (a .informs) j)
+      (λ f. absurd (false≢true (sym e ∙ told-channel m j h (below j f))))
       (λ f. f)
 
   silent : Silent (networkOf begins) (suc m)
   unfolding networkOf channelOf
   silent j = ap (λ (w : Network′). w .channel (suc m) j) (O .network) ∙ silent-next p m j
 
-  sent : newsTo (t .outbox .value) (t .outbox .told) ≡ sentOf (t .outbox)
-  unfolding sentOf
-  sent = sym (only-news (t .outbox .links) (t .outbox .count) (t .outbox .backs) (t .outbox .value) (t .outbox .told) links count)
-
-  module _ (q : Network) (row told : ℕ) (T : Telling (suc m) (t .outbox .value) (t .outbox .told) begins q row told) (done : told ≡ 0) where
+  module _ (q : Network) (row told : ℕ) (T : Telling (suc m) (a .value) (a .informs) begins q row told) (done : told ≡ 0) where
     reached : networkOf (withRow q m row) ≡ opened p (suc m)
     reached =
-        all-told m (t .outbox .value) (t .outbox .told) begins q row told T done no-others (omega (arith, O .counts)) (O .heads) silent
-        ∙ ap (withPosts (networkOf begins) (suc m)) sent
-        ∙ step-put r m t (omega (arith, O .agents))
-        ∙ ap (λ (w : Network′). withStep w (suc m) (stepOf t)) (O .network)
-        ∙ ap (withStep (opened p m) (suc m)) step
+        all-told m (a .value) (a .informs) begins q row told T done no-others (omega (arith, O .counts)) (O .heads) silent
+        ∙ step-put r m a (begun p (suc m)) step (omega (arith, O .agents))
+        ∙ ap (λ (w : Network′). withStep w (suc m) (begun p (suc m))) (O .network)
         ∙ sym (opened-next p m)
 
     pub one-more : Opening p (suc m) (withRow q m row)

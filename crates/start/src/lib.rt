@@ -1,14 +1,13 @@
-// The start: each agent begins, and what it sends waits on its channels. And asking an agent's value.
+// The start: each agent begins, and what it sends waits on its channels.
 ghost use mathlib.Core.Path.{_≡_};
-ghost use mathlib.Core.Bool.{true};
 ghost use Prim.Native.Nat.{_≤_};
-ghost use Rattle.problem.specs.Problem.{Problem as Problem′, linked, inRange};
-ghost use Rattle.protocol.specs.Network.{start, startSheet};
-ghost use Rattle.protocol.specs.Delivery.{answerNumber, askValue};
+ghost use Rattle.problem.specs.Problem.{Problem as Problem′, linked};
+ghost use Rattle.protocol.specs.Network.{startSheet};
 ghost use Rattle.packed.specs.Packed.{members};
-ghost use Rattle.sheet.specs.Abstract.{problemOf};
 ghost use Rattle.network.specs.Abstract.{networkOf};
+ghost use Rattle.start.specs.Started.{railOf, StartsAs};
 use agent::Agent;
+use agent::Lhs;
 use agent::Message;
 use agent::Own;
 use network::Network;
@@ -19,18 +18,11 @@ use network::places::words_before;
 use packed::first;
 use packed::with_digit;
 use packed::without;
-use sheet::Problem;
 
 // Number 0 and the network, or a fault's number, 1 to 4, and the empty network.
 pub struct Started {
     pub number: u8,
     pub network: Network,
-}
-
-// Number 0 and the value, or a rejection's number and 0.
-pub struct Asked {
-    pub number: u8,
-    pub value: u8,
 }
 
 // ---- links
@@ -67,19 +59,46 @@ fn informs(bans: &[u64; 66], i: u8) -> u16
 
 // ---- the start
 
-// Every agent of a problem begins, and what it sends waits, each message alone on its channel.
-fn start_problem(p: Problem) -> Network
-    requires { ⌜ inRange (problemOf p) ≡ true ⌝ }
-    ensures { λ r. ⌜ networkOf r ≡ start (problemOf p) ⌝ }
+// The network of a problem, in which nobody has begun. All else is zero, and every place holds the same message.
+fn rail_of(n: u8, domains: [u8; 12], bans: [u64; 66]) -> Network
+    ensures { λ r. ⌜ r ≡ railOf n domains bans ⌝ }
 {
+    let nobody = Agent {
+        value: 0,
+        stored: 0,
+        listens: 0,
+        informs: 0,
+        view: Lhs { digits: 0 },
+        nogoods: [0; 8],
+    };
+    let agents = [nobody; 12];
+    let place = Place {
+        message: Message::AddLink,
+    };
+    let places = [place; 1056];
+    Network {
+        count: n,
+        domains: domains,
+        bans: bans,
+        verdict: false,
+        agents: agents,
+        heads: [0; 12],
+        counts: [0; 12],
+        places: places,
+    }
+}
+
+// The start for a sheet: every agent of its problem begins, and what it sends waits, each message alone on its channel. A refused sheet has the empty
+// problem, in which nobody begins.
+pub fn start(sheet: &[u8]) -> Started
+    ensures { λ r. ⌜ StartsAs (startSheet (now (sheet .entry))) r ⌝ }
+{
+    let d = sheet::decode(sheet);
+    let p = d.problem;
     let n = p.count;
     let domains = p.domains;
     let bans = p.bans;
-    let mut r = network::empty();
-    r.count = n;
-    r.domains = domains;
-    r.bans = bans;
-    r.heads = [0; 12];
+    let mut r = rail_of(n, domains, bans);
     let mut i: u8 = 0;
     while i < n {
         let at = i as usize;
@@ -88,71 +107,23 @@ fn start_problem(p: Problem) -> Network
             number: i,
             domain: domains[at],
         };
-        let step = Agent::begin(own, listens(&bans, i), informs(&bans, i));
-        let agent = step.agent;
-        let out = step.outbox;
+        let agent = Agent::begin(own, listens(&bans, i), informs(&bans, i));
         r.agents[at] = agent;
-        r.verdict = r.verdict | step.verdict;
+        let value = agent.value;
         let mut row: u64 = 0;
-        let mut told = out.told;
+        let mut told = agent.informs;
         while told != 0 {
             let k = first(told);
             r.places[place_at(channel_at(i, k), 0, 0)] = Place {
-                message: Message::Info(out.value),
+                message: Message::Info(value),
             };
             row = with_digit(row, k, 1);
             told = without(told, k);
         }
         r.counts[at] = row;
     }
-    r
-}
-
-// The start for a sheet.
-pub fn start(sheet: &[u8]) -> Started
-    ensures { λ r. ⌜ (r .number ≡ startSheet (now (sheet .entry)) .number) × (networkOf (r .network) ≡ startSheet (now (sheet .entry)) .network) ⌝ }
-{
-    let d = sheet::decode(sheet);
-    if d.number != 0 {
-        return Started {
-            number: d.number,
-            network: network::empty(),
-        };
-    }
     Started {
-        number: 0,
-        network: start_problem(d.problem),
-    }
-}
-
-// ---- asking a value
-
-// The value of agent i: 0 and no rejection where the verdict left it without one.
-pub fn value(r: Network, i: u8) -> Asked
-    ensures { λ a. ⌜ (a .number ≡ answerNumber (askValue (networkOf r) i .answer)) × (a .value ≡ askValue (networkOf r) i .value) ⌝ }
-{
-    if !network::in_shape(r) {
-        return Asked {
-            number: 5,
-            value: 0,
-        };
-    }
-    if i == 0 {
-        return Asked {
-            number: 6,
-            value: 0,
-        };
-    }
-    if r.count < i {
-        return Asked {
-            number: 6,
-            value: 0,
-        };
-    }
-    let at = i as usize - 1;
-    let a = r.agents[at];
-    Asked {
-        number: 0,
-        value: a.value,
+        number: d.number,
+        network: r,
     }
 }

@@ -11,7 +11,7 @@ use Rattle.agent_rules.specs.Message.{Message}
 use Rattle.protocol.specs.Network.{Network}
 use Rattle.protocol.specs.Run.{Line}
 use Rattle.theorems.specs.Calls.{attemptOf, replay}
-use Rattle.theorems.proofs.Moves.{hit, put, rest}
+use Rattle.shape_laws.proofs.Handing.{hit, put, rest}
 use Rattle.theorems.proofs.Rounds.{Full, Rounds, done, skip, full, skips, cut}
 use Rattle.theorems.proofs.Windows.{
   Act,

@@ -18,8 +18,8 @@ use Rattle.base.proofs.Counting.{misses, misses-most, misses-le, misses-lt}
 use Rattle.problem.specs.Problem.{Problem, domain}
 use Rattle.agent_rules.specs.Message.{Assignment, Message, Info, Back, AddLink}
 use Rattle.agent_rules.specs.Agent.{Agent}
-use Rattle.agent_facts.proofs.Messages.{IsInfo, IsBack, Not, Refuses}
-use Rattle.agent_facts.proofs.Facts.{quietView, Why}
+use Rattle.agent_facts.specs.Messages.{IsInfo, IsBack, Not, Refuses}
+use Rattle.agent_facts.specs.Facts.{quietView, Why}
 use Rattle.protocol.specs.Network.{Network, selfOf, bansOf}
 use Rattle.protocol.specs.Run.{Line}
 use Rattle.theorems.specs.Calls.{attemptOf, replay}
@@ -29,9 +29,10 @@ use Rattle.theorems.proofs.Windows.{
   chose,
   Act,
   receiver,
-  updated,
+  viewThen,
   sentIn,
   Busily,
+  busily,
   Quietly,
   all-sent,
   Turn,
@@ -112,30 +113,30 @@ module _ (p : Problem) (k : ℕ) (σ : Assignment) where
     no-back : chose (A .move) ≡ true → (y : ℕ) → All (Not IsBack) (sentIn A y)
     no-back c y =
         test (leb y k)
-        (λ u. all-but (Refuses (updated A y)) (Not IsBack) (sentIn A y) (All-map _ _ refuses (sentIn A y) (A .move .facts .busy c .sent y))
+        (λ u. all-but (Refuses (viewThen A y)) (Not IsBack) (sentIn A y) (All-map _ _ refuses (sentIn A y) (busily A c y))
         (none-sent p k σ A (e .calm) (e′ .calm) c y (leb-true y k u)))
-        (λ u. All-map _ _ (unheard (leb-false y k u)) (sentIn A y) (A .move .facts .busy c .sent y))
+        (λ u. All-map _ _ (unheard (leb-false y k u)) (sentIn A y) (busily A c y))
       where
-        refuses : (m : Message) → Busily A y m → Refuses (updated A y) m ⊎ Not IsBack m
+        refuses : (m : Message) → Busily A y m → Refuses (viewThen A y) m ⊎ Not IsBack m
         refuses (Info v) h = inr (λ z. z)
-        refuses (Back lhs v) h = inl (h .1 .of-view)
+        refuses (Back lhs v) h = inl (h .0 .1 .of-view)
         refuses AddLink h = inr (λ z. z)
 
         unheard : k < y → (m : Message) → Busily A y m → Not IsBack m
         unheard l (Info v) h = λ z. z
-        unheard l (Back lhs v) h = λ z. omega (arith, q, invariant (A .new) e′ .links .lower b y (rw (A .move .mine) (h .0)) .1)
+        unheard l (Back lhs v) h = λ z. omega (arith, q, invariant (A .new) e′ .links .lower b y (rw (A .move .handing .mine) (h .0 .0)) .1)
         unheard l AddLink h = λ z. z
 
     gains : chose (A .move) ≡ true
         → ((v : ℕ) → isSome (receiver A .nogoods v) ≡ true → isSome (A .move .step .agent .nogoods v) ≡ true)
         × (isSome (A .move .step .agent .nogoods (receiver A .value)) ≡ true)
-    gains c = A .move .facts .busy c .grows (on-back (A .move .message) (A .move .head) (A .move .facts .busy c .why)) (no-back c)
+    gains c = A .move .facts .busy c .grows (on-back (A .move .message) (A .move .handing .head) (A .move .facts .busy c .why)) (no-back c)
 
     loses-none : (v : ℕ) → isSome (receiver A .nogoods v) ≡ true → isSome (A .move .step .agent .nogoods v) ≡ true
     loses-none =
         test (chose (A .move))
         (λ c. gains c .0)
-        (λ c. A .move .facts .quiet c .nogoods (λ x. A .move .facts .quiet c .view x ∙ view-same (A .move .message) (A .move .head) x))
+        (λ c. A .move .facts .quiet c .nogoods (λ x. A .move .facts .quiet c .view x ∙ view-same (A .move .message) (A .move .handing .head) x))
 
   -- ---- each choice leaves it fewer values with no nogood
 
@@ -148,7 +149,7 @@ module _ (p : Problem) (k : ℕ) (σ : Assignment) where
       let G = invariant (A .old) e .good (A .line .to) (A .move .to-in .0) (A .move .to-in .1) in
       let g = gains A e e′ q c in
       let f = bare-lt (domain p (A .line .to)) (receiver A) (A .move .step .agent) (g .0) _ (G .low) (G .high) (G .fresh) (g .1) in
-      rw (q, A .move .mine) f
+      rw (q, A .move .handing .mine) f
 
   left-lasts : (c : ℕ) → Stable p (suc k) E (λ w. left w ≤ c)
   left-lasts c A e e′ h = go (eqb (suc k) (A .line .to)) refl
@@ -160,8 +161,8 @@ module _ (p : Problem) (k : ℕ) (σ : Assignment) where
       go true u =
           let q = eqb-true (suc k) (A .line .to) u in
           let f = bare-le (domain p (A .line .to)) (receiver A) (A .move .step .agent) (loses-none A′ e e′ q) in
-          rw (q, A .move .mine) (omega (arith, f, rw q at h))
-      go false u = rw (A .move .others (suc k) (eqb-false (suc k) (A .line .to) u)) h
+          rw (q, A .move .handing .mine) (omega (arith, f, rw q at h))
+      go false u = rw (A .move .handing .others (suc k) (eqb-false (suc k) (A .line .to) u)) h
 
   -- ---- up to its first choice the window is one of k + 1
 
@@ -236,7 +237,7 @@ module _ (p : Problem) where
   nothing A e y = all-quiet A y Never one
     where
       one : (m : Message) → Quietly A y m → ⊥
-      one (Info v) h = h .2 ((rw (A .move .head) at (e (A .line .from) (A .line .to))) .0)
+      one (Info v) h = h .1 .1 ((rw (A .move .handing .head) at (e (A .line .from) (A .line .to))) .0)
       one (Back lhs v) h = h
       one AddLink h = h
 

@@ -12,14 +12,15 @@ use Rattle.base.proofs.Tests.{test}
 use Rattle.base.proofs.Lists.{All, Any, any-right, any-all}
 use Rattle.problem.specs.Problem.{Problem}
 use Rattle.agent_rules.specs.Message.{Assignment, known, Message, Info, Back, AddLink}
-use Rattle.agent_facts.proofs.Messages.{Not, Refuses}
+use Rattle.agent_facts.specs.Messages.{Not, Refuses}
+use Rattle.agent_facts.proofs.Assignments.{unknown}
 use Rattle.protocol.specs.Network.{Network}
 use Rattle.protocol.specs.Run.{Line}
 use Rattle.theorems.proofs.Moves.{Waits}
 use Rattle.theorems.proofs.Rounds.{Rounds}
-use Rattle.theorems.proofs.Windows.{chose, Act, receiver, updated, sentIn, Busily, Window}
+use Rattle.theorems.proofs.Windows.{chose, Act, receiver, viewThen, sentIn, Busily, busily, Window}
 use Rattle.theorems.proofs.Bounds.{Bound, never-waits, ahead}
-use Rattle.theorems.proofs.Views.{TidyMessage, unknown}
+use Rattle.theorems.proofs.Views.{TidyMessage}
 use Rattle.theorems.proofs.Learn.{Frozen, Learnt, Learner, learn}
 use Rattle.theorems.proofs.Settling.{known-right, Settled, settle}
 
@@ -43,10 +44,10 @@ module _ (p : Problem) (k : ℕ) (σ : Assignment) where
       j = A .line .to
 
       waits : Waits p (A .old .agents) (A .line .from) j (A .move .message)
-      waits = (rw (A .move .head) at (s .frozen .invariant .links .waiting (A .line .from) j)) .0
+      waits = (rw (A .move .handing .head) at (s .frozen .invariant .links .waiting (A .line .from) j)) .0
 
       tidy : TidyMessage k σ (A .move .message)
-      tidy = (rw (A .move .head) at (s .tidy j (A .move .to-in .0) (A .move .to-in .1) (A .line .from))) .0
+      tidy = (rw (A .move .handing .head) at (s .tidy j (A .move .to-in .0) (A .move .to-in .1) (A .line .from))) .0
 
       view : (x : ℕ) → x ≤ k → receiver A .listens x ≡ true → receiver A .view x ≡ σ x
       view x xl l =
@@ -82,7 +83,7 @@ module _ (p : Problem) (k : ℕ) (σ : Assignment) where
 
   -- .. nor is such a Back sent
   pub none-sent : (A : Act p k) → Calm (A .old) → Calm (A .new) → chose (A .move) ≡ true
-      → (x : ℕ) → x ≤ k → Any (Refuses (updated A x)) (sentIn A x) → ⊥
+      → (x : ℕ) → x ≤ k → Any (Refuses (viewThen A x)) (sentIn A x) → ⊥
   none-sent A e e′ c x xl a = go (known-right p k σ A (s .frozen) (s .tidy b l h) (s .clean b l h) x xl)
     where
       b : ℕ
@@ -97,15 +98,15 @@ module _ (p : Problem) (k : ℕ) (σ : Assignment) where
       h : b ≤ p .count
       h = A .move .to-in .1
 
-      unreal : updated A x ≡ 0 → (m : Message) → Refuses (updated A x) m → Busily A x m → ⊥
+      unreal : viewThen A x ≡ 0 → (m : Message) → Refuses (viewThen A x) m → Busily A x m → ⊥
       unreal z (Info u) r q = r
-      unreal z (Back lhs u) r q = unknown (rw (r, z) at (q .1 .real))
+      unreal z (Back lhs u) r q = unknown (rw (r, z) at (q .0 .1 .real))
       unreal z AddLink r q = r
 
-      go : (updated A x ≡ 0) ⊎ (updated A x ≡ σ x) → ⊥
-      go (inl z) = any-all (Refuses (updated A x)) (Busily A x) (unreal z) (sentIn A x) a (A .move .facts .busy c .sent x)
+      go : (viewThen A x ≡ 0) ⊎ (viewThen A x ≡ σ x) → ⊥
+      go (inl z) = any-all (Refuses (viewThen A x)) (Busily A x) (unreal z) (sentIn A x) a (busily A c x)
       go (inr z) =
-          let n : Any (Refuses (σ x)) (A .new .channel b x) = rw (A .move .sent x) (any-right _ (A .old .channel b x) _ (rw z at a)) in
+          let n : Any (Refuses (σ x)) (A .new .channel b x) = rw (A .move .handing .sent x) (any-right _ (A .old .channel b x) _ (rw z at a)) in
           any-all (Refuses (σ x)) (Not (Refuses (σ x))) (λ m r n. n r) (A .new .channel b x) n (e′ .unrefused x xl b)
 
   -- ---- the next agent follows

@@ -12,16 +12,17 @@ use Rattle.base.proofs.Tests.{test}
 use Rattle.base.proofs.Lists.{All, All-map, Any, any-all}
 use Rattle.problem.specs.Problem.{Problem}
 use Rattle.agent_rules.specs.Message.{Assignment, Message, Info, Back, AddLink}
-use Rattle.agent_facts.proofs.Messages.{IsAddLink, Refuses, afterOne, seen}
+use Rattle.agent_facts.specs.Messages.{IsAddLink, Refuses, afterOne, seen}
 use Rattle.protocol.specs.Network.{Network}
 use Rattle.protocol.specs.Run.{Line, isLine}
 use Rattle.theorems.specs.Calls.{replay}
-use Rattle.theorems.proofs.Moves.{hit, put, rest, Waits, Linked, Invariant}
+use Rattle.shape_laws.proofs.Handing.{hit, put, rest}
+use Rattle.theorems.proofs.Moves.{Waits, Linked, Invariant}
 use Rattle.theorems.proofs.Rounds.{Full}
 use Rattle.theorems.proofs.Windows.{
   chose,
   Act,
-  updated,
+  viewThen,
   sentIn,
   Busily,
   Quietly,
@@ -83,7 +84,7 @@ pub record Learner (p : Problem) (k : ℕ) (σ : Assignment) (E : Network → Ty
   pub tidy : (w : Network) → E w → Tidy k σ b w
   -- doubt comes only from a Back to x that refuses what b knew: as b sends it, and while it waits
   pub sending : (A : Act p k) → E (A .old) → E (A .new) → b ≡ A .line .to → chose (A .move) ≡ true
-      → (x : ℕ) → x ≤ k → Any (Refuses (updated A x)) (sentIn A x) → Doubt
+      → (x : ℕ) → x ≤ k → Any (Refuses (viewThen A x)) (sentIn A x) → Doubt
   pub waiting : (w : Network) → E w → (x : ℕ) → x ≤ k → All (Late k b) (w .channel b x) → Any (Refuses (σ x)) (w .channel b x) → Doubt
 
 module _ (p : Problem) (k : ℕ) (σ : Assignment) (E : Network → Type 0) (b : ℕ) (Doubt : Type 0) (L : Learner p k σ E b Doubt) where
@@ -105,7 +106,7 @@ module _ (p : Problem) (k : ℕ) (σ : Assignment) (E : Network → Type 0) (b :
           test (leb b k)
           (λ u. absurd (false≢true (sym (A .still (omega (arith, q, leb-true b k u))) ∙ c)))
           (λ u. leb-false b k u)
-      busy c AddLink h = absurd (false≢true (sym (h .1) ∙ rw q at l))
+      busy c AddLink h = absurd (false≢true (sym (h .1 .1) ∙ rw q at l))
 
       quiet : (m : Message) → Quietly A x m → Late k b m
       quiet (Info v) h = tt
@@ -128,11 +129,11 @@ module _ (p : Problem) (k : ℕ) (σ : Assignment) (E : Network → Type 0) (b :
       go true u =
           let q = eqb-true b (A .line .to) u in
           let v = heard-before p k A x (rw q at l) in
-          rw (q, A .move .mine) (
+          rw (q, A .move .handing .mine) (
             ⊎-elim (λ z. inl z) (λ z. inr (z .0, L .sending A e e′ q (z .1) x xl (z .2))) v,
-            A .move .facts .keeps x (rw q at l),
+            A .move .handing .links .keeps x (rw q at l),
           )
-      go false u = rw (u, and-false, A .move .others b (eqb-false b (A .line .to) u)) (inl refl, l)
+      go false u = rw (u, and-false, A .move .handing .others b (eqb-false b (A .line .to) u)) (inl refl, l)
 
   joined : (A : Act p k) → E (A .old) → E (A .new) → (x : ℕ) → x ≤ k → A .old .agents b .listens x ≡ false
       → A .new .agents b .listens x ≡ true → Knows Doubt σ x (A .new .agents b .view x)
@@ -141,10 +142,10 @@ module _ (p : Problem) (k : ℕ) (σ : Assignment) (E : Network → Type 0) (b :
       go : (t : Bool) → eqb b (A .line .to) ≡ t → Knows Doubt σ x (A .new .agents b .view x)
       go true u =
           let q = eqb-true b (A .line .to) u in
-          let t = (rw (A .move .head) at (rw q at (L .tidy (A .old) e (A .line .from)))) .0 in
-          let v = heard-new p k A x σ xl t (rw q at l) (rw (q, A .move .mine) at l′) in
-          rw (q, A .move .mine) (⊎-elim (λ z. inl z) (λ z. inr (z .0, L .sending A e e′ q (z .1) x xl (z .2))) v)
-      go false u = absurd (false≢true (sym l ∙ rw (A .move .others b (eqb-false b (A .line .to) u)) at l′))
+          let t = (rw (A .move .handing .head) at (rw q at (L .tidy (A .old) e (A .line .from)))) .0 in
+          let v = heard-new p k A x σ xl t (rw q at l) (rw (q, A .move .handing .mine) at l′) in
+          rw (q, A .move .handing .mine) (⊎-elim (λ z. inl z) (λ z. inr (z .0, L .sending A e e′ q (z .1) x xl (z .2))) v)
+      go false u = absurd (false≢true (sym l ∙ rw (A .move .handing .others b (eqb-false b (A .line .to) u)) at l′))
 
   -- once n more messages of x are in, b is up to date of it
   abbrev Hears : ℕ → ℕ → Network → Type 0
@@ -185,8 +186,8 @@ module _ (p : Problem) (k : ℕ) (σ : Assignment) (E : Network → Type 0) (b :
           (λ l. joined A e e′ x xl l l′)
 
   -- not listened to: no Info of x waits
-  unheard : (w : Network) → E w → (x : ℕ) → w .agents b .listens x ≡ false → Learnt Doubt σ b x w
-  unheard w e x l =
+  not-heard : (w : Network) → E w → (x : ℕ) → w .agents b .listens x ≡ false → Learnt Doubt σ b x w
+  not-heard w e x l =
       (All-map _ _ none (w .channel x b) (L .frozen w e .invariant .links .waiting x b), λ q. absurd (false≢true (sym l ∙ q)))
     where
       none : (m : Message) → Waits p (w .agents) x b m → Carries (σ x) m
@@ -196,24 +197,24 @@ module _ (p : Problem) (k : ℕ) (σ : Assignment) (E : Network → Type 0) (b :
 
   -- ---- the first round
 
-  abbrev Asked : ℕ → Network → Type 0
-  Asked x w = (w .agents b .listens x ≡ true) × All (Late k b) (w .channel b x)
+  abbrev Enrolled : ℕ → Network → Type 0
+  Enrolled x w = (w .agents b .listens x ≡ true) × All (Late k b) (w .channel b x)
 
-  asked-lasts : (x : ℕ) → x ≤ k → Stable p k E (Asked x)
-  asked-lasts x xl A e e′ (l, h) = (heard A e e′ x xl l .1, all-last A b x (Late k b) (λ q. late A q x l) h)
+  enrolled-lasts : (x : ℕ) → x ≤ k → Stable p k E (Enrolled x)
+  enrolled-lasts x xl A e e′ (l, h) = (heard A e e′ x xl l .1, all-last A b x (Late k b) (λ q. late A q x l) h)
 
   abbrev Halfway : Network → Type 0
-  Halfway w = (x : ℕ) → x ≤ k → Learnt Doubt σ b x w ⊎ Asked x w
+  Halfway w = (x : ℕ) → x ≤ k → Learnt Doubt σ b x w ⊎ Enrolled x w
 
   halfway-lasts : Stable p k E Halfway
   halfway-lasts A e e′ h x xl =
-      ⊎-elim (λ q. inl (learnt-lasts x xl A e e′ q)) (λ q. inr (asked-lasts x xl A e e′ q)) (h x xl)
+      ⊎-elim (λ q. inl (learnt-lasts x xl A e e′ q)) (λ q. inr (enrolled-lasts x xl A e e′ q)) (h x xl)
 
   halfway : (a : List Line) (w : Network) → Window p k E a w → Full a w → Halfway (replay a w)
   halfway a w P F x xl =
       test (w .agents b .listens x)
-      (λ l. inr (asked l))
-      (λ l. inl (lasts p k E (Learnt Doubt σ b x) (learnt-lasts x xl) a w P (unheard w (first p k E a w P) x l)))
+      (λ l. inr (enrolled l))
+      (λ l. inl (lasts p k E (Learnt Doubt σ b x) (learnt-lasts x xl) a w P (not-heard w (first p k E a w P) x l)))
     where
       Listens : Network → Type 0
       Listens w = w .agents b .listens x ≡ true
@@ -221,8 +222,8 @@ module _ (p : Problem) (k : ℕ) (σ : Assignment) (E : Network → Type 0) (b :
       E′ : Network → Type 0
       E′ w = E w × Listens w
 
-      asked : Listens w → Asked x (replay a w)
-      asked l =
+      enrolled : Listens w → Enrolled x (replay a w)
+      enrolled l =
           let P′ = along p k E Listens E′ (λ A e e′ l. heard A e e′ x xl l .1) (λ w e l. (e, l)) a w P l in
           (last p k E′ a w P′ .1, leave p k E′ b x (Late k b) (λ A e q. late A q x (e .1)) a w P′ F)
 
@@ -232,7 +233,7 @@ module _ (p : Problem) (k : ℕ) (σ : Assignment) (E : Network → Type 0) (b :
   Learns w = (x : ℕ) → x ≤ k → Learnt Doubt σ b x w
 
   -- the Infos that wait bring the view up to date
-  informed : (w : Network) → E w → (x : ℕ) → x ≤ k → Asked x w → Knows Doubt σ x (seen (w .agents b .view x) (w .channel x b))
+  informed : (w : Network) → E w → (x : ℕ) → x ≤ k → Enrolled x w → Knows Doubt σ x (seen (w .agents b .view x) (w .channel x b))
   informed w e x xl (l, h) = go (L .frozen w e .invariant .links .pair x b l)
     where
       not-asking : (m : Message) → IsAddLink m → Late k b m → ⊥
@@ -252,7 +253,7 @@ module _ (p : Problem) (k : ℕ) (σ : Assignment) (E : Network → Type 0) (b :
   learns : (a : List Line) (w : Network) → Window p k E₁ a w → Full a w → Learns (replay a w)
   learns a w P F x xl = go (first p k E₁ a w P .1 x xl)
     where
-      go : Learnt Doubt σ b x w ⊎ Asked x w → Learnt Doubt σ b x (replay a w)
+      go : Learnt Doubt σ b x w ⊎ Enrolled x w → Learnt Doubt σ b x (replay a w)
       go (inl q) = lasts p k E₁ (Learnt Doubt σ b x) (λ A e e′. learnt-lasts x xl A (e .0) (e′ .0)) a w P q
       go (inr q) =
           let f = feeds-all (Knows Doubt σ x) (σ x) (inl refl) _ (w .channel x b) (informed w (first p k E₁ a w P .0) x xl q) in

@@ -1,10 +1,9 @@
 pub mod Moves
-pub mod Outcome
+pub mod Shut
 pub mod Setting
-pub mod Channels
+pub mod Steps
 pub mod Pairs
 pub mod Keeps
-pub mod Handed
 pub mod Next
 pub mod Start
 pub mod Reached
@@ -21,7 +20,7 @@ pub mod Following
 pub mod Counting
 pub mod RoundBound
 pub mod Waiting
-pub mod Running
+pub mod Swept
 pub mod Replay
 pub mod Visits
 pub mod Markings

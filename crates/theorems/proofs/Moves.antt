@@ -1,39 +1,29 @@
 -- One accepted delivery with no verdict, as the network level sees it (`Move`), and the invariant of reached networks (`Invariant`).
 use mathlib.Core.Path.{_≡_}
-use mathlib.Core.Logic.{_≢_, _⊎_}
-use mathlib.Core.List.{List, _∷_, _++_}
+use mathlib.Core.Logic.{_⊎_}
+use mathlib.Core.List.{List}
 use mathlib.Core.Bool.{Bool, true, false}
 use Prim.Native.Nat.{ℕ, _≤_, _<_}
 use Rattle.base.proofs.Lists.{All, Any}
 use Rattle.problem.specs.Problem.{Problem, linked, Obeys}
-use Rattle.agent_rules.specs.Message.{Assignment, known, Message, Info, Back, AddLink, sentTo}
+use Rattle.agent_rules.specs.Message.{Assignment, known, Message, Info, Back, AddLink}
 use Rattle.agent_rules.specs.Agent.{Agent, Step}
-use Rattle.agent_facts.proofs.Messages.{IsAddLink, Refuses, seen}
-use Rattle.agent_facts.proofs.Facts.{Excludes, Good, Facts}
+use Rattle.agent_facts.specs.Messages.{IsAddLink, Refuses, seen}
+use Rattle.agent_facts.specs.Facts.{Excludes, Good, Facts}
 use Rattle.protocol.specs.Network.{Network, selfOf, bansOf}
 use Rattle.protocol.specs.Delivery.{Accepted, Delivery}
-use Rattle.protocol.specs.Run.{Line, isLine}
+use Rattle.protocol.specs.Run.{Line}
+use Rattle.shape_laws.proofs.Handing.{Handing}
 
 -- ---- a move
 
 pub record Move (p : Problem) (d : Line) (w w′ : Network) : Type 0 where
   pub message : Message
   pub step : Step
+  pub handing : Handing d message step w w′
   pub facts : Facts (Obeys p) (selfOf p (d .to)) (bansOf p (d .to)) (w .agents (d .to)) (d .from) message step
-  pub head : w .channel (d .from) (d .to) ≡ message ∷ w′ .channel (d .from) (d .to)
-  pub mine : w′ .agents (d .to) ≡ step .agent
-  pub others : (y : ℕ) → y ≢ d .to → w′ .agents y ≡ w .agents y
-  pub sent : (y : ℕ) → w′ .channel (d .to) y ≡ w .channel (d .to) y ++ sentTo y (step .sent)
-  pub same : (x y : ℕ) → x ≢ d .to → isLine x y d ≡ false → w′ .channel x y ≡ w .channel x y
   pub from-in : (1 ≤ d .from) × (d .from ≤ p .count)
   pub to-in : (1 ≤ d .to) × (d .to ≤ p .count)
-  pub apart : d .from ≢ d .to
-
--- what a move does to the channel from x to y
-pub data OnChannel (p : Problem) (d : Line) (w w′ : Network) (M : Move p d w w′) (x y : ℕ) : Type 0 where
-  hit : isLine x y d ≡ true → x ≡ d .from → y ≡ d .to → w .channel x y ≡ M .message ∷ w′ .channel x y → OnChannel p d w w′ M x y
-  put : isLine x y d ≡ false → x ≡ d .to → w′ .channel x y ≡ w .channel x y ++ sentTo y (M .step .sent) → OnChannel p d w w′ M x y
-  rest : isLine x y d ≡ false → x ≢ d .to → w′ .channel x y ≡ w .channel x y → OnChannel p d w w′ M x y
 
 -- ---- the invariant
 

@@ -1,24 +1,22 @@
 -- From a network with the invariant a tried delivery leaves it as it is, or is a move to a network with the invariant, or ends in a verdict where
 -- no assignment obeys all bans.
-use mathlib.Core.Path.{_≡_, refl, sym, ap, _∙_, subst}
+use mathlib.Core.Path.{_≡_, refl, ap, subst}
 use mathlib.Core.List.{List, _∷_}
 use mathlib.Core.Bool.{true, false, or-true, or-false, false≢true}
 use Prim.Native.Nat.{ℕ}
 use Rattle.base.proofs.Tests.{test}
-use Rattle.base.proofs.Search.{at-same, at-other}
 use Rattle.problem.specs.Problem.{Problem, inRange, Obeys}
 use Rattle.agent_rules.specs.Message.{Assignment, Message, Info, Back, AddLink}
 use Rattle.agent_rules.specs.Agent.{Agent}
-use Rattle.agent_facts.proofs.Facts.{Handed}
+use Rattle.agent_facts.specs.Facts.{Handed}
 use Rattle.protocol.specs.Network.{Network, selfOf, bansOf, withStep, withChannel, stepOn, handed}
 use Rattle.protocol.specs.Delivery.{Accepted, isAccepted, rejecting, numbersGood, deliver}
 use Rattle.protocol.specs.Run.{Line}
 use Rattle.theorems.specs.Calls.{attemptOf}
-use Rattle.agent_facts.proofs.Agent.{receive-facts, receive-ends}
+use Rattle.agent_facts.proofs.Agent.{agent-facts}
 use Rattle.theorems.proofs.Moves.{Move, Waits, Invariant, Next, stays, moves, stops}
-use Rattle.theorems.proofs.Outcome.{Outcome, refused, accepted, outcome, numbers}
-use Rattle.theorems.proofs.Handed.{handed-head, handed-sent, handed-same}
-use Rattle.theorems.proofs.Channels.{is-line}
+use Rattle.shape_laws.proofs.Outcome.{Outcome, refused, accepted, outcome, numbers}
+use Rattle.shape_laws.proofs.Handing.{handing}
 use Rattle.theorems.proofs.Setting.{setting}
 use Rattle.theorems.proofs.Keeps.{keeps}
 
@@ -43,29 +41,24 @@ module _ (d : Line) (w : Network) (r : inRange (w .problem) ≡ true) (I : Invar
   given = to-handed (w .problem) (w .agents) i j m ((rw l at (I .links .waiting i j)) .0)
 
   to-move : stepOn w i j m .verdict ≡ false → Move (w .problem) d w (handed w i j m ms)
-  unfolding stepOn handed withStep withChannel
+  unfolding stepOn
   to-move v =
       let (li, hi, lj, hj, ne) = numbers w i j g in
       record {
         message = m;
         step = stepOn w i j m;
-        facts = receive-facts (Obeys (w .problem)) (selfOf (w .problem) j) (bansOf (w .problem) j) (w .agents j) i m
+        handing = handing d w m ms ne l;
+        facts = agent-facts .runs (Obeys (w .problem)) (selfOf (w .problem) j) (bansOf (w .problem) j) (w .agents j) i m
             (setting (w .problem) r j lj hj) given (I .good j lj hj) v;
-        head = rw (handed-head w i j m ms ne) l;
-        mine = at-same (w .agents) j (stepOn w i j m .agent);
-        others = at-other (w .agents) j (stepOn w i j m .agent);
-        sent = handed-sent w i j m ms ne;
-        same = λ x y nx h. handed-same w i j m ms x y nx (λ ex ey. false≢true (sym h ∙ is-line x y d ex ey));
         from-in = (li, hi);
         to-in = (lj, hj);
-        apart = ne;
       }
 
   no-solution : stepOn w i j m .verdict ≡ true → (σ : Assignment) → Obeys (w .problem) σ → ⊥
   unfolding stepOn
   no-solution v =
       let (li, hi, lj, hj, ne) = numbers w i j g in
-      receive-ends (Obeys (w .problem)) (selfOf (w .problem) j) (bansOf (w .problem) j) (w .agents j) i m
+      agent-facts .ends (Obeys (w .problem)) (selfOf (w .problem) j) (bansOf (w .problem) j) (w .agents j) i m
       (setting (w .problem) r j lj hj) given (I .good j lj hj) v
 
   delivers : Next (w .problem) d w (record { network = handed w i j m ms; answer = Accepted; sent = stepOn w i j m .sent })
@@ -83,5 +76,5 @@ next p r d w I =
   where
     go : inRange (w .problem) ≡ true → Invariant (w .problem) w → Outcome w (d .from) (d .to) (deliver w (d .from) (d .to))
         → Next (w .problem) d w (deliver w (d .from) (d .to))
-    go r I (refused x e) = stays (rw e refl) (λ q. false≢true (ap isAccepted (rw e at q)))
-    go r I (accepted v g m ms l e) = rw e (delivers d w r I m ms l g)
+    go r I (refused x _ e) = stays (rw e refl) (λ q. false≢true (ap isAccepted (rw e at q)))
+    go r I (accepted m ms T e) = rw e (delivers d w r I m ms (T .head) (T .numbers))

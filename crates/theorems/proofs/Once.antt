@@ -1,56 +1,58 @@
 -- A link is asked for once: no request waits from an agent already informed, nor two on one channel. A request is sent only where the sender
--- begins to listen, and its channel holds none before that, since the sender of a request that waits listens already.
+-- begins to listen, and its channel holds none before that, since the sender of a request that waits listens already. With a verdict or without.
 use mathlib.Core.Path.{_≡_, sym, _∙_}
 use mathlib.Core.Logic.{_⊎_, inl, inr, ⊎-elim}
-use mathlib.Core.List.{List, [], _++_}
+use mathlib.Core.List.{List, [], _∷_, _++_}
 use mathlib.Core.Bool.{Bool, true, false, false≢true}
 use Prim.Native.Nat.{ℕ}
 use Rattle.base.proofs.Tests.{test}
 use Rattle.base.proofs.Lists.{All, All-append, All-map}
-use Rattle.problem.specs.Problem.{Problem, inRange, Obeys}
-use Rattle.agent_rules.specs.Message.{Assignment, Message, Info, Back, AddLink, sentTo}
+use Rattle.problem.specs.Problem.{Problem, linked}
+use Rattle.problem.proofs.Range.{Ranged}
+use Rattle.agent_rules.specs.Message.{Message, Info, Back, AddLink, sentTo}
 use Rattle.agent_rules.specs.Agent.{Agent, Step}
-use Rattle.agent_facts.proofs.Messages.{IsAddLink, Not, Tells, OneLink, one-put, one-new, one-tail}
-use Rattle.agent_facts.proofs.Facts.{Sends}
+use Rattle.agent_facts.specs.Messages.{IsAddLink, Not, OneLink}
+use Rattle.agent_facts.specs.Facts.{Requests, Asks}
+use Rattle.agent_facts.proofs.Messages.{one-put, one-new, one-tail}
 use Rattle.protocol.specs.Network.{Network, start}
+use Rattle.protocol.specs.Delivery.{rejecting, deliver}
 use Rattle.protocol.specs.Run.{Line}
-use Rattle.theorems.specs.Calls.{replay}
-use Rattle.theorems.proofs.Moves.{Move, OnChannel, hit, put, rest, Waits, Invariant}
-use Rattle.theorems.proofs.Channels.{OnAgent, mine, other, on-agent, on-channel, is-line, Turn, turn, quiet-tells}
-use Rattle.theorems.proofs.Start.{no-requests}
-use Rattle.theorems.proofs.Reached.{reach}
+use Rattle.shape_laws.proofs.Lines.{is-line}
+use Rattle.shape_laws.proofs.Start.{linked-listens, informs-linked, linked-channel, unlinked-channel}
+use Rattle.theorems.specs.Calls.{attemptOf, replay}
+use Rattle.shape_laws.proofs.Outcome.{Outcome, refused, accepted, outcome, numbers}
+use Rattle.shape_laws.proofs.Handing.{Handing, handing, OnAgent, mine, other, on-agent, OnChannel, hit, put, rest, on-channel}
 
--- of a channel, and whether its receiver informs its sender
-abbrev Asked : Bool → List Message → Type 0
-Asked informs l = OneLink l × (informs ≡ true → All (Not IsAddLink) l)
+-- a request's sender listens to its receiver
+abbrev Heeds : Bool → Message → Type 0
+Heeds listens m = IsAddLink m → listens ≡ true
 
-abbrev Once : Network → Type 0
-Once w = (x y : ℕ) → Asked (w .agents x .informs y) (w .channel y x)
+-- of the channel from y to x: whether x informs y, and whether y listens to x
+pub record OnceOn (informs listens : Bool) (l : List Message) : Type 0 where
+  pub informed : informs ≡ true → listens ≡ true
+  pub heeded : All (Heeds listens) l
+  pub once : OneLink l
+  pub none : informs ≡ true → All (Not IsAddLink) l
 
--- ---- what is no link request
+abbrev pub Once : Network → Type 0
+Once w = (x y : ℕ) → OnceOn (w .agents x .informs y) (w .agents y .listens x) (w .channel y x)
 
-told : (v : ℕ) (m : Message) → Tells v m → Not IsAddLink m
-told v (Info u) h b = b
-told v (Back lhs u) h b = b
-told v AddLink h b = h
+-- ---- what is sent
 
--- sent by an agent that listens to the receiver already
-listening : (S : Assignment → Type 0) (a : Agent) (i : ℕ) (m : Message) (t : Step) (y : ℕ) → a .listens y ≡ true
-    → (q : Message) → Sends S a i m t y q → Not IsAddLink q
-listening S a i m t y l (Info u) h b = b
-listening S a i m t y l (Back lhs u) h b = b
-listening S a i m t y l AddLink h b = false≢true (sym (h .1) ∙ l)
+sent-heeds : (a : Agent) (t : Step) (y : ℕ) (m : Message) → Requests a t y m → Heeds (t .agent .listens y) m
+sent-heeds a t y (Info v) h q = absurd q
+sent-heeds a t y (Back lhs v) h q = absurd q
+sent-heeds a t y AddLink h q = h .0
 
--- waiting from an agent that does not listen to the receiver
-unheard : (p : Problem) (agents : ℕ → Agent) (y x : ℕ) → agents y .listens x ≡ false
-    → (m : Message) → Waits p agents y x m → Not IsAddLink m
-unheard p agents y x l (Info u) h b = b
-unheard p agents y x l (Back lhs u) h b = b
-unheard p agents y x l AddLink h b = false≢true (sym l ∙ h)
+-- by an agent that listens to the receiver already
+listening : (a : Agent) (t : Step) (y : ℕ) → a .listens y ≡ true → (m : Message) → Requests a t y m → Not IsAddLink m
+listening a t y l (Info v) h q = q
+listening a t y l (Back lhs v) h q = q
+listening a t y l AddLink h q = false≢true (sym (h .1) ∙ l)
 
--- ---- a move
+-- ---- one message handed over
 
-module _ (p : Problem) (d : Line) (w w′ : Network) (I : Invariant p w) (M : Move p d w w′) (O : Once w) where
+module _ {d : Line} {m : Message} {t : Step} {w w′ : Network} (H : Handing d m t w w′) (O : Once w) where
   -- the receiver
   abbrev j : ℕ
   j = d .to
@@ -58,62 +60,115 @@ module _ (p : Problem) (d : Line) (w w′ : Network) (I : Invariant p w) (M : Mo
   abbrev a : Agent
   a = w .agents (d .to)
 
-  abbrev t : Step
-  t = M .step
+  grown : (y x : ℕ) → w .agents y .listens x ≡ true → w′ .agents y .listens x ≡ true
+  grown y x l = go (on-agent H y)
+    where
+      go : OnAgent d t w w′ y → w′ .agents y .listens x ≡ true
+      go (mine e h) = rw h (H .links .keeps x (rw e at l))
+      go (other ne h) = rw h l
 
   -- informed now: informed before, or by the request handed over
   abbrev Before : ℕ → ℕ → Type 0
-  Before x y = (w .agents x .informs y ≡ true) ⊎ ((x ≡ j) × (y ≡ d .from) × IsAddLink (M .message))
+  Before x y = (w .agents x .informs y ≡ true) ⊎ ((x ≡ j) × Asks (d .from) m y)
 
   before : (x y : ℕ) → w′ .agents x .informs y ≡ true → Before x y
-  before x y n = go (on-agent p d w w′ M x)
+  before x y n = go (on-agent H x)
     where
-      go : OnAgent p d w w′ M x → Before x y
-      go (mine e h) = ⊎-elim (λ q. inl (rw e q)) (λ q. inr (e, q .0, q .1)) (M .facts .joined y (rw h at n))
+      go : OnAgent d t w w′ x → Before x y
+      go (mine e h) = ⊎-elim (λ q. inl (rw e q)) (λ q. inr (e, q)) (H .links .joined y (rw h at n))
       go (other ne h) = inl (rw h at n)
 
+  informed-kept : (x y : ℕ) → Before x y → w′ .agents y .listens x ≡ true
+  informed-kept x y (inl q) = grown y x (O x y .informed q)
+  informed-kept x y (inr (e, q)) =
+      rw (e, q .0) (grown (d .from) j ((rw (H .head) at (O j (d .from) .heeded)) .0 (q .1)))
+
+  -- what waited before
+  old : (x y : ℕ) → All (Heeds (w′ .agents y .listens x)) (w .channel y x)
+  old x y = All-map _ _ (λ q h z. grown y x (h z)) (w .channel y x) (O x y .heeded)
+
   -- the receiver sends to x
-  sends : (x : ℕ) → Turn p d w w′ M → Asked (w′ .agents x .informs j) (w .channel j x ++ sentTo x (t .sent))
-  sends x = go
+  sends : (x : ℕ) → OneLink (w .channel j x ++ sentTo x (t .sent))
+      × (w .agents x .informs j ≡ true → All (Not IsAddLink) (w .channel j x ++ sentTo x (t .sent)))
+  sends x = test (a .listens x) heard begins
     where
-      was : w′ .agents x .informs j ≡ true → w .agents x .informs j ≡ true
-      was n = ⊎-elim (λ q. q) (λ q. absurd (M .apart (sym (q .1)))) (before x j n)
+      heard : a .listens x ≡ true → OneLink (w .channel j x ++ sentTo x (t .sent))
+          × (w .agents x .informs j ≡ true → All (Not IsAddLink) (w .channel j x ++ sentTo x (t .sent)))
+      heard l =
+          let g = All-map _ _ (listening a t x l) (sentTo x (t .sent)) (H .links .requests x) in
+          (one-put (w .channel j x) _ (O x j .once) g, λ n. All-append (Not IsAddLink) (w .channel j x) _ (O x j .none n) g)
 
-      -- no request
-      plain : All (Not IsAddLink) (sentTo x (t .sent)) → Asked (w′ .agents x .informs j) (w .channel j x ++ sentTo x (t .sent))
-      plain g =
-          (one-put (w .channel j x) _ (O x j .0) g, λ n. All-append (Not IsAddLink) (w .channel j x) _ (O x j .1 (was n)) g)
-
-      -- it did not listen to x, so no request waits
-      begins : a .listens x ≡ false → OneLink (sentTo x (t .sent)) → Asked (w′ .agents x .informs j) (w .channel j x ++ sentTo x (t .sent))
-      begins l g =
-          let none = All-map _ _ (unheard p (w .agents) j x l) (w .channel j x) (I .links .waiting j x) in
-          (one-new (w .channel j x) _ none g, λ n. absurd (false≢true (sym l ∙ I .links .informed x j (was n))))
-
-      go : Turn p d w w′ M → Asked (w′ .agents x .informs j) (w .channel j x ++ sentTo x (t .sent))
-      go (inl Q) = plain (All-map _ _ (told (a .value)) (sentTo x (t .sent)) (quiet-tells a (d .from) (M .message) t Q x))
-      go (inr B) =
-          test (a .listens x)
-          (λ l. plain (All-map _ _ (listening (Obeys p) a (d .from) (M .message) t x l) (sentTo x (t .sent)) (B .sent x)))
-          (λ l. begins l (B .once x))
+      -- it did not listen to x, so no request waits, and x does not inform it
+      begins : a .listens x ≡ false → OneLink (w .channel j x ++ sentTo x (t .sent))
+          × (w .agents x .informs j ≡ true → All (Not IsAddLink) (w .channel j x ++ sentTo x (t .sent)))
+      begins l =
+          let none : All (Not IsAddLink) (w .channel j x) =
+          All-map _ _ (λ q h z. false≢true (sym l ∙ h z)) (w .channel j x) (O x j .heeded) in
+          (one-new (w .channel j x) _ none (H .links .once x), λ n. absurd (false≢true (sym l ∙ O x j .informed n)))
 
   once-kept : Once w′
-  once-kept x y = go (on-channel p d w w′ M y x)
+  once-kept x y = go (on-channel H y x)
     where
-      go : OnChannel p d w w′ M y x → Asked (w′ .agents x .informs y) (w′ .channel y x)
+      go : OnChannel d m t w w′ y x → OnceOn (w′ .agents x .informs y) (w′ .agents y .listens x) (w′ .channel y x)
       go (hit h ey ex e) =
-          let T = one-tail (M .message) (w′ .channel y x) (rw e at (O x y .0)) in
-          (T .0, λ n. ⊎-elim (λ q. (rw e at (O x y .1 q)) .1) (λ q. T .1 (q .2)) (before x y n))
-      go (put h ey e) = rw (e, ey) (sends x (turn p d w w′ M))
-      go (rest h ne e) =
-          let missed : (x ≡ j) × (y ≡ d .from) × IsAddLink (M .message) → ⊥ = λ q. false≢true (sym h ∙ is-line y x d (q .1) (q .0)) in
-          rw e (O x y .0, λ n. ⊎-elim (O x y .1) (λ q. absurd (missed q)) (before x y n))
+          let T = one-tail m (w′ .channel y x) (rw e at (O x y .once)) in
+          record {
+            informed = λ n. informed-kept x y (before x y n);
+            heeded = (rw e at (old x y)) .1;
+            once = T .0;
+            none = λ n. ⊎-elim (λ q. (rw e at (O x y .none q)) .1) (λ q. T .1 (q .1 .1)) (before x y n);
+          }
+      go (put h ey e) =
+          record {
+            informed = λ n. informed-kept x y (before x y n);
+            heeded = rw e (All-append _ (w .channel y x) _ (old x y) (All-map _ _ new (sentTo x (t .sent)) (H .links .requests x)));
+            once = rw (e, ey) (sends x .0);
+            none = λ n. rw (e, ey) (sends x .1 (was (rw ey at n)));
+          }
+        where
+          new : (q : Message) → Requests a t x q → Heeds (w′ .agents y .listens x) q
+          new q h = rw (ey, H .mine) (sent-heeds a t x q h)
 
-pub asked-once : (p : Problem) → inRange p ≡ true → (ds : List Line) → replay ds (start p) .verdict ≡ false → (x y : ℕ)
-    → OneLink (replay ds (start p) .channel y x)
-    × (replay ds (start p) .agents x .informs y ≡ true → All (Not IsAddLink) (replay ds (start p) .channel y x))
-unfolding start
-asked-once p r ds v = reach p r Once (once-kept p) first ds .running v .1
+          was : w′ .agents x .informs j ≡ true → w .agents x .informs j ≡ true
+          was n = ⊎-elim (λ q. q) (λ q. absurd (H .apart (sym (q .1 .0)))) (before x j n)
+      go (rest h ne e) =
+          let missed : (x ≡ j) × Asks (d .from) m y → ⊥ = λ q. false≢true (sym h ∙ is-line y x d (q .1 .0) (q .0)) in
+          record {
+            informed = λ n. informed-kept x y (before x y n);
+            heeded = rw e (old x y);
+            once = rw e (O x y .once);
+            none = λ n. rw e (⊎-elim (O x y .none) (λ q. absurd (missed q)) (before x y n));
+          }
+
+-- ---- a list of tries
+
+try-once : (d : Line) (w : Network) → Once w → Once (attemptOf d w .network)
+unfolding attemptOf rejecting
+try-once d w O = go (outcome w (d .from) (d .to))
   where
-    first : Once (start p)
-    first x y = let N = no-requests p r y x in (one-put [] (start p .channel y x) tt N, λ _. N)
+    go : Outcome w (d .from) (d .to) (deliver w (d .from) (d .to)) → Once (deliver w (d .from) (d .to) .network)
+    go (refused r _ e) = rw e O
+    go (accepted m others T e) = rw e (once-kept (handing d w m others (numbers w (d .from) (d .to) (T .numbers) .4) (T .head)) O)
+
+pub replay-once : (ds : List Line) (w : Network) → Once w → Once (replay ds w)
+unfolding replay
+replay-once [] w O = O
+replay-once (d ∷ ds) w O = replay-once ds (attemptOf d w .network) (try-once d w O)
+
+-- ---- the start
+
+pub start-once : (p : Problem) → Ranged p → Once (start p)
+unfolding start
+start-once p r x y =
+    record {
+      informed = λ n. linked-listens p r x y (informs-linked p r x y n);
+      heeded = All-map _ _ (λ m n q. absurd (n q)) (start p .channel y x) none;
+      once = one-put [] (start p .channel y x) tt none;
+      none = λ _. none;
+    }
+  where
+    none : All (Not IsAddLink) (start p .channel y x)
+    none =
+        test (linked p y x)
+        (λ e. rw (linked-channel p r y x e) ((λ q. q), tt))
+        (λ e. rw (unlinked-channel p r y x e) tt)

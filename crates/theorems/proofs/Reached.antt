@@ -10,7 +10,7 @@ use Rattle.protocol.specs.Network.{Network, start}
 use Rattle.protocol.specs.Run.{Line}
 use Rattle.theorems.specs.Calls.{attemptOf, replay}
 use Rattle.theorems.proofs.Moves.{Move, Invariant, Next, stays, moves, stops}
-use Rattle.theorems.proofs.Outcome.{shut}
+use Rattle.theorems.proofs.Shut.{shut}
 use Rattle.theorems.proofs.Next.{next}
 use Rattle.theorems.proofs.Start.{start-invariant}
 

@@ -22,7 +22,8 @@ use Rattle.theorems.specs.Calls.{
 }
 use Rattle.theorems.specs.Claims.{Replay}
 use Rattle.theorems.proofs.Tries.{replay-append, Follows, follows-none, follows-append}
-use Rattle.theorems.proofs.Running.{round-swept, roundOf, run-keeps}
+use Rattle.shape_laws.proofs.Runs.{roundOf, kept-by-rounds}
+use Rattle.theorems.proofs.Swept.{round-swept}
 
 -- ---- a run
 
@@ -53,10 +54,10 @@ rounds-more w w′ rs F =
 
 pub run-follows : (k : ℕ) (w : Network) → FollowsRounds w (run k w .rounds) (run k w .network)
 run-follows k w =
-    run-keeps (λ made rs w′. FollowsRounds w rs w′) (λ made rs w′ v i F. rounds-more w w′ rs F) k w (rounds-none w)
+    kept-by-rounds (λ made rs w′. FollowsRounds w rs w′) (λ made rs w′ v i F. rounds-more w w′ rs F) k w (rounds-none w)
 
-pub replays : Replay
-replays k w = record { leaves = run-follows k w .leaves; refuses = run-follows k w .sees }
+pub run-replays : Replay
+run-replays k w = record { leaves = run-follows k w .leaves; refuses = run-follows k w .sees }
 
 -- ---- a list of calls
 

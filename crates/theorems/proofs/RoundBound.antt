@@ -19,7 +19,7 @@ use Rattle.theorems.proofs.Rounds.{Rounds, done, skip, full}
 use Rattle.theorems.proofs.Windows.{stay, act, Window}
 use Rattle.theorems.proofs.Bounds.{Bound, Event, Until, onward, rounds-until}
 use Rattle.theorems.proofs.Counting.{most, windows}
-use Rattle.theorems.proofs.Outcome.{shut, refuses}
+use Rattle.theorems.proofs.Shut.{shut, refuses}
 use Rattle.theorems.proofs.Next.{next}
 use Rattle.theorems.proofs.Start.{start-invariant}
 

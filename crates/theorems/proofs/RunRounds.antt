@@ -15,9 +15,12 @@ use Rattle.theorems.proofs.Moves.{Invariant}
 use Rattle.theorems.proofs.Rounds.{Full}
 use Rattle.theorems.proofs.Reached.{reached}
 use Rattle.theorems.proofs.Tries.{replay-append, acceptedIn, accepted-count}
-use Rattle.theorems.proofs.Running.{round-swept, roundOf, counts-if, counts-only-if, run-keeps}
+use Rattle.shape_laws.proofs.Runs.{roundOf, kept-by-rounds}
+use Rattle.theorems.proofs.Swept.{round-swept, counts-if, counts-only-if}
 use Rattle.theorems.proofs.Replay.{FollowsRounds, rounds-none, rounds-more, calls-replay}
-use Rattle.theorems.proofs.Visits.{line-self, visits-most, visits-least, busy-waits}
+use Rattle.shape_laws.proofs.Lines.{is-line}
+use Rattle.shape_laws.proofs.Visits.{visits-most}
+use Rattle.theorems.proofs.Visits.{visits-all, busy-waits}
 use Rattle.theorems.proofs.Markings.{marked-append, from-full, to-full}
 
 -- ---- one round
@@ -32,12 +35,12 @@ counted-full : (p : Problem) (w : Network) → Invariant p w → idle w ≡ fals
 unfolding roundOf
 counted-full p w I b e =
     let q = sublist-whole (round-swept w .within) (counts-only-if w e) in
-    record { waits = busy-waits w b; delivers = λ i j. rw (accepted-on w i j, q) (visits-least p w I i j) }
+    record { waits = busy-waits w b; delivers = λ i j. rw (accepted-on w i j, q) (visits-all p w I i j) }
 
 full-counted : (w : Network) → Full (map lineOf (roundOf w .tried)) w → roundOf w .full ≡ true
 unfolding roundOf
 full-counted w F =
-    counts-if w (sublist-full (λ l. isLine (l .from) (l .to)) line-self (round-swept w .within)
+    counts-if w (sublist-full (λ l. isLine (l .from) (l .to)) (λ l. is-line (l .from) (l .to) l refl refl) (round-swept w .within)
     (λ l. let i = l .from in let j = l .to in omega (arith, visits-most w i j, F .delivers i j, accepted-on w i j)))
 
 -- ---- the rounds of a run, as stretches of the list
@@ -85,11 +88,11 @@ pub run-counted : (p : Problem) → inRange p ≡ true → (before : List Line) 
     → Counted p before (run k (replay before (start p)) .made) (run k (replay before (start p)) .rounds) (run k (replay before (start p)) .network)
 unfolding markedIn
 run-counted p r before k =
-    run-keeps (Counted p before) (counted-more p r before) k (replay before (start p))
+    kept-by-rounds (Counted p before) (counted-more p r before) k (replay before (start p))
     (record { follows = rounds-none (replay before (start p)); exact = tt; returned = refl })
 
-pub runs-count : EveryProblem RunsCount
-runs-count p r calls k =
+pub run-counts : EveryProblem RunsCount
+run-counts p r calls k =
     let C = run-counted p r (triedByAll calls (start p)) k in
     let e = calls-replay calls (start p) in
     record { cuts = lines-tries _; exact = rw e (C .exact); returned = rw e (C .returned) }

@@ -6,7 +6,7 @@ use Prim.Native.Nat.{ℕ, _≤_}
 use native.Mathlib.Omega.{arith}
 use Rattle.problem.specs.Problem.{Problem, owns, inRange, Obeys}
 use Rattle.problem.proofs.Range.{ranged, banned-inside}
-use Rattle.agent_facts.proofs.Facts.{Setting}
+use Rattle.agent_facts.specs.Facts.{Setting}
 use Rattle.protocol.specs.Network.{selfOf, bansOf}
 
 pub setting : (p : Problem) → inRange p ≡ true → (i : ℕ) → 1 ≤ i → i ≤ p .count → Setting (Obeys p) (selfOf p i) (bansOf p i)

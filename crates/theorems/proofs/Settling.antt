@@ -13,8 +13,8 @@ use Rattle.base.proofs.Search.{at-same, at-other}
 use Rattle.base.proofs.Lists.{All, All-map, any-all}
 use Rattle.problem.specs.Problem.{Problem}
 use Rattle.agent_rules.specs.Message.{Assignment, known, Message, Info, Back, AddLink}
-use Rattle.agent_facts.proofs.Messages.{Refuses}
-use Rattle.agent_facts.proofs.Facts.{busyView}
+use Rattle.agent_facts.specs.Messages.{Refuses}
+use Rattle.agent_facts.specs.Facts.{busyView}
 use Rattle.protocol.specs.Network.{Network}
 use Rattle.protocol.specs.Run.{Line}
 use Rattle.theorems.specs.Calls.{replay}
@@ -23,7 +23,7 @@ use Rattle.theorems.proofs.Rounds.{Full}
 use Rattle.theorems.proofs.Windows.{
   Act,
   receiver,
-  updated,
+  viewThen,
   sentIn,
   Busily,
   Quietly,
@@ -55,8 +55,8 @@ freeze p k c B ds w r P R =
     kept A i i′ v x xl =
         test (eqb x (A .line .to))
         (λ u. let q = eqb-true x (A .line .to) u in
-        rw (q, A .move .mine) (A .move .facts .quiet (A .still (omega (arith, q))) .value ∙ rw q at (v x xl)))
-        (λ u. rw (A .move .others x (eqb-false x (A .line .to) u)) (v x xl))
+        rw (q, A .move .handing .mine) (A .move .facts .quiet (A .still (omega (arith, q))) .value ∙ rw q at (v x xl)))
+        (λ u. rw (A .move .handing .others x (eqb-false x (A .line .to) u)) (v x xl))
 
 module _ (p : Problem) (k : ℕ) (σ : Assignment) where
   -- ---- clean agents
@@ -93,12 +93,12 @@ module _ (p : Problem) (k : ℕ) (σ : Assignment) where
         (λ q. absurd (false≢true (sym l ∙ f .invariant .good (A .line .to) (A .move .to-in .0) (A .move .to-in .1) .viewed x q)))
         (λ q. inl (omega (arith, ltb-false 0 (receiver A .view x) q))))
 
-    pub known-right : (x : ℕ) → x ≤ k → (updated A x ≡ 0) ⊎ (updated A x ≡ σ x)
-    known-right x xl = go (A .move .message) ((rw (A .move .head) at (t (A .line .from))) .0) told
+    pub known-right : (x : ℕ) → x ≤ k → (viewThen A x ≡ 0) ⊎ (viewThen A x ≡ σ x)
+    known-right x xl = go (A .move .message) ((rw (A .move .handing .head) at (t (A .line .from))) .0) told
       where
         told : x ≡ A .line .from → Carries (σ x) (A .move .message)
         told q =
-            let h : A .old .channel x (A .line .to) ≡ A .move .message ∷ A .new .channel x (A .line .to) = rw q (A .move .head) in
+            let h : A .old .channel x (A .line .to) ≡ A .move .message ∷ A .new .channel x (A .line .to) = rw q (A .move .handing .head) in
             (rw h at (c x xl .0)) .0
 
         go : (m : Message) → TidyMessage k σ m → (x ≡ A .line .from → Carries (σ x) m)
@@ -117,7 +117,7 @@ module _ (p : Problem) (k : ℕ) (σ : Assignment) where
       where
         busy : (m : Message) → Busily A y m → TidyMessage k σ m
         busy (Info v) h = tt
-        busy (Back lhs v) h = λ x xl. ⊎-elim (λ q. inl q) (λ q. rw q (known-right x xl)) (h .1 .inside x)
+        busy (Back lhs v) h = λ x xl. ⊎-elim (λ q. inl q) (λ q. rw q (known-right x xl)) (h .0 .1 .inside x)
         busy AddLink h = tt
 
         quiet : (m : Message) → Quietly A y m → TidyMessage k σ m

@@ -4,19 +4,37 @@ use mathlib.Core.Path.{_≡_}
 use mathlib.Core.List.{List, [], _∷_}
 use mathlib.Core.Bool.{true}
 use Rattle.problem.specs.Problem.{Problem}
-use Rattle.problem.proofs.Sheet.{decode-in-range}
+use Rattle.problem.proofs.Range.{ranged}
+use Rattle.problem.proofs.Sheet.{decode-in-range as decoded}
 use Rattle.protocol.specs.Network.{Network, start}
 use Rattle.protocol.specs.Shape.{inShape}
+use Rattle.protocol.specs.Delivery.{deliver}
+use Rattle.protocol.specs.Run.{run}
+use Rattle.shape_laws.proofs.Shape.{deliver-keeps as delivered, run-keeps as ran, start-in-shape}
 use Rattle.theorems.specs.Calls.{Call, Deliver, Run, leftBy, leftByAll, triedByAll, replay, linesOf, markedIn}
-use Rattle.theorems.specs.Claims.{SoundAtRest, CompleteVerdict, RoundBound, RunsMark, RunBound, RunsCount, StaysInShape, EveryProblem, EverySheet}
+use Rattle.theorems.specs.Claims.{
+  SoundAtRest,
+  CompleteVerdict,
+  RoundBound,
+  RunsMark,
+  RunBound,
+  RunsCount,
+  AskedOnce,
+  StaysInShape,
+  Replay,
+  DeliverKeeps,
+  RunKeeps,
+  EveryProblem,
+  EverySheet,
+}
 use Rattle.theorems.proofs.Reached.{reached}
 use Rattle.theorems.proofs.Accuracy.{rested, ended}
-use Rattle.theorems.proofs.Replay.{calls-replay}
+use Rattle.theorems.proofs.Once.{replay-once, start-once}
+use Rattle.theorems.proofs.Replay.{run-replays, calls-replay}
 use Rattle.theorems.proofs.Visits.{idle-empty}
 use Rattle.theorems.proofs.Markings.{marking-rounds}
 use Rattle.theorems.proofs.RoundBound.{round-bound-lines}
-use Rattle.theorems.proofs.RunRounds.{runs-count}
-use Rattle.shape_laws.proofs.Shape.{deliver-keeps, run-keeps, start-in-shape}
+use Rattle.theorems.proofs.RunRounds.{run-counts}
 use Rattle.theorems.proofs.CallMarking.{marking, marking-lines, marking-full, marking-made}
 
 -- Demand 2: a network reached with nothing waiting and no verdict breaks no ban.
@@ -51,24 +69,30 @@ pub run-bound : EveryProblem RunBound
 run-bound p r calls =
     let M = runs-mark p r calls in rw (← M .number) (round-bound p r calls (M .marking) (M .lines) (M .full))
 
+-- Demand 3: a run returns exactly how many of its rounds were full.
+pub runs-count : EveryProblem RunsCount
+runs-count = run-counts
+
+-- A link is asked for once, under a verdict too.
+pub asked-once : EveryProblem AskedOnce
+asked-once p r calls x y =
+    let O = replay-once (triedByAll calls (start p)) (start p) (start-once p (ranged p r)) x y in
+    rw (calls-replay calls (start p)) (O .once, O .none)
+
 -- Every network reached is in shape.
-call-keeps : (c : Call) (w : Network) → inShape w ≡ true → inShape (leftBy c w) ≡ true
-unfolding leftBy
-call-keeps (Deliver i j) w h = deliver-keeps w i j h
-call-keeps (Run k) w h = run-keeps k w h
-
-calls-keep : (calls : List Call) (w : Network) → inShape w ≡ true → inShape (leftByAll calls w) ≡ true
-unfolding leftByAll
-calls-keep [] w h = h
-calls-keep (c ∷ calls) w h = calls-keep calls (leftBy c w) (call-keeps c w h)
-
 pub stays-in-shape : EveryProblem StaysInShape
-stays-in-shape p r calls = calls-keep calls (start p) (start-in-shape p r)
+unfolding leftByAll leftBy
+stays-in-shape p r calls = go calls (start p) (start-in-shape p r)
+  where
+    go : (calls : List Call) (w : Network) → inShape w ≡ true → inShape (leftByAll calls w) ≡ true
+    go [] w h = h
+    go (Deliver i j ∷ calls) w h = go calls (deliver w i j .network) (delivered w i j h)
+    go (Run k ∷ calls) w h = go calls (run k w .network) (ran k w h)
 
 -- ---- sheets: what holds of every problem in range holds of every accepted sheet
 
 every-sheet : (C : Problem → Type 0) → EveryProblem C → EverySheet C
-every-sheet C proved sheet p e = proved p (decode-in-range sheet p e)
+every-sheet C proved sheet p e = proved p (decoded sheet p e)
 
 pub sheet-sound : EverySheet SoundAtRest
 sheet-sound = every-sheet SoundAtRest sound-at-rest
@@ -88,5 +112,19 @@ sheet-runs-count = every-sheet RunsCount runs-count
 pub sheet-runs-mark : EverySheet RunsMark
 sheet-runs-mark = every-sheet RunsMark runs-mark
 
+pub sheet-asked-once : EverySheet AskedOnce
+sheet-asked-once = every-sheet AskedOnce asked-once
+
 pub sheet-stays-in-shape : EverySheet StaysInShape
 sheet-stays-in-shape = every-sheet StaysInShape stays-in-shape
+
+-- ---- of every network and every sheet
+
+pub deliver-keeps : DeliverKeeps
+deliver-keeps = delivered
+
+pub run-keeps : RunKeeps
+run-keeps = ran
+
+pub replays : Replay
+replays = run-replays

@@ -3,22 +3,22 @@
 use mathlib.Core.Path.{_≡_, refl, sym, _∙_}
 use mathlib.Core.Logic.{_⊎_, inl, inr, ⊎-elim}
 use mathlib.Core.List.{List, [], _∷_, _++_}
-use mathlib.Core.Bool.{true, false, cond, and-true, and-false, false≢true}
+use mathlib.Core.Bool.{true, false, cond, and-true, false≢true}
 use Prim.Native.Nat.{ℕ, zero, suc, pred, _≤_}
-use native.Mathlib.Omega.{arith}
 use lib.ListN.{length}
 use lib.Dec.{eqb}
-use borrow.Author.Tests.{eq-eqb, ltb-true}
+use borrow.Author.Tests.{eqb-true, eqb-false, eq-eqb}
 use Rattle.base.specs.Finite.{at}
 use Rattle.base.proofs.Tests.{test}
 use Rattle.base.proofs.Lists.{All, All-append, Any}
 use Rattle.problem.specs.Problem.{Problem}
-use Rattle.agent_rules.specs.Message.{Assignment, known, Message, Info, Back, AddLink}
-use Rattle.agent_rules.specs.Agent.{Agent}
-use Rattle.agent_facts.proofs.Messages.{Refuses, afterOne, seen}
-use Rattle.agent_facts.proofs.Facts.{quietView, busyView, Names}
+use Rattle.agent_rules.specs.Message.{Assignment, Message, Info, Back, AddLink}
+use Rattle.agent_facts.specs.Messages.{Refuses, afterOne, seen}
+use Rattle.agent_facts.specs.Facts.{quietView, busyView, Names}
 use Rattle.protocol.specs.Run.{Line, isLine}
-use Rattle.theorems.proofs.Windows.{chose, Act, receiver, updated, sentIn}
+use Rattle.agent_facts.proofs.Assignments.{unknown}
+use Rattle.theorems.proofs.Steps.{view-sender, view-other, view-listened}
+use Rattle.theorems.proofs.Windows.{chose, Act, receiver, viewThen, sentIn}
 
 -- ---- what messages tell of frozen agents, those up to k, which have the values σ
 
@@ -77,22 +77,6 @@ module _ (T : ℕ → Type 0) (u : ℕ) (Tu : T u) where
 
 -- ---- the receiver's view of x after a move
 
-pub unknown : {X : Type 0} → known 0 ≡ true → X
-unfolding known
-unknown e = absurd (omega (arith, ltb-true 0 0 e))
-
-quiet-view : (a : Agent) (i : ℕ) (m : Message) (x : ℕ) → quietView a i m x ≡ cond (eqb x i) (afterOne (a .view x) m) (a .view x)
-unfolding at afterOne
-quiet-view a i (Info v) x = test (eqb x i) (λ u. rw (u, at)) (λ u. rw (u, at))
-quiet-view a i (Back lhs v) x = test (eqb x i) (λ u. rw u) (λ u. rw u)
-quiet-view a i AddLink x = test (eqb x i) (λ u. rw u) (λ u. rw u)
-
--- of an agent listened to before
-busy-quiet : (a : Agent) (i : ℕ) (m : Message) (x : ℕ) → a .listens x ≡ true → busyView a i m x ≡ quietView a i m x
-busy-quiet a i (Info v) x l = refl
-busy-quiet a i (Back lhs v) x l = rw (l, and-false (known (lhs x)))
-busy-quiet a i AddLink x l = refl
-
 own-line : (d : Line) (x : ℕ) → isLine x (d .to) d ≡ eqb x (d .from)
 unfolding isLine
 own-line d x = rw (eq-eqb (d .to) (d .to) refl) (and-true (eqb x (d .from)))
@@ -100,7 +84,7 @@ own-line d x = rw (eq-eqb (d .to) (d .to) refl) (and-true (eqb x (d .from)))
 module _ (p : Problem) (k : ℕ) (A : Act p k) (x : ℕ) where
   -- it chooses, and refuses what it knew
   abbrev pub Refusing : Type 0
-  Refusing = (A .move .step .agent .view x ≡ 0) × (chose (A .move) ≡ true) × Any (Refuses (updated A x)) (sentIn A x)
+  Refusing = (A .move .step .agent .view x ≡ 0) × (chose (A .move) ≡ true) × Any (Refuses (viewThen A x)) (sentIn A x)
 
   pub heard-before : receiver A .listens x ≡ true
       → (A .move .step .agent .view x
@@ -108,12 +92,15 @@ module _ (p : Problem) (k : ℕ) (A : Act p k) (x : ℕ) where
       ⊎ Refusing
   heard-before l =
       rw (own-line (A .line) x) (test (chose (A .move))
-      (λ c. ⊎-elim (λ v. inl (v ∙ busy-quiet _ _ (A .move .message) x l ∙ now)) (λ v. inr (v .0, c, v .1)) (A .move .facts .busy c .view x))
+      (λ c. ⊎-elim (λ v. inl (v ∙ view-listened _ _ (A .move .message) x l ∙ now)) (λ v. inr (v .0, c, v .1)) (A .move .facts .busy c .view x))
       (λ c. inl (A .move .facts .quiet c .view x ∙ now)))
     where
       now : quietView (receiver A) (A .line .from) (A .move .message) x
           ≡ cond (eqb x (A .line .from)) (afterOne (receiver A .view x) (A .move .message)) (receiver A .view x)
-      now = quiet-view (receiver A) (A .line .from) (A .move .message) x
+      now =
+          test (eqb x (A .line .from))
+          (λ u. let e = eqb-true x (A .line .from) u in rw (u, e) (view-sender (receiver A) (A .line .from) (A .move .message)))
+          (λ u. rw u (view-other (receiver A) (A .line .from) (A .move .message) x (eqb-false x (A .line .from) u)))
 
   -- newly listened to: from a tidy left side
   pub heard-new : (σ : Assignment) → x ≤ k → TidyMessage k σ (A .move .message) → receiver A .listens x ≡ false
@@ -130,6 +117,6 @@ module _ (p : Problem) (k : ℕ) (A : Act p k) (x : ℕ) where
       busy c =
           ⊎-elim
           (λ v. inl (v ∙ named (A .move .message) t
-          (⊎-elim (λ z. absurd (false≢true (sym l ∙ z))) (λ z. z) (A .move .facts .busy c .listens x l′))))
+          (⊎-elim (λ z. absurd (false≢true (sym l ∙ z))) (λ z. z) (A .move .handing .links .hears x l′))))
           (λ v. inr (v .0, c, v .1))
           (A .move .facts .busy c .view x)

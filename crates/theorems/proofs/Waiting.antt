@@ -2,23 +2,21 @@
 -- receiver sends on its own channels only; a rejected one changes nothing and sends nothing.
 use mathlib.Core.Path.{_≡_, sym, _∙_}
 use mathlib.Core.Logic.{_≢_}
-use mathlib.Core.Bool.{false, false≢true}
 use mathlib.Core.List.{List, [], _∷_, _++_, append-nil, append-assoc}
 use Prim.Native.Nat.{ℕ}
 use lib.ListN.{drop}
 use lib.Seq.{drop-drop}
 use lib.Dec.{eqb}
-use borrow.Author.Tests.{eqb-true, eqb-false}
+use borrow.Author.Tests.{eq-eqb, ne-eqb}
 use Rattle.base.proofs.Tests.{test}
 use Rattle.problem.specs.Problem.{Problem}
 use Rattle.agent_rules.specs.Message.{Message, sentTo}
-use Rattle.protocol.specs.Network.{Network, start}
+use Rattle.protocol.specs.Network.{Network, stepOn, handed, start}
 use Rattle.protocol.specs.Delivery.{isAccepted, rejecting, deliver}
-use Rattle.protocol.specs.Run.{Line, oneIf, isLine}
+use Rattle.protocol.specs.Run.{Line, oneIf}
 use Rattle.theorems.specs.Calls.{attemptOf, replay, acceptedNow, acceptedOn, sentNow, sentOn, waitsAfter}
-use Rattle.theorems.proofs.Outcome.{Outcome, refused, accepted, outcome, numbers}
-use Rattle.theorems.proofs.Handed.{handed-head, handed-sent, handed-same}
-use Rattle.theorems.proofs.Channels.{line-ends, is-line}
+use Rattle.shape_laws.proofs.Outcome.{Outcome, refused, accepted, outcome, numbers}
+use Rattle.shape_laws.proofs.Handing.{handing, OnChannel, hit, put, rest, on-channel}
 
 -- ---- one try
 
@@ -33,25 +31,15 @@ unfolding acceptedNow sentNow attemptOf isAccepted oneIf sentTo rejecting
 on-try l w i j = go (outcome w (l .from) (l .to))
   where
     go : Outcome w (l .from) (l .to) (deliver w (l .from) (l .to)) → OnTry l w i j
-    go (refused r e) =
+    go (refused r _ e) =
         puts (rw e) (test (eqb i (l .to)) (λ t. rw (t, sentNow, e, append-nil)) (λ t. rw (t, sentNow, e, append-nil)))
-    go (accepted v g m others c e) =
-        let n = numbers w (l .from) (l .to) g .4 in
-        test (eqb i (l .to))
-        (λ t. let q = eqb-true i (l .to) t in
-        puts (rw (e, from-other q n))
-        (rw (t, sentNow, e, q) (handed-sent w (l .from) (l .to) m others n j)))
-        (λ t. test (isLine i j l)
-        (λ h. let q = line-ends i j l h in
-        takes m (rw (e, h)) (rw (t, sentNow)) (rw (e, q .0, q .1, handed-head w (l .from) (l .to) m others n) c))
-        (λ h. puts (rw (e, h))
-        (rw (t, sentNow, e, append-nil) (handed-same w (l .from) (l .to) m others i j (eqb-false i (l .to) t) (apart h)))))
+    go (accepted m others T e) =
+        let n = numbers w (l .from) (l .to) (T .numbers) .4 in on n (on-channel (handing l w m others n (T .head)) i j)
       where
-        from-other : i ≡ l .to → l .from ≢ l .to → isLine i j l ≡ false
-        from-other q n = test (isLine i j l) (λ h. absurd (n (sym (line-ends i j l h .0) ∙ q))) (λ h. h)
-
-        apart : isLine i j l ≡ false → i ≡ l .from → j ≢ l .to
-        apart h a b = false≢true (sym h ∙ is-line i j l a b)
+        on : l .from ≢ l .to → OnChannel l m (stepOn w (l .from) (l .to) m) w (handed w (l .from) (l .to) m others) i j → OnTry l w i j
+        on n (hit h ei ej q) = takes m (rw (e, h)) (rw (ne-eqb i (l .to) (λ z. n (sym ei ∙ z)), sentNow)) (rw e q)
+        on n (put h ei q) = puts (rw (e, h)) (rw (eq-eqb i (l .to) ei, sentNow, e) q)
+        on n (rest h ni q) = puts (rw (e, h)) (rw (ne-eqb i (l .to) ni, sentNow, e, append-nil) q)
 
 -- a channel, and whatever is sent on it later, behind one try
 step : (l : Line) (w : Network) (i j : ℕ) (later : List Message)

@@ -8,25 +8,24 @@ use Prim.Native.Nat.{ℕ, zero, suc, pred, _≤_}
 use native.Mathlib.Omega.{arith}
 use lib.ListN.{length, drop}
 use Rattle.base.proofs.Tests.{test}
-use Rattle.base.proofs.Lists.{All, All-append, All-map, Any}
+use Rattle.base.proofs.Lists.{All, All-append, All-both, All-map, Any}
 use Rattle.problem.specs.Problem.{Problem, Obeys}
 use Rattle.agent_rules.specs.Message.{Assignment, Message, sentTo}
 use Rattle.agent_rules.specs.Agent.{Agent}
-use Rattle.agent_rules.specs.Receiving.{chooses}
-use Rattle.agent_facts.proofs.Facts.{busyView, Answers, Sends}
-use Rattle.protocol.specs.Network.{Network, selfOf, bansOf}
+use Rattle.agent_facts.specs.Facts.{Requests, busyView, TellsSender, Sends}
+use Rattle.protocol.specs.Network.{Network}
 use Rattle.protocol.specs.Delivery.{Answer, Accepted, Rejected, isAccepted}
 use Rattle.protocol.specs.Run.{Line, oneIf, isLine}
 use Rattle.theorems.specs.Calls.{attemptOf, replay, acceptedNow, acceptedOn}
-use Rattle.theorems.proofs.Moves.{Move, OnChannel, hit, put, rest}
+use Rattle.shape_laws.proofs.Handing.{OnChannel, hit, put, rest, on-channel}
+use Rattle.theorems.proofs.Moves.{Move}
 use Rattle.theorems.proofs.Rounds.{Full}
-use Rattle.theorems.proofs.Channels.{on-channel}
 
 -- ---- one move of a window
 
 -- the receiver chooses
 abbrev pub chose : {p : Problem} {d : Line} {w w′ : Network} → Move p d w w′ → Bool
-chose {p} {d} {w} M = chooses (selfOf p (d .to)) (bansOf p (d .to)) (w .agents (d .to)) (d .from) (M .message)
+chose M = M .facts .chooses
 
 pub record Act (p : Problem) (k : ℕ) : Type 0 where
   pub line : Line
@@ -39,8 +38,8 @@ abbrev pub receiver : {p : Problem} {k : ℕ} → Act p k → Agent
 receiver A = A .old .agents (A .line .to)
 
 -- the receiver's view right after the message, where it chooses
-abbrev pub updated : {p : Problem} {k : ℕ} → Act p k → Assignment
-updated A x = busyView (receiver A) (A .line .from) (A .move .message) x
+abbrev pub viewThen : {p : Problem} {k : ℕ} → Act p k → Assignment
+viewThen A x = busyView (receiver A) (A .line .from) (A .move .message) x
 
 -- what the receiver sends to y
 abbrev pub sentIn : {p : Problem} {k : ℕ} → Act p k → ℕ → List Message
@@ -48,24 +47,28 @@ sentIn A y = sentTo y (A .move .step .sent)
 
 -- .. is one of these, where it chooses and where it does not
 abbrev pub Busily : {p : Problem} {k : ℕ} → Act p k → ℕ → Message → Type 0
-Busily {p} A y m = Sends (Obeys p) (receiver A) (A .line .from) (A .move .message) (A .move .step) y m
+Busily {p} A y m =
+    Sends (Obeys p) (receiver A) (A .line .from) (A .move .message) (A .move .step) y m × Requests (receiver A) (A .move .step) y m
 
 abbrev pub Quietly : {p : Problem} {k : ℕ} → Act p k → ℕ → Message → Type 0
-Quietly A y m = Answers (receiver A) (A .line .from) (A .move .message) y m
+Quietly A y m = TellsSender (receiver A) (A .line .from) (A .move .message) y m
+
+pub busily : {p : Problem} {k : ℕ} (A : Act p k) → chose (A .move) ≡ true → (y : ℕ) → All (Busily A y) (sentIn A y)
+busily A c y = All-both _ _ (sentIn A y) (A .move .facts .busy c .sent y) (A .move .handing .links .requests y)
 
 pub all-sent : {p : Problem} {k : ℕ} (A : Act p k) (y : ℕ) (G : Message → Type 0)
     → (chose (A .move) ≡ true → (m : Message) → Busily A y m → G m) → ((m : Message) → Quietly A y m → G m) → All G (sentIn A y)
 all-sent A y G b q =
     test (chose (A .move))
-    (λ c. All-map _ G (b c) (sentIn A y) (A .move .facts .busy c .sent y))
+    (λ c. All-map _ G (b c) (sentIn A y) (busily A c y))
     (λ c. All-map _ G q (sentIn A y) (A .move .facts .quiet c .sent y))
 
 -- what the move does to the channel from x to y
 abbrev pub On : {p : Problem} {k : ℕ} → Act p k → ℕ → ℕ → Type 0
-On {p} A x y = OnChannel p (A .line) (A .old) (A .new) (A .move) x y
+On A x y = OnChannel (A .line) (A .move .message) (A .move .step) (A .old) (A .new) x y
 
 pub on : {p : Problem} {k : ℕ} (A : Act p k) (x y : ℕ) → On A x y
-on {p} A x y = on-channel p (A .line) (A .old) (A .new) (A .move) x y
+on A x y = on-channel (A .move .handing) x y
 
 pub all-last : {p : Problem} {k : ℕ} (A : Act p k) (x y : ℕ) (G : Message → Type 0)
     → (x ≡ A .line .to → All G (sentIn A y)) → All G (A .old .channel x y) → All G (A .new .channel x y)

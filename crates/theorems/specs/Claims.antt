@@ -3,10 +3,13 @@ use Prim.Native.Nat.{ℕ, _+_, _*_, _^_, _≤_}
 use mathlib.Core.Path.{_≡_}
 use mathlib.Core.Bool.{true, false}
 use mathlib.Core.List.{List, [], map}
+use Rattle.base.specs.Lists.{All}
 use Rattle.problem.specs.Problem.{Problem, largestDomain, inRange, Obeys}
 use Rattle.problem.specs.Sheet.{Valid, decode}
+use Rattle.agent_facts.specs.Messages.{IsAddLink, Not, OneLink}
 use Rattle.protocol.specs.Network.{Network, start}
 use Rattle.protocol.specs.Shape.{inShape}
+use Rattle.protocol.specs.Delivery.{deliver}
 use Rattle.protocol.specs.Run.{idle, run}
 use Rattle.theorems.specs.Calls.{
   Call,
@@ -82,6 +85,23 @@ pub record Replays (k : ℕ) (w : Network) : Type 0 where
 
 abbrev pub Replay : Type 0
 Replay = (k : ℕ) (w : Network) → Replays k w
+
+-- A link is asked for once: on no network reached from the start, under a verdict or not, does a request wait from an agent already informed, nor
+-- do two requests wait on one channel.
+abbrev pub AskedOnce : Problem → Type 0
+AskedOnce p =
+    (calls : List Call) (x y : ℕ)
+    → OneLink (leftByAll calls (start p) .channel y x)
+    × (leftByAll calls (start p) .agents x .informs y ≡ true → All (Not IsAddLink) (leftByAll calls (start p) .channel y x))
+
+-- ---- of every network and every sheet
+
+-- A network in shape stays in shape, forged ones too.
+abbrev pub DeliverKeeps : Type 0
+DeliverKeeps = (w : Network) (i j : ℕ) → inShape w ≡ true → inShape (deliver w i j .network) ≡ true
+
+abbrev pub RunKeeps : Type 0
+RunKeeps = (k : ℕ) (w : Network) → inShape w ≡ true → inShape (run k w .network) ≡ true
 
 -- ---- for which problems
 

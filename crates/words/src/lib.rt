@@ -1,9 +1,12 @@
-// The words that the programs print.
+// What the programs print with: the words, and printing.
 ghost use mathlib.Core.Path.{_≡_};
 ghost use lib.ListN.{take};
 ghost use Rattle.protocol.specs.Run.{endingWord};
 ghost use Rattle.io.specs.Counts.{Counts};
-ghost use Rattle.run.specs.Abstract.{endingOf};
+ghost use Rattle.run.specs.Answers.{endingOf};
+
+pub mod printing;
+
 use run::Ending;
 
 // A word: the first `length` letters.

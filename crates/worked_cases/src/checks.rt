@@ -9,14 +9,14 @@ use crate::kinds::START;
 use crate::kinds::TAKEN;
 use crate::lines::Numbers;
 use crate::lines::small;
-use crate::printing::put;
-use crate::printing::put_ending;
 use crate::rails::same_rail;
 use crate::sheets::Sheet;
 use network::Network;
 use packed::digit;
 use run::Ending;
 use start::Started;
+use words::printing::put;
+use words::printing::put_ending;
 
 // What a line finds: a number, whether all else is as the line says, and the rail after it.
 pub struct Found {
@@ -114,7 +114,7 @@ fn delivered(rail: Network, n: Numbers) -> Found {
 fn slot_right(rail: Network, n: Numbers, k: usize) -> bool
     requires { ⌜ k < 12 ⌝ }
 {
-    let a = start::value(rail, k as u8 + 1);
+    let a = network::value(rail, k as u8 + 1);
     if k < n.count {
         return a.number == 0 && a.value as u64 == n.values[k];
     }

@@ -20,7 +20,6 @@
 mod checks;
 mod kinds;
 mod lines;
-mod printing;
 mod rails;
 mod sheets;
 
@@ -43,12 +42,12 @@ use lines::line_end;
 use lines::next_line;
 use lines::numbers_in;
 use network::Network;
-use printing::put;
-use printing::put_line;
-use printing::put_number;
 use sheets::Sheet;
 use sheets::blank;
 use sheets::built;
+use words::printing::put;
+use words::printing::put_line;
+use words::printing::put_number;
 
 // ---- the tally
 

@@ -14,7 +14,7 @@ returns : tie.Need-returns
 returns c =
     let e = c .before .before .before .start .ensures in
     record {
-      number = e .0;
+      number = e .number;
       ending = λ z. absurd (c .if1 .taken z);
       rounds = λ z. absurd (c .if1 .taken z);
       network = λ z. absurd (c .if1 .taken z);
@@ -29,10 +29,10 @@ returns-2 c =
     let e = c .before .before .before .before .start .ensures in
     let r = c .run .ensures in
     record {
-      number = rw (c .before .if1 .left) at (e .0);
-      ending = λ _. r .ending ∙ ap (λ (w : Network). run 100000 w .ending) (e .1);
-      rounds = λ _. r .rounds ∙ ap (λ (w : Network). run 100000 w .made) (e .1);
-      network = λ _. r .network ∙ ap (λ (w : Network). run 100000 w .network) (e .1);
+      number = rw (c .before .if1 .left) at (e .number);
+      ending = λ _. r .ending ∙ ap (λ (w : Network). run 100000 w .ending) (e .network);
+      rounds = λ _. r .rounds ∙ ap (λ (w : Network). run 100000 w .made) (e .network);
+      network = λ _. r .network ∙ ap (λ (w : Network). run 100000 w .network) (e .network);
     }
 
 pub settle-spec : {M : Type 1} → statement M

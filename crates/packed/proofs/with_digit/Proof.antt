@@ -3,7 +3,7 @@
 use Prim.Native.Nat.{_*_, _-_, _/_, _%_, _^_}
 use mathlib.Core.Path.{refl}
 use native.Mathlib.Omega.{arith}
-use Rattle.packed.proofs.Fields.{Exchange, exchange}
+use Rattle.packed.proofs.Fields.{Exchange, exchange, masked}
 use Rattle.packed.proofs.Digits.{digit-changed}
 use borrow.Author.Needs.{needs}
 use Rattle.packed.proofs.with_digit.Statement.{statement}
@@ -19,12 +19,6 @@ sub-place c = search needs
 mul-place : tie.Need-mul-place
 mul-place c = search needs
 
-cast-old : tie.Need-cast-old
-cast-old c = search needs
-
-shr-old : tie.Need-shr-old
-shr-old c = search needs
-
 cast-result : tie.Need-cast-result
 cast-result c = search needs
 
@@ -32,7 +26,7 @@ shl-result : tie.Need-shl-result
 shl-result c = search needs
 
 sub-result : tie.Need-sub-result
-sub-result c = changed c .taken
+sub-result c = rw (masked 4 (4 * (c .args .k - 1)) (c .args .x) (omega arith)) (changed c .taken)
 
 cast-result-2 : tie.Need-cast-result-2
 cast-result-2 c = search needs
@@ -41,10 +35,12 @@ shl-result-2 : tie.Need-shl-result-2
 shl-result-2 c = search needs
 
 add-result : tie.Need-add-result
-add-result c = record { fits = changed c .holds }
+add-result c = record { fits = rw (masked 4 (4 * (c .args .k - 1)) (c .args .x) (omega arith)) (changed c .holds) }
 
 returns : tie.Need-returns
-returns c = rw (changed c .is) (digit-changed _ _ _ (c .pre .0) (c .pre .2))
+returns c =
+    rw (masked 4 (4 * (c .args .k - 1)) (c .args .x) (omega arith), changed c .is)
+    (digit-changed _ _ _ (c .pre .0) (c .pre .2))
 
 pub with-digit-spec : {M : Type 1} → statement M
 with-digit-spec =
@@ -52,8 +48,6 @@ with-digit-spec =
     (tie.spec
     sub-place
     mul-place
-    cast-old
-    shr-old
     cast-result
     shl-result
     sub-result

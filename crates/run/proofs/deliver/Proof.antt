@@ -1,44 +1,22 @@
--- Tests 5 and 6; the rest is the delivery on a network in shape.
-use mathlib.Core.Path.{sym, _∙_}
-use borrow.Author.Needs.{needs}
-use borrow.Author.Tests.{not-true, not-false}
-use Rattle.protocol.specs.Delivery.{BadShape, BadNumbers, rejectionNumber, numbersGood}
-use Rattle.network.specs.Abstract.{problemOf, networkOf}
-use Rattle.delivery.proofs.Rejecting.{bad-shape, bad-numbers, rejected}
+-- One delivery is the work once; a rejected one hands back what was given.
+use mathlib.Core.Path.{refl}
+use native.Mathlib.Omega.{arith}
+use Rattle.run.proofs.Delivering.{delivered, rejected, stood}
 use Rattle.run.proofs.deliver.Statement.{statement}
 use Rattle.run.proofs.deliver.Tie as tie
 
-in-shape-requires : tie.Need-in-shape-requires
-in-shape-requires c κs = search needs
+work-requires : tie.Need-work-requires
+work-requires c κs = (omega arith, λ _. refl)
 
 returns : tie.Need-returns
-unfolding rejectionNumber
-returns c = rejected (c .before .before .args .r) _ BadShape (bad-shape _ _ _ (sym (c .before .in-shape .ensures) ∙ not-true _ (c .if1 .taken)))
-
-numbers-good-requires : tie.Need-numbers-good-requires
-numbers-good-requires c κs = search needs
+returns c =
+    let w = c .before .before .work .ensures .0 in
+    (rejected _ _ _ _ (c .before .before .work .result) w (c .if1 .taken), stood _ _ _ _ (c .before .before .work .result) w)
 
 returns-2 : tie.Need-returns-2
-unfolding rejectionNumber numbersGood networkOf problemOf
 returns-2 c =
-    rejected (c .before .before .before .before .args .r) _ BadNumbers
-    (bad-numbers _ _ _ (sym (c .before .before .before .in-shape .ensures) ∙ not-false _ (c .before .before .if1 .left)) (sym (c .before .numbers-good .ensures) ∙ not-true _ (c .if2 .taken)))
-
-deliver-in-shape-requires : tie.Need-deliver-in-shape-requires
-unfolding numbersGood networkOf problemOf
-deliver-in-shape-requires c κs =
-    (sym (c .before .before .before .in-shape .ensures) ∙ not-false _ (c .before .before .if1 .left), sym (c .before .numbers-good .ensures) ∙ not-false _ (c .if2 .left))
-
-returns-3 : tie.Need-returns-3
-returns-3 c = search needs
+    let w = c .before .before .work .ensures .0 in
+    (delivered _ _ _ _ (c .before .before .work .result) w (c .if1 .left), stood _ _ _ _ (c .before .before .work .result) w)
 
 pub deliver-spec : {M : Type 1} → statement M
-deliver-spec =
-    tie.close
-    (tie.spec
-    in-shape-requires
-    returns
-    numbers-good-requires
-    returns-2
-    deliver-in-shape-requires
-    returns-3)
+deliver-spec = tie.close (tie.spec work-requires returns returns-2)

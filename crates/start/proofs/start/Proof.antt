@@ -1,37 +1,228 @@
--- A sheet that is refused gives the empty network, any other the start of its problem. Assumes nothing.
-use mathlib.Core.Path.{_∙_}
-use Rattle.sheet.specs.Abstract.{outcomeOf}
-use Rattle.start.proofs.Sheets.{refused, problem-in-range, accepted}
+-- Agent by agent, the network is the start as far as they have begun; within one, as far as its Infos are stored. A refused sheet's problem has no
+-- agents, so that the network stays the one before anybody has begun.
+use mathlib.Core.Path.{_≡_, refl, ap, _∙_}
+use mathlib.Core.Bool.{true}
+use mathlib.Core.List.{List}
+use Prim.Native.Nat.{ℕ, suc, _+_, _*_, _-_, _≤_, _<_}
+use native.Mathlib.Omega.{arith}
+use native.Mathlib.Numerals.{add-one}
 use borrow.Author.Needs.{needs}
+use Rattle.problem.specs.Problem.{Problem, maxAgents, maxDomain, maxPairs, noBans, emptyProblem, domain}
+use Rattle.problem.proofs.Range.{linked-pair}
+use Rattle.protocol.specs.Network.{selfOf, bansOf, begun}
+use Rattle.packed.specs.Packed.{members}
+use Rattle.agent.specs.Abstract.{messageOf, selfOf as ownOf}
+use Rattle.agent.specs.Entries.{BeginsAs}
+use Rattle.network.specs.Abstract.{isChannel, channelAt, placeOf}
+use Rattle.sheet.specs.Abstract.{problemOf, outcomeOf}
+use Rattle.start.specs.Started.{emptyRail, railOf}
+use Rattle.start.proofs.Telling.{Telling, telling-begins, telling-goes}
+use Rattle.start.proofs.Beginning.{begun-by, informs-below}
+use Rattle.start.proofs.Turns.{Opening, none-begun, told-channel, one-more}
+use Rattle.start.proofs.Opened.{opened, all-opened}
+use Rattle.start.proofs.Sheets.{number-known, network-known, refused-empty, problem-ranged, few-agents}
 use Rattle.start.proofs.start.Statement.{statement}
 use Rattle.start.proofs.start.Tie as tie
 
-decode-requires : tie.Need-decode-requires
+abbrev problem : ℕ → List ℕ → List ℕ → Problem
+problem n domains bans = record { count = n; domains = domains; bans = bans }
+
+abbrev Inv-loop2 : tie.InvT-loop2
+Inv-loop2 sheet d n domains bans r₀ i at value row₀ told₀ r row told = Telling i value told₀ r₀ r row told
+
+abbrev μ-loop2 : tie.MeasureT-loop2
+μ-loop2 sheet d n domains bans r₀ i at value row₀ told₀ r row told = told
+
+abbrev Inv-loop : tie.InvT-loop
+Inv-loop sheet d n domains bans r₀ i₀ r i = (i ≤ n) × Opening (problem n domains bans) i r × (i ≡ 0 → r ≡ r₀)
+
+abbrev μ-loop : tie.MeasureT-loop
+μ-loop sheet d n domains bans r₀ i₀ r i = n - i
+
+decode-requires : tie.Need-decode-requires Inv-loop2 μ-loop2 Inv-loop μ-loop
 decode-requires c κs = search needs
 
-empty-requires : tie.Need-empty-requires
-empty-requires c κs = search needs
+rail-of-requires : tie.Need-rail-of-requires Inv-loop2 μ-loop2 Inv-loop μ-loop
+rail-of-requires c κs = search needs
 
-returns : tie.Need-returns
-unfolding outcomeOf
+loop-holds : tie.Need-loop-holds Inv-loop2 μ-loop2 Inv-loop μ-loop
+loop-holds c = (omega arith, none-begun (problem _ _ _) _ (c .rail-of .ensures), λ _. refl)
+
+cast-at : tie.Need-cast-at Inv-loop2 μ-loop2 Inv-loop μ-loop
+cast-at c = search needs
+
+-- there is an agent left
+few : (c : tie.In-loop Inv-loop2 μ-loop2 Inv-loop μ-loop) → c .before .loop .i < 12
+unfolding outcomeOf problemOf
+few c =
+    let d = c .before .before .before .before .before .before .decode in
+    few-agents _ (outcomeOf (d .result)) (d .ensures .0) _ (c .loop-test .taken)
+
+add-i : tie.Need-add-i Inv-loop2 μ-loop2 Inv-loop μ-loop
+add-i c = search needs
+
+array-read-t22 : tie.Need-array-read-t22 Inv-loop2 μ-loop2 Inv-loop μ-loop
+array-read-t22 c = few c
+
+listens-requires : tie.Need-listens-requires Inv-loop2 μ-loop2 Inv-loop μ-loop
+listens-requires c κs = (omega arith, omega (arith, few (c .before)))
+
+informs-requires : tie.Need-informs-requires Inv-loop2 μ-loop2 Inv-loop μ-loop
+informs-requires c κs = (omega arith, omega (arith, few (c .before .before .before)))
+
+begin-requires : tie.Need-begin-requires Inv-loop2 μ-loop2 Inv-loop μ-loop
+unfolding maxDomain problemOf outcomeOf domain
+begin-requires c κs =
+    let d = c .before .before .before .before .before .before .before .before .before .before .decode in
+    let p = problemOf (d .result .problem) in
+    let i = c .before .before .before .before .before .loop .i in
+    let r = problem-ranged _ (outcomeOf (d .result)) (d .ensures .0) i (c .before .before .before .before .loop-test .taken) in
+    let v = r .domained (suc i) (omega arith) (omega (arith, c .before .before .before .before .loop-test .taken)) in (
+      record { first = omega arith; last = omega (arith, few (c .before .before .before .before)); some = v .0; few = v .1 },
+      λ j l u e. let q = linked-pair p (i + 1) j (rw (c .informs .ensures p refl) at e) in (q .1, q .2),
+    )
+
+-- its step is the definition's, and those it informs are below
+begins : (c : tie.After-begin Inv-loop2 μ-loop2 Inv-loop μ-loop)
+    → BeginsAs (c .begin .result)
+    (begun (problemOf (c .before .before .before .before .before .before .before .before .before .before .before .decode .result .problem)) (suc (c .before .before .before .before .before .before .loop .i)))
+unfolding ownOf selfOf problemOf domain
+begins c =
+    let p = problemOf (c .before .before .before .before .before .before .before .before .before .before .before .decode .result .problem) in
+    let i = c .before .before .before .before .before .before .loop .i in
+    begun-by p (suc i) _ _ _ _ (c .begin .ensures (bansOf p (suc i))) (rw add-one refl)
+    (rw add-one at (c .before .before .before .listens .ensures p refl)) (rw add-one at (c .before .informs .ensures p refl))
+
+below : (c : tie.After-begin Inv-loop2 μ-loop2 Inv-loop μ-loop) (j : ℕ) → members (c .begin .result .informs) j ≡ true
+    → (suc (c .before .before .before .before .before .before .loop .i) < j) × (j ≤ 12)
+unfolding problemOf outcomeOf
+below c =
+    let d = c .before .before .before .before .before .before .before .before .before .before .before .decode in
+    let i = c .before .before .before .before .before .before .loop .i in
+    let t = c .before .before .before .before .before .loop-test .taken in
+    informs-below (problemOf (d .result .problem)) (suc i) _ (problem-ranged _ (outcomeOf (d .result)) (d .ensures .0) i t) (omega arith) t (begins c)
+
+mul-agent : tie.Need-mul-agent Inv-loop2 μ-loop2 Inv-loop μ-loop
+mul-agent c = omega (arith, few (c .before .before .before .before .before))
+
+element-set-from-agent : tie.Need-element-set-from-agent Inv-loop2 μ-loop2 Inv-loop μ-loop
+element-set-from-agent c = few (c .before .before .before .before .before)
+
+loop2-holds : tie.Need-loop2-holds Inv-loop2 μ-loop2 Inv-loop μ-loop
+loop2-holds c = telling-begins _ _ _ _ (c .before .before .before .before .before .before .loop .inv .1 .places)
+
+first-requires : tie.Need-first-requires Inv-loop2 μ-loop2 Inv-loop μ-loop
+first-requires c κs = omega arith
+
+-- the receiver of the next Info
+informed : (c : tie.After-first Inv-loop2 μ-loop2 Inv-loop μ-loop) → isChannel (c .before .before .before .before .before .before .before .before .before .loop .i + 1) (c .first .result) ≡ true
+informed c =
+    let k = c .first .result in
+    rw add-one (told-channel _ k (few (c .before .before .before .before .before .before .before .before)) (below (c .before .before .before) k (c .before .before .loop2 .inv .left k (c .first .ensures .1))))
+
+channel-at-requires : tie.Need-channel-at-requires Inv-loop2 μ-loop2 Inv-loop μ-loop
+channel-at-requires c κs = informed c
+
+place-at-requires : tie.Need-place-at-requires Inv-loop2 μ-loop2 Inv-loop μ-loop
+place-at-requires c κs = (c .channel-at .ensures .1, omega arith, omega arith)
+
+mul-t35 : tie.Need-mul-t35 Inv-loop2 μ-loop2 Inv-loop μ-loop
+mul-t35 c = omega (arith, c .place-at .ensures .1)
+
+element-set-from-r : tie.Need-element-set-from-r Inv-loop2 μ-loop2 Inv-loop μ-loop
+element-set-from-r c = c .place-at .ensures .1
+
+with-digit-requires : tie.Need-with-digit-requires Inv-loop2 μ-loop2 Inv-loop μ-loop
+with-digit-requires c κs = (c .before .before .first .ensures .2, c .before .before .first .ensures .3, omega arith)
+
+without-requires : tie.Need-without-requires Inv-loop2 μ-loop2 Inv-loop μ-loop
+without-requires c κs = let f = c .before .before .before .first .ensures in (f .2, f .3, f .1)
+
+loop2-less : tie.Need-loop2-less Inv-loop2 μ-loop2 Inv-loop μ-loop
+loop2-less c = c .without .ensures .1
+
+-- its place is the first of its channel
+placed : (c : tie.After-place-at Inv-loop2 μ-loop2 Inv-loop μ-loop)
+    → c .place-at .result ≡ 8 * channelAt (c .before .before .before .before .before .before .before .before .before .before .before .loop .i + 1) (c .before .before .first .result)
+placed c = omega (arith, c .place-at .ensures .0, c .before .channel-at .ensures .0)
+
+loop2-again : tie.Need-loop2-again Inv-loop2 μ-loop2 Inv-loop μ-loop
+unfolding placeOf messageOf
+loop2-again c =
+    let f = c .before .before .before .before in
+    let h = f .before .before .loop2 in
+    telling-goes _ _ _ _ (h .r) _ _ (f .first .result) _ _ _ _ (h .inv) (informed f) (f .first .ensures .1)
+    (c .before .with-digit .ensures) (c .without .ensures .0) (placed (c .before .before)) refl
+
+mul-r : tie.Need-mul-r Inv-loop2 μ-loop2 Inv-loop μ-loop
+mul-r c = omega (arith, few (c .before .before .before .before .before .before .before))
+
+element-write-r : tie.Need-element-write-r Inv-loop2 μ-loop2 Inv-loop μ-loop
+element-write-r c = few (c .before .before .before .before .before .before .before)
+
+loop-less : tie.Need-loop-less Inv-loop2 μ-loop2 Inv-loop μ-loop
+loop-less c = search needs
+
+loop-again : tie.Need-loop-again Inv-loop2 μ-loop2 Inv-loop μ-loop
+unfolding problemOf
+loop-again c =
+    let t = c .before .before in
+    let h = t .before .before .before .before .before .before .loop in (
+      omega arith,
+      rw add-one
+          (one-more _ (h .i) _ (h .inv .1) (few (t .before .before .before .before .before)) (t .begin .result) (begins t) (below t) _ _ _
+          (rw add-one at (c .before .loop2 .inv)) (omega arith)),
+      λ e. absurd (omega arith),
+    )
+
+returns : tie.Need-returns Inv-loop2 μ-loop2 Inv-loop μ-loop
+unfolding problemOf outcomeOf railOf emptyRail emptyProblem noBans maxAgents maxPairs
 returns c =
-    let d = c .before .before .before .decode in
-    let r = refused _ (outcomeOf (d .result)) (d .ensures .0) (c .before .if1 .taken) in
-    (r .0, c .empty .ensures ∙ r .1)
-
-start-problem-requires : tie.Need-start-problem-requires
-unfolding outcomeOf
-start-problem-requires c κs =
-    let d = c .before .before .decode in
-    problem-in-range _ (outcomeOf (d .result)) (d .ensures .0) (c .if1 .left)
-
-returns-2 : tie.Need-returns-2
-unfolding outcomeOf
-returns-2 c =
-    let d = c .before .before .before .decode in
-    let r = accepted _ (outcomeOf (d .result)) (d .ensures .0) (c .before .if1 .left) in
-    (r .0, c .start-problem .ensures ∙ r .1)
+    let d = c .before .before .before .before .before .before .decode in
+    let p = problemOf (d .result .problem) in
+    let h = c .before .loop in
+    let e : h .i ≡ p .count = omega arith in
+    record {
+      number = number-known _ (outcomeOf (d .result)) (d .ensures .0);
+      network = h .inv .1 .network ∙ ap (opened p) e ∙ all-opened p ∙ network-known _ (outcomeOf (d .result)) (d .ensures .0);
+      refused = λ n.
+          let q = refused-empty _ (outcomeOf (d .result)) (d .ensures .0) n in
+          h .inv .2 (e ∙ ap (λ (x : Problem). x .count) q)
+          ∙ c .before .before .rail-of .ensures
+          ∙ ap (λ (x : Problem). railOf (x .count) (x .domains) (x .bans)) q;
+    }
 
 pub start-spec : {M : Type 1} → statement M
 start-spec =
-    tie.close (tie.spec decode-requires empty-requires returns start-problem-requires returns-2)
+    tie.close
+    (tie.spec
+    Inv-loop2
+    μ-loop2
+    Inv-loop
+    μ-loop
+    decode-requires
+    rail-of-requires
+    loop-holds
+    cast-at
+    add-i
+    array-read-t22
+    listens-requires
+    informs-requires
+    begin-requires
+    mul-agent
+    element-set-from-agent
+    loop2-holds
+    first-requires
+    channel-at-requires
+    place-at-requires
+    mul-t35
+    element-set-from-r
+    with-digit-requires
+    without-requires
+    loop2-less
+    loop2-again
+    mul-r
+    element-write-r
+    loop-less
+    loop-again
+    returns)

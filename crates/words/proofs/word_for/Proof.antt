@@ -4,7 +4,7 @@ use native.Mathlib.Omega.{arith}
 use borrow.Enum.Known.{lives-at}
 use Rattle.protocol.specs.Run.{endingWord}
 use Rattle.run.specs.declared.Ending.the-variants.{None, Plan, Jammed, Faulty, Open, Broken}
-use Rattle.run.specs.Abstract.{endingOf}
+use Rattle.run.specs.Answers.{endingOf}
 use Rattle.run.proofs.Ending as E
 use borrow.Author.Needs.{needs}
 use Rattle.words.proofs.word_for.Statement.{statement}

@@ -1,16 +1,9 @@
--- `barred_at` is what one agent bars.
--- One byte of its word, and none for an unknown value.
-use borrow.Author.Needs.{needs}
-use native.Mathlib.Omega.{arith}
+-- `barred_at` is one byte of a word of bans.
+use mathlib.Core.Path.{refl}
 use Rattle.agent.specs.Parts.{barredAt}
-use Rattle.agent_rules.specs.Message.{known}
-use Rattle.packed.proofs.Known.{known-from}
+use borrow.Author.Needs.{needs}
 use Rattle.agent.proofs.barring.barred_at.Statement.{statement}
 use Rattle.agent.proofs.barring.barred_at.Tie as tie
-
-returns : tie.Need-returns
-unfolding barredAt known
-returns c = rw (c .if1 .taken)
 
 sub-result : tie.Need-sub-result
 sub-result c = search needs
@@ -27,11 +20,10 @@ shr-result c = search needs
 cast-result-2 : tie.Need-cast-result-2
 cast-result-2 c = search needs
 
-returns-2 : tie.Need-returns-2
+returns : tie.Need-returns
 unfolding barredAt
-returns-2 c = rw (known-from (c .before .args .v) (omega arith))
+returns c = refl
 
 pub barred-at-spec : {M : Type 1} → statement M
 barred-at-spec =
-    tie.close
-    (tie.spec returns sub-result mul-result cast-result shr-result cast-result-2 returns-2)
+    tie.close (tie.spec sub-result mul-result cast-result shr-result cast-result-2 returns)

@@ -1,24 +1,16 @@
--- Owned; else none, under a verdict.
-use borrow.Author.Needs.{needs}
+-- `holds_value` is the clause on an agent's value.
+-- None, or an owned one.
 use mathlib.Core.Path.{sym, _∙_}
-use Rattle.protocol.specs.Shape.{holdsValue}
+use borrow.Author.Tests.{eq-eqb, ne-eqb}
+use Rattle.network.proofs.Clauses.{value-is}
 use Rattle.network.proofs.agents.holds_value.Statement.{statement}
 use Rattle.network.proofs.agents.holds_value.Tie as tie
 
-owned-requires : tie.Need-owned-requires
-owned-requires c κs = search needs
-
 returns : tie.Need-returns
-unfolding holdsValue
-returns c = λ w d e h. rw (h, sym (c .before .owned .ensures (w .problem) e) ∙ c .if1 .taken)
+returns c = λ w i v e f. sym (value-is w i (c .before .args .d) (c .before .args .value) e f ∙ rw (eq-eqb (c .before .args .value) 0 (c .if1 .taken)) v)
 
 returns-2 : tie.Need-returns-2
-unfolding holdsValue
-returns-2 c = λ w d e h. rw (h, sym (c .before .before .owned .ensures (w .problem) e) ∙ c .before .if1 .left, d, c .if2 .taken)
-
-returns-3 : tie.Need-returns-3
-unfolding holdsValue
-returns-3 c = λ w d e h. rw (h, sym (c .before .before .owned .ensures (w .problem) e) ∙ c .before .if1 .left, d, c .if2 .left)
+returns-2 c = λ w i v e f. sym (value-is w i (c .before .args .d) (c .before .args .value) e f ∙ rw (ne-eqb (c .before .args .value) 0 (c .if1 .left)))
 
 pub holds-value-spec : {M : Type 1} → statement M
-holds-value-spec = tie.close (tie.spec owned-requires returns returns-2 returns-3)
+holds-value-spec = tie.close (tie.spec returns returns-2)

@@ -1,3 +1,4 @@
+-- `nogoods_fit` is the clause on an agent's nogoods.
 -- From value 8 down. The invariant: what is asked of all values is asked of those left.
 use borrow.Author.Needs.{needs}
 use Prim.Native.Nat.{ℕ, _-_, _≤_}
@@ -8,7 +9,6 @@ use borrow.Author.Tests.{not-true, not-false}
 use Rattle.base.specs.Finite.{allTo}
 use Rattle.base.proofs.Loops.{allTo-goes, allTo-fails}
 use Rattle.base.proofs.Peeling.{allTo-over}
-use Rattle.agent.specs.Abstract.{assigned}
 use Rattle.agent.specs.declared.Agent.{Agent}
 use Rattle.network.proofs.Clauses.{storedFits, nogoods-is, stored-out, stored-seen, unstored}
 use Rattle.network.proofs.agents.nogoods_fit.Statement.{statement}
@@ -34,68 +34,56 @@ shr-if1 c = search needs
 
 returns : tie.Need-returns Inv-loop μ-loop
 returns c =
-    let args = c .before .before .before .before .before .args in
-    let loop = c .before .before .before .loop in
     λ w i e f.
-    sym (nogoods-is w i (args .d) (args .t2) e f
-    ∙ loop .inv .1
-    ∙ allTo-fails (loop .v) (fitsAt (args .d) (args .t2)) (c .before .before .loop-test .taken) (stored-out (args .d) (args .t2) (loop .v - 1) (c .before .if1 .taken) (c .if2 .taken)))
+    sym (nogoods-is w i (c .before .before .before .before .before .args .d) (c .before .before .before .before .before .args .t2) e f
+    ∙ c .before .before .before .loop .inv .1
+    ∙ allTo-fails (c .before .before .before .loop .v) (fitsAt (c .before .before .before .before .before .args .d) (c .before .before .before .before .before .args .t2)) (c .before .before .loop-test .taken) (stored-out (c .before .before .before .before .before .args .d) (c .before .before .before .before .before .args .t2) (c .before .before .before .loop .v - 1) (c .before .if1 .taken) (c .if2 .taken)))
 
-cast-t12 : tie.Need-cast-t12 Inv-loop μ-loop
-cast-t12 c = search needs
+cast-within : tie.Need-cast-within Inv-loop μ-loop
+cast-within c = search needs
 
-mul-t13 : tie.Need-mul-t13 Inv-loop μ-loop
-mul-t13 c = search needs
+mul-within : tie.Need-mul-within Inv-loop μ-loop
+mul-within c = search needs
 
-element-copy-out-t16 : tie.Need-element-copy-out-t16 Inv-loop μ-loop
-element-copy-out-t16 c = search needs
+element-copy-out-within : tie.Need-element-copy-out-within Inv-loop μ-loop
+element-copy-out-within c = search needs
 
-seen-requires : tie.Need-seen-requires Inv-loop μ-loop
-seen-requires c κs = search needs
+within-requires : tie.Need-within-requires Inv-loop μ-loop
+within-requires c κs = search needs
 
 returns-2 : tie.Need-returns-2 Inv-loop μ-loop
-unfolding assigned
 returns-2 c =
-    let args = c .before .before .before .before .before .before .before .before .args in
-    let loop = c .before .before .before .before .before .before .loop in
     λ w i e f.
-    sym (nogoods-is w i (args .d) (args .t2) e f
-    ∙ loop .inv .1
-    ∙ allTo-fails (loop .v) (fitsAt (args .d) (args .t2)) (c .before .before .before .before .before .loop-test .taken)
-    (stored-seen (args .d) (args .t2) (loop .v - 1) (c .before .before .before .before .if1 .taken) (c .before .before .before .if2 .left) ∙ sym (c .before .seen .ensures) ∙ not-true _ (c .if3 .taken)))
+    sym (nogoods-is w i (c .before .before .before .before .before .before .before .before .args .d) (c .before .before .before .before .before .before .before .before .args .t2) e f
+    ∙ c .before .before .before .before .before .before .loop .inv .1
+    ∙ allTo-fails (c .before .before .before .before .before .before .loop .v) (fitsAt (c .before .before .before .before .before .before .before .before .args .d) (c .before .before .before .before .before .before .before .before .args .t2)) (c .before .before .before .before .before .loop-test .taken)
+    (stored-seen (c .before .before .before .before .before .before .before .before .args .d) (c .before .before .before .before .before .before .before .before .args .t2) (c .before .before .before .before .before .before .loop .v - 1) (c .before .before .before .before .if1 .taken) (c .before .before .before .if2 .left) ∙ sym (c .before .within .ensures) ∙ not-true _ (c .if3 .taken)))
 
 loop-less : tie.Need-loop-less Inv-loop μ-loop
 loop-less c = search needs
 
 loop-again : tie.Need-loop-again Inv-loop μ-loop
-unfolding assigned
-loop-again c =
-    let args = c .before .before .before .before .before .before .before .before .args in
-    let loop = c .before .before .before .before .before .before .loop in (
-      omega arith,
-      loop .inv .1
-          ∙ allTo-goes (loop .v) (fitsAt (args .d) (args .t2)) (c .before .before .before .before .before .loop-test .taken)
-          (stored-seen (args .d) (args .t2) (loop .v - 1) (c .before .before .before .before .if1 .taken) (c .before .before .before .if2 .left) ∙ sym (c .before .seen .ensures) ∙ not-false _ (c .if3 .left)),
-    )
+loop-again c = (
+  omega arith,
+  c .before .before .before .before .before .before .loop .inv .1
+      ∙ allTo-goes (c .before .before .before .before .before .before .loop .v) (fitsAt (c .before .before .before .before .before .before .before .before .args .d) (c .before .before .before .before .before .before .before .before .args .t2)) (c .before .before .before .before .before .loop-test .taken)
+      (stored-seen (c .before .before .before .before .before .before .before .before .args .d) (c .before .before .before .before .before .before .before .before .args .t2) (c .before .before .before .before .before .before .loop .v - 1) (c .before .before .before .before .if1 .taken) (c .before .before .before .if2 .left) ∙ sym (c .before .within .ensures) ∙ not-false _ (c .if3 .left)),
+)
 
 loop-less-2 : tie.Need-loop-less-2 Inv-loop μ-loop
 loop-less-2 c = search needs
 
 loop-again-2 : tie.Need-loop-again-2 Inv-loop μ-loop
-loop-again-2 c =
-    let args = c .before .before .before .before .args in
-    let loop = c .before .before .loop in (
-      omega arith,
-      loop .inv .1
-          ∙ allTo-goes (loop .v) (fitsAt (args .d) (args .t2)) (c .before .loop-test .taken) (unstored (args .d) (args .t2) (loop .v - 1) (c .if1 .left)),
-    )
+loop-again-2 c = (
+  omega arith,
+  c .before .before .loop .inv .1
+      ∙ allTo-goes (c .before .before .loop .v) (fitsAt (c .before .before .before .before .args .d) (c .before .before .before .before .args .t2)) (c .before .loop-test .taken) (unstored (c .before .before .before .before .args .d) (c .before .before .before .before .args .t2) (c .before .before .loop .v - 1) (c .if1 .left)),
+)
 
 returns-3 : tie.Need-returns-3 Inv-loop μ-loop
 returns-3 c =
-    let args = c .before .before .before .args in
-    let loop = c .before .loop in
     λ w i e f.
-    sym (nogoods-is w i (args .d) (args .t2) e f ∙ loop .inv .1 ∙ allTo-over (loop .v) (fitsAt (args .d) (args .t2)) (omega arith))
+    sym (nogoods-is w i (c .before .before .before .args .d) (c .before .before .before .args .t2) e f ∙ c .before .loop .inv .1 ∙ allTo-over (c .before .loop .v) (fitsAt (c .before .before .before .args .d) (c .before .before .before .args .t2)) (omega arith))
 
 pub nogoods-fit-spec : {M : Type 1} → statement M
 nogoods-fit-spec =
@@ -107,10 +95,10 @@ nogoods-fit-spec =
     sub-v
     shr-if1
     returns
-    cast-t12
-    mul-t13
-    element-copy-out-t16
-    seen-requires
+    cast-within
+    mul-within
+    element-copy-out-within
+    within-requires
     returns-2
     loop-less
     loop-again

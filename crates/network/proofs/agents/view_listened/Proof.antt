@@ -1,113 +1,29 @@
--- Digit by digit, the lowest first. The invariant: what is asked of the view is asked of what is left of it.
+-- `view_listened` is the clause on an agent's view.
+-- The values against the domains, and the agents named against those listened to.
 use borrow.Author.Needs.{needs}
-use Prim.Native.Nat.{ℕ, _+_, _-_, _%_, _^_, _≤_, _<_}
-use mathlib.Core.Path.{_≡_, sym, _∙_}
-use mathlib.Core.Logic.{⊎-elim}
-use mathlib.Core.Bool.{Bool, true, false, not, _&&_, _||_, and-false}
+use mathlib.Core.Path.{sym, _∙_}
 use native.Mathlib.Omega.{arith}
-use borrow.Author.Tests.{not-true, not-false}
-use Rattle.base.proofs.Peeling.{all-true, one-off}
-use Rattle.problem.specs.Problem.{Problem, owns}
-use Rattle.agent_rules.specs.Message.{known}
-use Rattle.protocol.specs.Shape.{eachNamed}
-use Rattle.packed.specs.Packed.{assignment, members}
 use Rattle.agent.specs.Abstract.{assigned}
-use Rattle.network.proofs.Words.{named-start, named-go, named-stop, named-over, unnamed, passed}
-use Rattle.network.proofs.Clauses.{view-is}
+use Rattle.network.proofs.Clauses.{view-is, names-in}
 use Rattle.network.proofs.agents.view_listened.Statement.{statement}
 use Rattle.network.proofs.agents.view_listened.Tie as tie
 
-abbrev fits : ℕ → Problem → ℕ → ℕ → Bool
-fits listens p k v = members listens k && owns p k v
+at-most-requires : tie.Need-at-most-requires
+at-most-requires c κs = search needs
 
-abbrev Inv-loop : tie.InvT-loop
-Inv-loop domains listens rest₀ k₀ rest k =
-    (k ≤ 16)
-    × (rest < 16 ^ (16 - k))
-    × ((p : Problem) → p .domains ≡ domains
-    → eachNamed (assignment rest₀) (fits listens p) ≡ eachNamed (assignment rest) (λ j v. fits listens p (k + j) v))
+names-requires : tie.Need-names-requires
+names-requires c κs = search needs
 
-abbrev μ-loop : tie.MeasureT-loop
-μ-loop domains listens rest₀ k₀ rest k = rest
-
-loop-holds : tie.Need-loop-holds Inv-loop μ-loop
-loop-holds c = (omega arith, search needs, λ p e. named-start (fits (c .args .listens) p) _)
-
-add-k : tie.Need-add-k Inv-loop μ-loop
-add-k c = search needs
-
-cast-v : tie.Need-cast-v Inv-loop μ-loop
-cast-v c = search needs
-
-has-requires : tie.Need-has-requires Inv-loop μ-loop
-has-requires c κs =
-    let loop = c .before .before .loop in
-    let o = one-off 16 16 (loop .k) (loop .rest) (omega arith) (loop .inv .1) (c .before .loop-test .taken) in
-    (omega arith, omega arith)
-
-returns : tie.Need-returns Inv-loop μ-loop
+returns : tie.Need-returns
 unfolding assigned
 returns c =
-    let args = c .before .before .before .before .before .args in
-    let loop = c .before .before .before .before .loop in
-    let o = one-off 16 16 (loop .k) (loop .rest) (omega arith) (loop .inv .1) (c .before .before .before .loop-test .taken) in
-    let t : members (args .listens) (loop .k + 1) ≡ false = sym (c .before .has .ensures) ∙ not-true _ (c .if2 .taken) in
-    λ w i d l v.
-    sym (view-is w i (args .listens) _ l v
-    ∙ loop .inv .2 (w .problem) d
-    ∙ named-stop (fits (args .listens) (w .problem)) (loop .k) (loop .rest) (o .fits) (c .before .before .if1 .taken) (rw t))
+    λ w i o e f.
+    sym (view-is w i (c .before .before .before .args .domains) (c .before .before .before .args .listens) (c .before .before .before .args .view .digits) o e f
+    ∙ rw (← c .before .before .at-most .ensures, c .before .if1 .taken) (names-in (c .before .before .before .args .view .digits) (c .names .result) (c .before .before .before .args .listens) (c .names .ensures) (omega arith) (omega arith)))
 
-owned-requires : tie.Need-owned-requires Inv-loop μ-loop
-owned-requires c κs = search needs
-
-returns-2 : tie.Need-returns-2 Inv-loop μ-loop
+returns-2 : tie.Need-returns-2
 unfolding assigned
-returns-2 c =
-    let args = c .before .before .before .before .before .before .before .before .args in
-    let loop = c .before .before .before .before .before .before .before .loop in
-    let o = one-off 16 16 (loop .k) (loop .rest) (omega arith) (loop .inv .1) (c .before .before .before .before .before .before .loop-test .taken) in
-    λ w i d l v.
-    let t : owns (w .problem) (loop .k + 1) (loop .rest % 16) ≡ false = sym (c .before .owned .ensures (w .problem) d) ∙ not-true _ (c .if3 .taken) in
-    sym (view-is w i (args .listens) _ l v
-    ∙ loop .inv .2 (w .problem) d
-    ∙ named-stop (fits (args .listens) (w .problem)) (loop .k) (loop .rest) (o .fits) (c .before .before .before .before .before .if1 .taken) (rw (t, and-false)))
-
-loop-less : tie.Need-loop-less Inv-loop μ-loop
-loop-less c = omega arith
-
-loop-again : tie.Need-loop-again Inv-loop μ-loop
-loop-again c =
-    let args = c .before .before .before .args in
-    let loop = c .before .before .loop in
-    let o = one-off 16 16 (loop .k) (loop .rest) (omega arith) (loop .inv .1) (c .before .loop-test .taken) in
-    let t : (p : Problem) → p .domains ≡ args .domains .now
-    → not (known (loop .rest % 16)) || fits (args .listens) p (loop .k + 1) (loop .rest % 16) ≡ true =
-    λ p e. ⊎-elim
-    (λ a. passed (loop .rest % 16) (all-true (sym (a .1 .ensures) ∙ not-false _ (a .2 .left)) (sym (a .4 .ensures p e) ∙ not-false _ (a .5 .left))))
-    (λ a. unnamed (loop .rest % 16) (fits (args .listens) p (loop .k + 1) (loop .rest % 16)) (a .left))
-    (c .if1 .came) in
-    (omega (arith, o .fewer), o .rest, λ p e. loop .inv .2 p e ∙ named-go (fits (args .listens) p) (loop .k) (loop .rest) (o .fits) (t p e))
-
-returns-3 : tie.Need-returns-3 Inv-loop μ-loop
-unfolding assigned
-returns-3 c =
-    let loop = c .before .loop in
-    λ w i d l v.
-    sym (view-is w i (c .before .before .args .listens) _ l v ∙ loop .inv .2 (w .problem) d ∙ named-over _ (loop .rest) (c .loop-test .left))
+returns-2 c = λ w i o e f. c .if1 .left ∙ sym (view-is w i (c .before .before .args .domains) (c .before .before .args .listens) (c .before .before .args .view .digits) o e f ∙ rw (← c .before .at-most .ensures, c .if1 .left))
 
 pub view-listened-spec : {M : Type 1} → statement M
-view-listened-spec =
-    tie.close
-    (tie.spec
-    Inv-loop
-    μ-loop
-    loop-holds
-    add-k
-    cast-v
-    has-requires
-    returns
-    owned-requires
-    returns-2
-    loop-less
-    loop-again
-    returns-3)
+view-listened-spec = tie.close (tie.spec at-most-requires names-requires returns returns-2)

@@ -1,3 +1,4 @@
+-- `message_fits` is the shape of a message.
 -- Sort by sort: its direction, the value, who listens to whom, the left side.
 use borrow.Author.Needs.{needs}
 use Prim.Native.Nat.{ℕ}
@@ -8,6 +9,7 @@ use Rattle.problem.specs.Problem.{owns}
 use Rattle.protocol.specs.Shape.{lhsFits, messageFits}
 use Rattle.packed.specs.Packed.{assignment}
 use Rattle.agent.specs.Abstract.{assigned, messageOf}
+use Rattle.network.proofs.Words.{set-at}
 use Rattle.network.proofs.channels.message_fits.Statement.{statement}
 use Rattle.network.proofs.channels.message_fits.Tie as tie
 
@@ -16,10 +18,7 @@ enum-known-m c = search needs
 
 returns : tie.Need-returns
 unfolding messageFits messageOf
-returns c =
-    let args = c .before .before .before .before .args in
-    λ w d l.
-    rw (c .before .before .m .given .1, le-ltb (args .i) (args .j) (c .if1 .taken))
+returns c = λ w d l. rw (c .before .before .m .given .1, le-ltb (c .before .before .before .before .args .i) (c .before .before .before .before .args .j) (c .if1 .taken))
 
 owned-requires : tie.Need-owned-requires
 owned-requires c κs = search needs
@@ -27,23 +26,28 @@ owned-requires c κs = search needs
 returns-2 : tie.Need-returns-2
 unfolding messageFits messageOf
 returns-2 c =
-    let args = c .before .before .before .before .before .before .before .args in
     λ w d l.
-    let a : owns (w .problem) (args .i) _ ≡ false = sym (c .before .owned .ensures (w .problem) d) ∙ not-true _ (c .if2 .taken) in
-    rw (c .before .before .before .before .before .m .given .1, lt-ltb (args .i) (args .j) (c .before .before .before .if1 .left), a)
+    let owned : owns (w .problem) (c .before .before .before .before .before .before .args .i) _ ≡ false = sym (c .before .owned .ensures (w .problem) d) ∙ not-true _ (c .if2 .taken) in
+    rw (c .before .before .before .before .m .given .1, lt-ltb (c .before .before .before .before .before .before .args .i) (c .before .before .before .before .before .before .args .j) (c .before .before .if1 .left), owned)
 
-has-at-requires : tie.Need-has-at-requires
-has-at-requires c κs = search needs
+sub-has : tie.Need-sub-has
+sub-has c = search needs
+
+mul-has : tie.Need-mul-has
+mul-has c = search needs
+
+element-copy-out-has : tie.Need-element-copy-out-has
+element-copy-out-has c = search needs
+
+has-requires : tie.Need-has-requires
+has-requires c κs = search needs
 
 enum-known-m-2 : tie.Need-enum-known-m-2
 enum-known-m-2 c = search needs
 
 returns-3 : tie.Need-returns-3
 unfolding messageFits messageOf
-returns-3 c =
-    let args = c .before .before .before .before .args in
-    λ w d l.
-    rw (c .before .before .m2 .given .1, le-ltb (args .j) (args .i) (c .if3 .taken))
+returns-3 c = λ w d l. rw (c .before .before .m2 .given .1, le-ltb (c .before .before .before .before .args .j) (c .before .before .before .before .args .i) (c .if3 .taken))
 
 owned-requires-2 : tie.Need-owned-requires-2
 owned-requires-2 c κs = search needs
@@ -51,22 +55,29 @@ owned-requires-2 c κs = search needs
 returns-4 : tie.Need-returns-4
 unfolding messageFits messageOf
 returns-4 c =
-    let args = c .before .before .before .before .before .before .before .args in
     λ w d l.
-    let a : owns (w .problem) (args .j) _ ≡ false = sym (c .before .owned2 .ensures (w .problem) d) ∙ not-true _ (c .if4 .taken) in
-    rw (c .before .before .before .before .before .m2 .given .1, lt-ltb (args .j) (args .i) (c .before .before .before .if3 .left), a)
+    let owned : owns (w .problem) (c .before .before .before .before .before .before .args .j) _ ≡ false = sym (c .before .owned2 .ensures (w .problem) d) ∙ not-true _ (c .if4 .taken) in
+    rw (c .before .before .before .before .m2 .given .1, lt-ltb (c .before .before .before .before .before .before .args .j) (c .before .before .before .before .before .before .args .i) (c .before .before .if3 .left), owned)
 
-has-at-requires-2 : tie.Need-has-at-requires-2
-has-at-requires-2 c κs = search needs
+sub-has-2 : tie.Need-sub-has-2
+sub-has-2 c = search needs
+
+mul-has-2 : tie.Need-mul-has-2
+mul-has-2 c = search needs
+
+element-copy-out-has-2 : tie.Need-element-copy-out-has-2
+element-copy-out-has-2 c = search needs
+
+has-requires-2 : tie.Need-has-requires-2
+has-requires-2 c κs = search needs
 
 returns-5 : tie.Need-returns-5
 unfolding messageFits messageOf
 returns-5 c =
-    let args = c .before .before .before .before .before .before .before .before .before .before .args in
     λ w d l.
-    let a : owns (w .problem) (args .j) _ ≡ true = sym (c .before .before .before .before .owned2 .ensures (w .problem) d) ∙ not-false _ (c .before .before .before .if4 .left) in
-    let b : w .agents (args .i) .listens (args .j) ≡ false = l (args .i) (args .j) ∙ sym (c .before .has-at2 .ensures) ∙ not-true _ (c .if5 .taken) in
-    rw (c .before .before .before .before .before .before .before .before .m2 .given .1, lt-ltb (args .j) (args .i) (c .before .before .before .before .before .before .if3 .left), a, b)
+    let owned : owns (w .problem) (c .before .before .before .before .before .before .before .before .before .args .j) _ ≡ true = sym (c .before .before .before .before .owned2 .ensures (w .problem) d) ∙ not-false _ (c .before .before .before .if4 .left) in
+    let heard : w .agents (c .before .before .before .before .before .before .before .before .before .args .i) .listens (c .before .before .before .before .before .before .before .before .before .args .j) ≡ false = l (c .before .before .before .before .before .before .before .before .before .args .i) (c .before .before .before .before .before .before .before .before .before .args .j) ∙ set-at _ (c .before .before .before .before .before .before .before .before .before .args .i) (c .before .before .before .before .before .before .before .before .before .args .j) (c .before .before .before .before .before .before .before .before .before .pre .0) ∙ sym (c .before .has2 .ensures) ∙ not-true _ (c .if5 .taken) in
+    rw (c .before .before .before .before .before .before .before .m2 .given .1, lt-ltb (c .before .before .before .before .before .before .before .before .before .args .j) (c .before .before .before .before .before .before .before .before .before .args .i) (c .before .before .before .before .before .if3 .left), owned, heard)
 
 unpack-requires : tie.Need-unpack-requires
 unpack-requires c κs = search needs
@@ -79,38 +90,41 @@ enum-told c = search needs
 
 returns-6 : tie.Need-returns-6
 unfolding messageFits messageOf
-returns-6 c =
-    let args = c .before .before .before .args in
-    λ w d l.
-    rw (c .before .enum-told .given .1, le-ltb (args .j) (args .i) (c .if6 .taken))
+returns-6 c = λ w d l. rw (c .before .enum-told .given .1, le-ltb (c .before .before .before .args .j) (c .before .before .before .args .i) (c .if6 .taken))
 
-has-at-requires-3 : tie.Need-has-at-requires-3
-has-at-requires-3 c κs = search needs
+sub-has-3 : tie.Need-sub-has-3
+sub-has-3 c = search needs
+
+mul-has-3 : tie.Need-mul-has-3
+mul-has-3 c = search needs
+
+element-copy-out-has-3 : tie.Need-element-copy-out-has-3
+element-copy-out-has-3 c = search needs
+
+has-requires-3 : tie.Need-has-requires-3
+has-requires-3 c κs = search needs
 
 returns-7 : tie.Need-returns-7
 unfolding messageFits messageOf
 returns-7 c =
-    let args = c .before .before .before .before .before .before .before .before .before .args in
     λ w d l.
-    let a : owns (w .problem) (args .i) _ ≡ true = sym (c .before .before .before .owned .ensures (w .problem) d) ∙ not-false _ (c .before .before .if2 .left) in
-    rw (c .before .before .before .before .before .before .before .m .given .1, lt-ltb (args .i) (args .j) (c .before .before .before .before .before .if1 .left), a, l (args .j) (args .i)) (c .has-at .ensures)
+    let owned : owns (w .problem) (c .before .before .before .before .before .before .before .before .args .i) _ ≡ true = sym (c .before .before .before .owned .ensures (w .problem) d) ∙ not-false _ (c .before .before .if2 .left) in
+    rw (c .before .before .before .before .before .before .m .given .1, lt-ltb (c .before .before .before .before .before .before .before .before .args .i) (c .before .before .before .before .before .before .before .before .args .j) (c .before .before .before .before .if1 .left), owned, l (c .before .before .before .before .before .before .before .before .args .j) (c .before .before .before .before .before .before .before .before .args .i), set-at _ (c .before .before .before .before .before .before .before .before .args .j) (c .before .before .before .before .before .before .before .before .args .i) (c .before .before .before .before .before .before .before .before .pre .2)) (c .has .ensures)
 
 returns-8 : tie.Need-returns-8
 unfolding messageFits messageOf assigned
 returns-8 c =
-    let args = c .before .before .before .before .before .before .before .before .before .before .before .before .args in
     λ w d l.
-    let a : owns (w .problem) (args .j) _ ≡ true = sym (c .before .before .before .before .before .before .owned2 .ensures (w .problem) d) ∙ not-false _ (c .before .before .before .before .before .if4 .left) in
-    let b : w .agents (args .i) .listens (args .j) ≡ true = l (args .i) (args .j) ∙ sym (c .before .before .before .has-at2 .ensures) ∙ not-false _ (c .before .before .if5 .left) in
-    rw (c .before .before .before .before .before .before .before .before .before .before .m2 .given .1, lt-ltb (args .j) (args .i) (c .before .before .before .before .before .before .before .before .if3 .left), a, b)
-    (c .lhs-fits .ensures (w .problem) d ∙ ap (λ (x : ℕ). lhsFits (w .problem) (args .j) (assignment x)) (c .before .unpack .ensures))
+    let owned : owns (w .problem) (c .before .before .before .before .before .before .before .before .before .before .before .args .j) _ ≡ true = sym (c .before .before .before .before .before .before .owned2 .ensures (w .problem) d) ∙ not-false _ (c .before .before .before .before .before .if4 .left) in
+    let heard : w .agents (c .before .before .before .before .before .before .before .before .before .before .before .args .i) .listens (c .before .before .before .before .before .before .before .before .before .before .before .args .j) ≡ true = l (c .before .before .before .before .before .before .before .before .before .before .before .args .i) (c .before .before .before .before .before .before .before .before .before .before .before .args .j) ∙ set-at _ (c .before .before .before .before .before .before .before .before .before .before .before .args .i) (c .before .before .before .before .before .before .before .before .before .before .before .args .j) (c .before .before .before .before .before .before .before .before .before .before .before .pre .0) ∙ sym (c .before .before .before .has2 .ensures) ∙ not-false _ (c .before .before .if5 .left) in
+    rw (c .before .before .before .before .before .before .before .before .before .m2 .given .1, lt-ltb (c .before .before .before .before .before .before .before .before .before .before .before .args .j) (c .before .before .before .before .before .before .before .before .before .before .before .args .i) (c .before .before .before .before .before .before .before .if3 .left), owned, heard)
+    (c .lhs-fits .ensures (w .problem) d ∙ ap (λ (x : ℕ). lhsFits (w .problem) (c .before .before .before .before .before .before .before .before .before .before .before .args .j) (assignment x)) (c .before .unpack .ensures))
 
 returns-9 : tie.Need-returns-9
 unfolding messageFits messageOf
 returns-9 c =
-    let args = c .before .before .before .before .before .args in
     λ w d l.
-    rw (c .before .before .before .enum-told .given .1, lt-ltb (args .j) (args .i) (c .before .before .if6 .left), l (args .i) (args .j)) (c .has-at3 .ensures)
+    rw (c .before .before .before .enum-told .given .1, lt-ltb (c .before .before .before .before .before .args .j) (c .before .before .before .before .before .args .i) (c .before .before .if6 .left), l (c .before .before .before .before .before .args .i) (c .before .before .before .before .before .args .j), set-at _ (c .before .before .before .before .before .args .i) (c .before .before .before .before .before .args .j) (c .before .before .before .before .before .pre .0)) (c .has3 .ensures)
 
 pub message-fits-spec : {M : Type 1} → statement M
 message-fits-spec =
@@ -120,18 +134,27 @@ message-fits-spec =
     returns
     owned-requires
     returns-2
-    has-at-requires
+    sub-has
+    mul-has
+    element-copy-out-has
+    has-requires
     enum-known-m-2
     returns-3
     owned-requires-2
     returns-4
-    has-at-requires-2
+    sub-has-2
+    mul-has-2
+    element-copy-out-has-2
+    has-requires-2
     returns-5
     unpack-requires
     lhs-fits-requires
     enum-told
     returns-6
-    has-at-requires-3
+    sub-has-3
+    mul-has-3
+    element-copy-out-has-3
+    has-requires-3
     returns-7
     returns-8
     returns-9)

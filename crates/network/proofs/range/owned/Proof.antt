@@ -1,37 +1,22 @@
--- No agent 0, none beyond the last, no value 0; else the domain decides.
+-- `owned` is whether an agent owns a value.
+-- A digit of the domains' word.
 use borrow.Author.Needs.{needs}
-use mathlib.Core.Path.{sym}
-use native.Mathlib.Omega.{arith}
-use Rattle.network.proofs.Ranges.{owns-nobody, owns-beyond, owns-nothing, owns-at}
+use borrow.Author.Tests.{lt-ltb, le-ltb}
+use Rattle.problem.specs.Problem.{owns}
+use Rattle.base.specs.Finite.{within}
 use Rattle.network.proofs.range.owned.Statement.{statement}
 use Rattle.network.proofs.range.owned.Tie as tie
 
+digit-requires : tie.Need-digit-requires
+digit-requires c κs = search needs
+
 returns : tie.Need-returns
-returns c =
-    let args = c .before .args in
-    λ p e. sym (owns-nobody p (args .k) (args .v) (c .if1 .taken))
+unfolding owns within
+returns c = λ p o. rw (lt-ltb 0 (c .before .before .args .v) (c .before .if1 .taken), ← o (c .before .before .args .k), ← c .digit .ensures .0)
 
 returns-2 : tie.Need-returns-2
-returns-2 c =
-    let args = c .before .before .args in
-    λ p e. sym (owns-beyond p (args .domains .now) (args .k) (args .v) e (c .if2 .taken))
-
-returns-3 : tie.Need-returns-3
-returns-3 c =
-    let args = c .before .before .before .args in
-    λ p e. sym (owns-nothing p (args .k) (args .v) (c .if3 .taken))
-
-sub-result : tie.Need-sub-result
-sub-result c = search needs
-
-shared-slice-read-result : tie.Need-shared-slice-read-result
-shared-slice-read-result c = search needs
-
-returns-4 : tie.Need-returns-4
-returns-4 c =
-    let args = c .before .before .before .before .args in
-    λ p e. sym (owns-at p (args .domains .now) (args .k) (args .v) e (omega arith) (omega arith))
+unfolding owns within
+returns-2 c = λ p o. rw (le-ltb 0 (c .before .args .v) (c .if1 .left))
 
 pub owned-spec : {M : Type 1} → statement M
-owned-spec =
-    tie.close (tie.spec returns returns-2 returns-3 sub-result shared-slice-read-result returns-4)
+owned-spec = tie.close (tie.spec digit-requires returns returns-2)

@@ -1,0 +1,52 @@
+-- The first step: nothing is known, so nothing bars value 1, and it is taken and told.
+use mathlib.Core.Path.{_≡_, refl}
+use mathlib.Core.Bool.{Bool}
+use mathlib.Core.Option.{none, some}
+use Prim.Native.Nat.{ℕ, zero, suc, _≤_}
+use native.Mathlib.Omega.{arith}
+use Rattle.base.proofs.Tests.{opt, to-within}
+use Rattle.agent_rules.specs.Message.{nobody}
+use Rattle.agent_rules.specs.Agent.{Self, Bans, noNogoods, unusedAgent}
+use Rattle.agent_rules.specs.Choosing.{blame, blaming, reasonOf, reason, choose, choice, chosen, took, settle, checkView}
+use Rattle.agent_rules.specs.Receiving.{fresh, begin}
+use Rattle.agent_facts.specs.Facts.{Begun}
+use Rattle.agent_facts.proofs.Assignments.{unknown}
+use Rattle.agent_facts.proofs.Posts.{gets-one, gets-none, infos-get}
+use Rattle.agent_facts.proofs.Walk.{blame-some}
+
+-- an unknown view bars nothing
+blame-nobody : (s : Self) (bans : Bans) (v : ℕ) → blame s bans nobody v ≡ none
+unfolding nobody
+blame-nobody s bans v = opt (blame s bans nobody v) (λ e. e) (λ k e. unknown (blame-some s bans nobody v k e .0))
+
+module _ (s : Self) (bans : Bans) (listens informs : ℕ → Bool) where
+  choose-first : (d : ℕ) → 1 ≤ d → choose d 1 s bans nobody noNogoods ≡ record { value = some 1; nogoods = noNogoods }
+  unfolding choose reason reasonOf blaming noNogoods
+  choose-first zero l = absurd (omega arith)
+  choose-first (suc d) l =
+      let free : reason s bans nobody noNogoods 1 ≡ none = rw (blame-nobody s bans 1) in rw (free, choose)
+
+  first-choice : 1 ≤ s .domain → choice s bans (fresh listens informs) ≡ record { value = some 1; nogoods = noNogoods }
+  unfolding choice fresh unusedAgent
+  first-choice d = choose-first (s .domain) d
+
+  settle-first : (times : ℕ) → 1 ≤ times → 1 ≤ s .domain
+      → settle times s bans (fresh listens informs) ≡ took s (fresh listens informs) 1 noNogoods
+  unfolding settle
+  settle-first zero l d = absurd (omega arith)
+  settle-first (suc times) l d = rw (first-choice d, settle, first-choice d)
+
+  pub begin-facts : 1 ≤ s .number → 1 ≤ s .domain → Begun s listens informs (begin s bans listens informs)
+  unfolding begin checkView took chosen fresh unusedAgent nobody noNogoods
+  begin-facts l d =
+      rw (settle-first (s .number) l d)
+      record {
+        running = refl;
+        owned = to-within (s .domain) 1 (omega arith) d;
+        listened = refl;
+        informed = refl;
+        view = λ x. refl;
+        nogoods = λ v. refl;
+        tells = λ y low high i. gets-one (infos-get s (fresh listens informs) 1 y) (low, high) i;
+        silent = λ y i. gets-none (infos-get s (fresh listens informs) 1 y) (λ _. i);
+      }

@@ -1,0 +1,2 @@
+mod Giving
+mod Playing

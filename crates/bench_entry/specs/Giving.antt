@@ -1,0 +1,75 @@
+-- What the entries give: numbers made of what the definitions work out, all that is made of it in one number.
+use Prim.Native.Nat.{ℕ, zero, suc, _+_, _*_, _%_}
+use mathlib.Core.Path.{_≡_}
+use mathlib.Core.Bool.{true, false}
+use mathlib.Core.List.{List}
+use lib.Dec.{eqb}
+use lib.ListN.{length, getD}
+use Rattle.problem.specs.Sheet.{faultNumber, Decoded, Valid, Invalid}
+use Rattle.protocol.specs.Network.{Network, Started, startSheet}
+use Rattle.protocol.specs.Delivery.{answerNumber, Delivery, deliver, askValue}
+use Rattle.protocol.specs.Run.{Ending, None, Plan, Jammed, Faulty, Open, Broken, Ran, run}
+use Rattle.packed.specs.Packed.{assignment}
+
+-- ---- decoding: one word of the ban table, 0 beyond its last, or the number of the sheet's fault
+
+unfoldable pub wordFor : Decoded → ℕ → ℕ
+wordFor (Valid p) word = getD (p .bans) word 0
+wordFor (Invalid f) word = faultNumber f
+
+-- ---- the start: what waits on one sender's channels, digit j for receiver j, or the number of the sheet's fault. Senders are counted from 0.
+
+pub record WaitsFor (sheet : List ℕ) (sender r : ℕ) : Type 0 where
+  pub refused : (startSheet sheet .number ≡ 0 → ⊥) → r ≡ startSheet sheet .number
+  pub waits : startSheet sheet .number ≡ 0
+      → (j : ℕ) → assignment r j ≡ length (startSheet sheet .network .channel (suc sender) j)
+
+-- ---- a run
+
+unfoldable pub endingDigit : Ending → ℕ
+endingDigit None = 0
+endingDigit Plan = 1
+endingDigit Jammed = 2
+endingDigit Faulty = 3
+endingDigit Open = 4
+endingDigit Broken = 5
+
+-- the values of the agents 1 to k as digits in base 9, agent k lowest. A value is 8 at most, 0 for none.
+unfoldable pub valuesTo : ℕ → Network → ℕ
+valuesTo zero w = 0
+valuesTo (suc k) w = valuesTo k w * 9 + w .agents (suc k) .value % 9
+
+-- how it ended, in four bits; its full rounds, 1,000,000 at most, in twenty; and all values
+unfoldable pub ranFor : Ran → ℕ
+ranFor x = (valuesTo 12 (x .network) * 1048576 + x .made % 1048576) * 16 + endingDigit (x .ending)
+
+-- the run on a start, or 8 and the number of the sheet's fault
+unfoldable pub settledFor : Started → ℕ → ℕ
+settledFor s rounds = elim (eqb (s .number) 0) [ true ↦ ranFor (run rounds (s .network)) | false ↦ 8 + s .number ]
+
+-- ---- deliveries: a sum that each number answered is mixed into, and the network that they come to
+
+unfoldable pub mixed : ℕ → ℕ → ℕ
+mixed sum n = sum % 4294967296 * 31 + n
+
+pub record Played : Type 0 where
+  pub network : Network
+  pub sum : ℕ
+
+unfoldable pub playedOne : Played → Delivery → Played
+playedOne p d = record { network = d .network; sum = mixed (p .sum) (answerNumber (d .answer)) }
+
+-- the first k calls: sender and receiver, two bytes for each
+unfoldable pub playedTo : ℕ → Started → List ℕ → Played
+playedTo zero s calls = record { network = s .network; sum = s .number }
+playedTo (suc k) s calls =
+    playedOne (playedTo k s calls) (deliver (playedTo k s calls .network) (getD calls (2 * k) 0) (getD calls (2 * k + 1) 0))
+
+-- the values asked of the numbers 0 to k - 1, mixed in too
+unfoldable pub askedTo : ℕ → Network → ℕ → ℕ
+askedTo zero w sum = sum
+askedTo (suc k) w sum = mixed (askedTo k w sum) (askValue w k .value)
+
+-- all calls, and then every number that an agent can have, with one below
+unfoldable pub playedFor : Played → ℕ
+playedFor p = askedTo 13 (p .network) (p .sum)

@@ -1,2 +1,0 @@
-pub mod Abstract
-pub mod Parts

@@ -1,0 +1,1 @@
+// What a change of the arrays does to the network; no code.

@@ -1,0 +1,341 @@
+-- The engine's loop as it begins: nothing ahead where the shape is broken, where a delivery is rejected by its numbers, a verdict or an empty line, and
+-- before a run's first round; one line ahead where a delivery has found a message.
+use Prim.Native.Nat.{ℕ, zero, suc, _+_, _-_, _≤_}
+use mathlib.Core.Bool.{Bool, true, false, not, _&&_, _||_, false≢true}
+use mathlib.Core.Path.{_≡_, refl, sym, ap, _∙_}
+use mathlib.Core.Logic.{_≢_}
+use mathlib.Core.Option.{Option, none, some}
+use mathlib.Core.List.{List, [], _∷_}
+use native.Mathlib.Omega.{arith}
+use lib.Dec.{eqb}
+use lib.ListN.{length, getD, replicate}
+use borrow.Author.Tests.{eqb-true, eq-eqb, ne-eqb}
+use Rattle.base.specs.Finite.{at, fromOne, within, isSome, gather}
+use Rattle.base.proofs.Arrays.{getD-same}
+use Rattle.base.proofs.Gathers.{gather-one, gather-none}
+use Rattle.base.proofs.Search.{at-same, at-other}
+use Rattle.base.proofs.Tests.{test, to-within, both, to-both}
+use Rattle.problem.specs.Problem.{maxAgents}
+use Rattle.agent_rules.specs.Message.{Message as Message′, nobody}
+use Rattle.agent_rules.specs.Shape.{maxNamed}
+use Rattle.packed.specs.Packed.{assignment, members}
+use Rattle.packed.proofs.Digits.{nobody-assigned}
+use Rattle.packed.proofs.Sets.{no-members}
+use Rattle.agent.specs.declared.Bars.{Bars}
+use Rattle.protocol.specs.Network.{Network as Network′}
+use Rattle.protocol.specs.Shape.{inShape}
+use Rattle.protocol.specs.Delivery.{
+  Rejection,
+  BadShape,
+  BadNumbers,
+  VerdictStands,
+  EmptyChannel,
+  rejectionNumber,
+  Rejected,
+  Delivery,
+  rejecting,
+  numbersGood,
+  deliverHead,
+  deliver,
+}
+use Rattle.protocol.specs.Run.{Line, Sweep, beginRound, stopped, faultOf, tally, attempt, sweep, oneIf, isLine, Round, runFrom}
+use Rattle.shape_laws.proofs.ShapeClauses.{shaped}
+use Rattle.base.proofs.Counting.{countIf}
+use Rattle.shape_laws.proofs.RunFaults.{Supplied}
+use Rattle.network.specs.declared.Network.{Network}
+use Rattle.network.specs.Abstract.{isChannel, rowOf, problemOf, networkOf}
+use Rattle.network_laws.specs.Held.{heldAt, Clean}
+use Rattle.network_laws.proofs.Changes.{FullArrays, counted, counted-sized, counted-channel, channel-held}
+use Rattle.network_laws.proofs.Handing.{numbers-line}
+use Rattle.network_laws.proofs.Rejecting.{bad-shape, bad-numbers, stands, tries as finds}
+use Rattle.run.specs.Lines.{line, cell, row, ahead}
+use Rattle.run.specs.Working.{numberFor, isBroken, brokenBy, testedBy, Worked, stoppedWith, deliveredAs, ranAs, workBy}
+use Rattle.run.proofs.Ahead.{ahead-none}
+use Rattle.run.proofs.Resuming.{onward, further, tries}
+use Rattle.run.proofs.Testing.{Good, Tested, is-bad, is-over, is-empty, is-found, tests}
+use Rattle.run.proofs.Endings.{broken-five}
+use Rattle.run.proofs.Here.{sweepOf, stoppedAs, single, rounds, Live, Here}
+
+-- rows that hold what the counts hold, and nothing else
+pub record Rows (counts rows : List ℕ) : Type 0 where
+  pub width : length rows ≡ 12
+  pub held : (i j : ℕ) → rowOf rows i j ≡ heldAt counts i j
+
+-- how the work on r begins
+pub data Began (once : Bool) (i j : ℕ) (r o : Network) (n number from rest : ℕ) : Type 0 where
+  broken : inShape (networkOf r) ≡ false → o ≡ r → n ≡ 0 → number ≡ 5 → from ≡ 0 → rest ≡ 0 → Began once i j r o n number from rest
+  running : inShape (networkOf r) ≡ true → once ≡ false → (rows : List ℕ) → Rows (r .counts) rows → o ≡ counted r rows → n ≡ r .count
+      → number ≡ 0 → from ≡ r .count → rest ≡ 0 → Began once i j r o n number from rest
+  refused : inShape (networkOf r) ≡ true → once ≡ true → (rows : List ℕ) → Rows (r .counts) rows → o ≡ counted r rows → n ≡ r .count
+      → number ≡ testedBy (r .count) (r .verdict) rows i j → number ≢ 0 → from ≡ r .count → rest ≡ 0 → Began once i j r o n number from rest
+  found : inShape (networkOf r) ≡ true → once ≡ true → (rows : List ℕ) → Rows (r .counts) rows → o ≡ counted r rows → n ≡ r .count
+      → number ≡ testedBy (r .count) (r .verdict) rows i j → number ≡ 0 → from ≡ i
+      → assignment rest ≡ at (assignment 0) j (assignment 0 j + 1) → Began once i j r o n number from rest
+
+-- ---- clean rows
+
+module _ (r : Network) (rows : List ℕ) (h : Rows (r .counts) rows) where
+  held-if : (i j : ℕ) → isChannel i j ≡ true → rowOf rows i j ≡ rowOf (r .counts) i j
+  unfolding heldAt
+  held-if i j b = h .held i j ∙ rw (b, heldAt)
+
+  rows-clean : Clean rows
+  unfolding heldAt
+  rows-clean i j = test (isChannel i j) (λ b. rw (b, heldAt)) (λ b. h .held i j ∙ rw (b, heldAt))
+
+  rows-network : networkOf (counted r rows) ≡ networkOf r
+  unfolding networkOf problemOf
+  rows-network =
+      let e = counted-channel r rows (λ i j b. held-if i j b) in
+      λ k. record { problem = networkOf r .problem; verdict = r .verdict; agents = networkOf r .agents; channel = e k }
+
+pub began-network : {once : Bool} {i j : ℕ} {r o : Network} {n number from rest : ℕ} → Began once i j r o n number from rest → networkOf o ≡ networkOf r
+began-network (broken s e n k f z) = ap networkOf e
+began-network {r = r} (running s b rows h e n k f z) = ap networkOf e ∙ rows-network r rows h
+began-network {r = r} (refused s b rows h e n k d f z) = ap networkOf e ∙ rows-network r rows h
+began-network {r = r} (found s b rows h e n k d f z) = ap networkOf e ∙ rows-network r rows h
+
+pub began-untouched : {once : Bool} {i j : ℕ} {r o : Network} {n number from rest : ℕ} → Began once i j r o n number from rest → number ≡ 5 → o ≡ r
+began-untouched (broken s e n k f z) q = e
+began-untouched (running s b rows h e n k f z) q = absurd (omega arith)
+began-untouched {i = i} {j = j} {r = r} {o = o} {number = number} (refused s b rows h e n k d f z) q = go (tests _ _ _ i j number k)
+  where
+    go : Tested (r .count) (r .verdict) rows i j number → o ≡ r
+    go (is-bad g a) = absurd (omega arith)
+    go (is-over g v a) = absurd (omega arith)
+    go (is-empty g v x a) = absurd (omega arith)
+    go (is-found g v x a) = absurd (omega arith)
+began-untouched (found s b rows h e n k d f z) q = absurd (omega arith)
+
+-- ---- no bars are worked out, and no line has a quota
+
+abbrev zeros : List ℕ
+zeros = replicate 12 0
+
+zero-row : (x j : ℕ) → rowOf (replicate 12 0) x j ≡ 0
+unfolding rowOf fromOne nobody
+zero-row zero j = rw nobody-assigned
+zero-row (suc x) j = rw (getD-same {A = ℕ} 12 0 x, nobody-assigned)
+
+-- one line alone
+one-ahead : (n i j rest : ℕ) → 1 ≤ j → j ≤ 16 → assignment rest ≡ at (assignment 0) j (assignment 0 j + 1)
+    → ahead (replicate 12 0) n i rest ≡ line i j ∷ []
+unfolding nobody maxNamed
+one-ahead n i j rest lo hi e =
+    let one : assignment rest j ≡ 1 = rw (e, at-same (assignment 0) j (assignment 0 j + 1), nobody-assigned) in
+    let others : (k : ℕ) → k ≢ j → assignment rest k ≡ 0 = λ k d. rw (e, at-other (assignment 0) j (assignment 0 j + 1) k d, nobody-assigned) in
+    rw (gather-one 16 1 j (cell (assignment rest) i) lo (omega arith) (λ k d. ap (λ (v : ℕ). replicate v (line i k)) (others k d)), one, gather-none (n - i) (i + 1) (λ x. row (rowOf (replicate 12 0) x) x) (λ x l u. gather-none 16 1 (cell (rowOf (replicate 12 0) x) x) (λ y a b. ap (λ (v : ℕ). replicate v (line x y)) (zero-row x y))))
+
+-- ---- the loop begins
+
+module _ (once : Bool) (i j allowed : ℕ) (few : allowed ≤ 1000000) (bars : List Bars) (wide : length bars ≡ 12) where
+  -- nothing ahead, and the work is done
+  done : (whole : Worked) (o : Network) (n number from rest : ℕ) (going : Bool) (f : Option Rejection) → FullArrays o → n ≤ 12 → from ≡ n → rest ≡ 0
+      → number ≡ numberFor f → isSome f ≡ true → going ≡ false → (brokenBy f ≡ false → once ≡ true)
+      → (brokenBy f ≡ false → Live o n (o .domains) (o .bans) bars 0) → whole ≡ stoppedWith (networkOf o) f
+      → Here once whole o number o n (o .domains) (o .bans) bars 0 (replicate 12 0) true allowed 0 number going from rest
+  unfolding sweep countIf
+  done whole o n number from rest going f z hi ef er e t g b live w =
+      let none-ahead : ahead (replicate 12 0) n from rest ≡ [] = ahead-none (replicate 12 0) n from rest er (omega arith) in
+      let fault-stops : (v : Bool) → v || isSome f ≡ true = λ v. rw t (or-true v) in
+      record {
+        sized = z;
+        agents = hi;
+        high = omega arith;
+        few = omega arith;
+        fault = f;
+        numbered = e;
+        goes = g ∙ ap not (sym (fault-stops (o .verdict)));
+        live = live;
+        untouched = λ q. (refl, e ∙ broken-five f q);
+        quiet = λ _. none-ahead;
+        waited = 2;
+        delivered = 0;
+        tried = [];
+        most = rw none-ahead (omega arith);
+        missing = rw none-ahead;
+        supplied = rw none-ahead (record { lines = tt; enough = λ x y. omega arith });
+        end = stoppedAs;
+        kind = single b refl (λ q. absurd (false≢true (sym g ∙ q))) refl (λ t. refl);
+        same = rw none-ahead w;
+      }
+    where
+      or-true : (v : Bool) → v || true ≡ true
+      or-true true = refl
+      or-true false = refl
+
+  module _ (r : Network) (z : FullArrays r) (rows : List ℕ) (h : Rows (r .counts) rows) (s : inShape (networkOf r) ≡ true) where
+    abbrev o : Network
+    o = counted r rows
+
+    same-network : networkOf o ≡ networkOf r
+    same-network = rows-network r rows h
+
+    o-sized : FullArrays o
+    o-sized = counted-sized r rows z (h .width)
+
+    o-shape : inShape (networkOf o) ≡ true
+    o-shape = rw same-network s
+
+    o-few : r .count ≤ 12
+    unfolding networkOf problemOf maxAgents
+    o-few = shaped (networkOf r) s .range .high
+
+    o-live : Live o (r .count) (o .domains) (o .bans) bars 0
+    o-live =
+        record {
+          shape = o-shape;
+          count = refl;
+          clean = rows-clean r rows h;
+          owned = refl;
+          table = refl;
+          beside = wide;
+          barred = λ k l u t. absurd (false≢true (sym (no-members k) ∙ t));
+        }
+
+    -- a run
+    runs : (going : Bool) → going ≡ not (r .verdict) → once ≡ false
+        → Here once (workBy once i j allowed (networkOf o)) o 0 o (r .count) (o .domains) (o .bans) bars 0 (replicate 12 0) true allowed 0 0 going (r .count) 0
+    unfolding sweep countIf numberFor brokenBy isSome workBy onward oneIf
+    runs going g e =
+        let none-ahead : ahead (replicate 12 0) (r .count) (r .count) 0 ≡ [] = ahead-none (replicate 12 0) (r .count) (r .count) 0 refl (omega arith) in
+        record {
+          sized = o-sized;
+          agents = o-few;
+          high = omega arith;
+          few = omega arith;
+          fault = none;
+          numbered = refl;
+          goes = g ∙ ap not (or-none (r .verdict));
+          live = λ _. o-live;
+          untouched = λ q. absurd (false≢true q);
+          quiet = λ _. none-ahead;
+          waited = 1;
+          delivered = 0;
+          tried = [];
+          most = rw none-ahead (omega arith);
+          missing = rw none-ahead;
+          supplied = rw none-ahead (record { lines = tt; enough = λ x y. omega arith });
+          end = λ t. ranAs (further allowed 0 1 (λ _. []) t);
+          kind = rounds e refl (λ _. []) (λ t. refl);
+          same = rw (e, workBy, o-shape, none-ahead);
+        }
+      where
+        or-none : (v : Bool) → v ≡ v || false
+        or-none true = refl
+        or-none false = refl
+
+    -- a delivery that is rejected
+    rejected : (x : Rejection) → isBroken x ≡ false → (number : ℕ) (going : Bool) → number ≡ rejectionNumber x → going ≡ false → once ≡ true
+        → deliver (networkOf o) i j ≡ rejecting x (networkOf o)
+        → Here once (workBy once i j allowed (networkOf o)) o number o (r .count) (o .domains) (o .bans) bars 0 (replicate 12 0) true allowed 0 number going (r .count) 0
+    unfolding numberFor brokenBy isSome workBy deliveredAs rejecting faultOf
+    rejected x mild number going e g b d =
+        done (workBy once i j allowed (networkOf o)) o (r .count) number (r .count) 0 going (some x) o-sized o-few refl refl e refl g (λ _. b) (λ _. o-live)
+        (rw (b, workBy) (ap deliveredAs d))
+
+    numbers-bad : within (r .count) i && within (r .count) j && not (eqb i j) ≡ false → numbersGood (networkOf o) i j ≡ false
+    unfolding numbersGood networkOf problemOf
+    numbers-bad e = e
+
+    verdict-is : (b : Bool) → r .verdict ≡ b → networkOf o .verdict ≡ b
+    unfolding networkOf
+    verdict-is b e = e
+
+    good-numbers : Good (r .count) i j → numbersGood (networkOf o) i j ≡ true
+    unfolding numbersGood networkOf problemOf
+    good-numbers good =
+        to-both _ _ (to-both _ _ (to-within (r .count) i (good .from-low) (good .from-high)) (to-within (r .count) j (good .to-low) (good .to-high)))
+        (rw (ne-eqb i j (good .apart)))
+
+    nothing : rowOf rows i j ≡ 0 → networkOf o .channel i j ≡ []
+    nothing e = empty (networkOf o .channel i j) (channel-held o i j ∙ sym (rows-clean r rows h i j) ∙ e)
+      where
+        empty : (ms : List Message′) → length ms ≡ 0 → ms ≡ []
+        empty [] q = refl
+        empty (m ∷ ms) q = absurd (omega arith)
+
+    finds-nothing : Good (r .count) i j → r .verdict ≡ false → rowOf rows i j ≡ 0 → deliver (networkOf o) i j ≡ rejecting EmptyChannel (networkOf o)
+    unfolding deliverHead
+    finds-nothing x v y = finds (networkOf o) i j o-shape (good-numbers x) (verdict-is false v) [] (nothing y)
+
+    -- a delivery that has found a message
+    delivers : (number rest : ℕ) (going : Bool) → number ≡ 0 → going ≡ true → allowed ≡ 0 → once ≡ true → Good (r .count) i j → r .verdict ≡ false
+        → rowOf rows i j ≢ 0 → assignment rest ≡ at (assignment 0) j (assignment 0 j + 1)
+        → Here once (workBy once i j allowed (networkOf o)) o number o (r .count) (o .domains) (o .bans) bars 0 (replicate 12 0) true allowed 0 number going i rest
+    unfolding sweep countIf numberFor brokenBy isSome workBy deliveredAs isLine oneIf networkOf tally stopped
+    delivers number rest going e g a b good v some-held er =
+        let one : ahead (replicate 12 0) (r .count) i rest ≡ line i j ∷ [] = one-ahead (r .count) i j rest (good .to-low) (omega (arith, good .to-high, o-few)) er in
+        record {
+          sized = o-sized;
+          agents = o-few;
+          high = good .from-high;
+          few = omega arith;
+          fault = none;
+          numbered = e;
+          goes = g ∙ rw v;
+          live = λ _. o-live;
+          untouched = λ q. absurd (false≢true q);
+          quiet = λ q. absurd (false≢true q);
+          waited = 2;
+          delivered = 0;
+          tried = [];
+          most = rw one (omega arith);
+          missing = rw one;
+          supplied = rw one (record { lines = (good-numbers good, tt); enough = λ x y. enough x y });
+          end = stoppedAs;
+          kind = single (λ _. b) refl (λ _. a) refl (λ t. refl);
+          same = rw (b, workBy, one) (ap stoppedAs (sym (tries (sweepOf o 0 none []) (line i j) (rw v))));
+        }
+      where
+        waits : 1 ≤ length (networkOf o .channel i j)
+        waits = omega (arith, channel-held o i j, rows-clean r rows h i j, some-held)
+
+        enough : (x y : ℕ) → countIf (isLine x y) (line i j ∷ []) ≤ length (networkOf o .channel x y)
+        enough x y =
+            test (eqb x i && eqb y j)
+            (λ t. let q = both (eqb x i) (eqb y j) t in rw (t, eqb-true x i (q .0), eqb-true y j (q .1)) (omega (arith, waits)))
+            (λ t. rw t (omega arith))
+
+  -- ---- whatever it is
+
+  -- the head of the loop
+  abbrev Head : Network → ℕ → ℕ → ℕ → ℕ → Bool → Type 0
+  Head o n number from rest going =
+      Here once (workBy once i j allowed (networkOf o)) o number o n (o .domains) (o .bans) bars 0 (replicate 12 0) true allowed 0 number going from rest
+
+  begins-broken : (r : Network) (going : Bool) → FullArrays r → inShape (networkOf r) ≡ false → going ≡ false → Head r 0 5 0 0 going
+  unfolding numberFor brokenBy isBroken isSome workBy deliveredAs rejecting faultOf rejectionNumber
+  begins-broken r going z s g =
+      done (workBy once i j allowed (networkOf r)) r 0 5 0 0 going (some BadShape) z (omega arith) refl refl refl refl g
+      (λ q. absurd (false≢true (sym q))) (λ q. absurd (false≢true (sym q)))
+      (test once (λ b. rw (b, workBy) (ap deliveredAs (bad-shape (networkOf r) i j s))) (λ b. rw (b, workBy, s)))
+
+  module _ (r : Network) (z : FullArrays r) (clean : List ℕ) (h : Rows (r .counts) clean) (s : inShape (networkOf r) ≡ true) (number : ℕ) (going : Bool)
+      (b : once ≡ true) where
+    begins-refused : Tested (r .count) (r .verdict) clean i j number → number ≢ 0 → going ≡ false → Head (counted r clean) (r .count) number (r .count) 0 going
+    unfolding isBroken rejectionNumber
+    begins-refused (is-bad x q) m g =
+        rejected r z clean h s BadNumbers refl number going q g b (bad-numbers (networkOf (counted r clean)) i j (o-shape r z clean h s) (numbers-bad r z clean h s x))
+    begins-refused (is-over x v q) m g =
+        rejected r z clean h s VerdictStands refl number going q g b
+        (stands (networkOf (counted r clean)) i j (o-shape r z clean h s) (good-numbers r z clean h s x) (verdict-is r z clean h s true v))
+    begins-refused (is-empty x v y q) m g = rejected r z clean h s EmptyChannel refl number going q g b (finds-nothing r z clean h s x v y)
+    begins-refused (is-found x v y q) m g = absurd (m q)
+
+    begins-found : (rest : ℕ) → Tested (r .count) (r .verdict) clean i j number → number ≡ 0 → allowed ≡ 0 → going ≡ not (r .verdict)
+        → assignment rest ≡ at (assignment 0) j (assignment 0 j + 1) → Head (counted r clean) (r .count) number i rest going
+    begins-found rest (is-bad x q) m a g e = absurd (omega arith)
+    begins-found rest (is-over x v q) m a g e = absurd (omega arith)
+    begins-found rest (is-empty x v y q) m a g e = absurd (omega arith)
+    begins-found rest (is-found x v y q) m a g e = delivers r z clean h s number rest going q (g ∙ rw v) a b x v y e
+
+  pub begins : {r o : Network} {n number from rest : ℕ} (going : Bool) → Began once i j r o n number from rest → FullArrays r → (once ≡ true → allowed ≡ 0)
+      → going ≡ eqb number 0 && not (o .verdict)
+      → Here once (workBy once i j allowed (networkOf o)) o number o n (o .domains) (o .bans) bars 0 (replicate 12 0) true allowed 0 number going from rest
+  begins {r} going (broken s e n k f d) z a g = rw (e, n, k, f, d) (begins-broken r going z s (rw k at g))
+  begins {r} going (running s b clean h e n k f d) z a g = rw (e, n, k, f, d) (runs r z clean h s going (rw (k, e) at g) b)
+  begins {r} {number = number} going (refused s b clean h e n k m f d) z a g =
+      rw (e, n, f, d) (begins-refused r z clean h s number going b (tests (r .count) (r .verdict) clean i j number k) m (rw (ne-eqb number 0 m) at g))
+  begins {r} {number = number} {rest = rest} going (found s b clean h e n k m f d) z a g =
+      rw (e, n, f) (begins-found r z clean h s number going b rest (tests (r .count) (r .verdict) clean i j number k) m (a b) (rw (m, e) at g) d)

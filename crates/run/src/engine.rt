@@ -1,0 +1,164 @@
+// The work on a network: one delivery, or rounds.
+ghost use mathlib.Core.Path.{_≡_};
+ghost use mathlib.Core.Bool.{true};
+ghost use Prim.Native.Nat.{_≤_};
+ghost use Rattle.network.specs.Abstract.{networkOf};
+ghost use Rattle.run.specs.Working.{workBy};
+ghost use Rattle.run.specs.Answers.{WorksAs};
+use crate::Answer;
+use crate::lines::next_visit;
+use crate::tests::asks_again;
+use crate::tests::cleaned;
+use crate::tests::ending_at;
+use crate::tests::tested;
+use crate::tests::waits;
+use agent::Bars;
+use agent::Own;
+use network::Network;
+use network::Place;
+use network::places::channel_at;
+use network::places::place_at;
+use network::places::words_before;
+use packed::add;
+use packed::digit;
+use packed::has;
+use packed::one_less;
+use packed::one_more;
+use packed::with_digit;
+
+// The network is one local, changed where it stands. With `once`, the head of the line between two agents is delivered, and that is all; else rounds are
+// made. Rounds left and full rounds made are two figures; a round is full if nothing that waited when it began was missed. After a verdict or a rejection
+// the rest of the round is passed over.
+pub fn work(r: Network, once: bool, sender: u8, receiver: u8, allowed: u64) -> Answer
+    requires { ⌜ allowed ≤ 1000000 ⌝ }
+    requires { ⌜ (once ≡ true → allowed ≡ 0) ⌝ }
+    ensures { λ a. ⌜ WorksAs (workBy once sender receiver allowed (networkOf r)) a ⌝ }
+    ensures { λ a. ⌜ (a .number ≡ 5 → a .network ≡ r) ⌝ }
+{
+    let mut o = r;
+    // the agents, none where the shape is broken; the rejection that is given or was met
+    let mut n: u8 = 0;
+    let mut number: u8 = 5;
+    // the sender whose lines are visited, and those of them yet to be visited, a digit for each receiver
+    let mut from: u8 = 0;
+    let mut rest: u64 = 0;
+    if network::in_shape(o) {
+        n = o.count;
+        from = n;
+        number = 0;
+        let counts = o.counts;
+        let rows = cleaned(counts);
+        o.counts = rows;
+        if once {
+            number = tested(n, o.verdict, &o.counts, sender, receiver);
+            if number == 0 {
+                from = sender;
+                rest = one_more(0, receiver);
+            }
+        }
+    }
+    let domains = o.domains;
+    let bans = o.bans;
+    // what the agents' views bar, for those of the set `ready`
+    let none = Bars { low: 0, high: 0 };
+    let mut bars = [none; 12];
+    let mut ready: u16 = 0;
+    // what each line held when the round began; whether something of it was missed
+    let mut quota = [0u64; 12];
+    let mut missed = true;
+    let mut left = allowed;
+    let mut made: u64 = 0;
+    // no verdict and no rejection stands
+    let mut going = (number == 0) & !o.verdict;
+    loop {
+        let visit = next_visit(from, rest, &quota, n);
+        from = visit.from;
+        rest = visit.rest;
+        if !visit.over {
+            if !going {
+                missed = true;
+                continue;
+            }
+            let to = visit.to;
+            let at = to as usize - 1;
+            let row = from as usize - 1;
+            let heads = o.heads[row];
+            let head = digit(heads, to);
+            let place = o.places[place_at(channel_at(from, to), head, 0)];
+            let message = place.message;
+            let agent = o.agents[at];
+            if asks_again(agent.informs, from, message) {
+                number = 9;
+                going = false;
+                missed = true;
+                continue;
+            }
+            let words = words_before(to);
+            let own = Own {
+                number: to,
+                domain: domains[at],
+            };
+            let mine = &bans[words..words + at];
+            if !has(ready, to) {
+                let b = Bars::of(agent.view, own, mine);
+                bars[at] = b;
+                ready = add(ready, to);
+            }
+            let seen = bars[at];
+            let step = agent.receive(own, mine, seen, from, message);
+            let mut posts = step.posts;
+            let backs = step.backs;
+            let ends = o.heads[at];
+            let mut now = o.counts[at];
+            while !posts.is_empty() & going {
+                let p = posts.first(&backs);
+                let message = p.message;
+                let waiting = digit(now, p.to);
+                if waiting < 8 {
+                    o.places[place_at(channel_at(to, p.to), digit(ends, p.to), waiting)] = Place {
+                        message: message,
+                    };
+                    now = one_more(now, p.to);
+                    posts = posts.rest();
+                } else {
+                    number = 10;
+                    going = false;
+                    missed = true;
+                }
+            }
+            if going {
+                o.counts[at] = now;
+                o.heads[row] = with_digit(heads, to, (head + 1) % 8);
+                o.counts[row] = one_less(o.counts[row], to);
+                let changed = step.agent;
+                o.agents[at] = changed;
+                let barred = step.bars;
+                bars[at] = barred;
+                o.verdict = step.verdict;
+                going = !step.verdict;
+            }
+        } else {
+            if !missed {
+                made += 1;
+            }
+            let held = o.counts;
+            let waits = waits(held, n);
+            if !going | !waits | (left == 0) {
+                let ending = ending_at(o.verdict, waits, number);
+                if !once & (number != 5) {
+                    number = 0;
+                }
+                return Answer {
+                    network: o,
+                    rounds: made,
+                    number: number,
+                    ending: ending,
+                };
+            }
+            left -= 1;
+            quota = held;
+            missed = false;
+            from = 0;
+        }
+    }
+}
