@@ -25,8 +25,8 @@ pub fn entries(measured: &[(String, Vec<u8>)]) -> Result<usize, String> {
         compared.same(name, |side| side.deliver(sheet, &calls))?;
     }
     let mut random = Random::new(11);
-    let small = sheets::random(4_000, 5, 4, 20, 21);
-    let mixed = sheets::random(1_000, 12, 8, 10, 22);
+    let small = sheets::random(4_000, 5, 4, 20, 40, 21);
+    let mixed = sheets::random(1_000, 12, 8, 10, 40, 22);
     for (number, sheet) in small.iter().chain(&mixed).enumerate() {
         let name = format!("random sheet {number}");
         compared.on(&name, sheet)?;
@@ -68,8 +68,8 @@ impl Compared {
 /// Gives the number of sheets on which both programs print the same, or what differs.
 pub fn programs(proved: &Path, plain: &Path, measured: &[(String, Vec<u8>)]) -> Result<usize, String> {
     let mut count = 0;
-    let mut random = sheets::random(1_000, 5, 4, 20, 31);
-    random.extend(sheets::random(1_000, 12, 8, 20, 32));
+    let mut random = sheets::random(1_000, 5, 4, 20, 40, 31);
+    random.extend(sheets::random(1_000, 12, 8, 20, 40, 32));
     // Longer than the longest sheet.
     random.extend([vec![1; 200_000], [sheets::longest(), vec![0; 8]].concat(), vec![]]);
     let random = random.iter().enumerate().map(|(number, sheet)| (format!("random sheet {number}"), sheet));

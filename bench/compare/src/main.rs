@@ -25,7 +25,8 @@ fn main() -> Result<(), String> {
     let deep: Vec<_> = (1..=5).map(|k| (format!("deep {k}"), sheets::deep(k))).collect();
     let open: Vec<_> = (7..=12).map(|n| (format!("open {n}"), sheets::open(n))).collect();
     let longest = ("longest".to_string(), sheets::longest());
-    let measured: Vec<_> = deep.iter().chain(&open).chain([&longest]).cloned().collect();
+    let gaps = ("longest of gaps".to_string(), sheets::longest_gaps());
+    let measured: Vec<_> = deep.iter().chain(&open).chain([&longest, &gaps]).cloned().collect();
 
     println!("same answers: {} of the libraries' entries", check::entries(&measured)?);
     println!("same output: {} sheets, by the programs", check::programs(proved, plain, &measured)?);
@@ -34,8 +35,9 @@ fn main() -> Result<(), String> {
     println!("\n{:<58} {:>12} {:>12} {:>7}", "what, and for each", "Rust", "ours", "ratio");
     run_row("long run, 12 scanners, 8 slots, 100,000 rounds", long);
     run_row("deepest search that ends, 73,855 rounds", &deep[deep.len() - 1].1);
-    bulk_row("small sheets in bulk", &sheets::random(20_000, 5, 4, 20, 7));
+    bulk_row("small sheets in bulk", &sheets::random(20_000, 5, 4, 20, 0, 7));
     row("decoding alone, 4,224 records", both(|side| side.decode(&longest.1, black_box(65))), 1);
+    row("decoding alone, 4,224 records of gaps", both(|side| side.decode(&gaps.1, black_box(65))), 1);
     row("decoding and start of the long run's sheet", both(|side| side.start(long, black_box(0))), 1);
     delivery_row("a delivery by the public entry, 12 scanners", long);
     delivery_row("a delivery by the public entry, 6 scanners", &deep[deep.len() - 1].1);

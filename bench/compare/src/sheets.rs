@@ -1,7 +1,9 @@
 //! The sheets that are measured, the same on every machine.
 
 use plain::random::Random;
-use plain::sheet::{damage, encode, encode_shuffled, random_bans, random_bans_between, Ban};
+use plain::sheet::{
+    damage, encode, encode_shuffled, random_bans, random_bans_between, random_gaps, Ban, Gaps, Rows,
+};
 use plain::{Network, Problem, Word, PROGRAM_ROUNDS};
 
 /// k agents with eight values, and a last one with k values: value i of the last is banned
@@ -11,7 +13,7 @@ pub fn deep(k: u8) -> Vec<u8> {
     let bans: Vec<Ban> = (1..=k).flat_map(|i| (1..=8).map(move |value| (i, k + 1, value, i))).collect();
     let mut domains = vec![8; usize::from(k)];
     domains.push(k);
-    encode(&domains, &bans)
+    encode(&domains, Rows::Slots(&bans))
 }
 
 /// A sheet of n agents with eight values that is `open` after all the program's rounds: of
@@ -47,7 +49,7 @@ pub fn open(n: usize) -> Vec<u8> {
         if run.word == Word::Open && run.rounds == PROGRAM_ROUNDS {
             let deliveries = first_deliveries(&problem);
             if deliveries > best.0 {
-                best = (deliveries, encode_shuffled(&domains, &bans, 0, 0, &mut random));
+                best = (deliveries, encode_shuffled(&domains, Rows::Slots(&bans), 0, 0, &mut random));
             }
         }
     }
@@ -77,18 +79,44 @@ pub fn longest() -> Vec<u8> {
             }
         }
     }
-    encode_shuffled(&[8; 12], &bans, 0, 0, &mut Random::new(4_224))
+    encode_shuffled(&[8; 12], Rows::Slots(&bans), 0, 0, &mut Random::new(4_224))
 }
 
-/// Random sheets: up to so many agents and values, with repeats and spare records, some damaged.
-pub fn random(count: usize, agents: usize, values: usize, damaged: usize, seed: u64) -> Vec<Vec<u8>> {
+/// As `longest`, of edition 2: for every pair of agents 64 of the 120 pairs of a least and a
+/// greatest gap.
+pub fn longest_gaps() -> Vec<u8> {
+    let mut random = Random::new(4_225);
+    let mut ranges: Vec<(i8, i8)> =
+        (-7..=7).flat_map(|least| (least..=7).map(move |greatest| (least, greatest))).collect();
+    let mut gaps: Vec<Gaps> = Vec::new();
+    for higher in 2..=12 {
+        for lower in 1..higher {
+            random.shuffle(&mut ranges);
+            gaps.extend(ranges[..64].iter().map(|&(least, greatest)| (lower, higher, least, greatest)));
+        }
+    }
+    encode_shuffled(&[8; 12], Rows::Gaps(&gaps), 0, 0, &mut random)
+}
+
+/// Random sheets: up to so many agents and values, with repeats and spare records, so many
+/// percent damaged, and so many of edition 2.
+pub fn random(
+    count: usize,
+    agents: usize,
+    values: usize,
+    damaged: usize,
+    gaps: usize,
+    seed: u64,
+) -> Vec<Vec<u8>> {
     let mut random = Random::new(seed);
     let one = |_| {
         let n = random.range(1, agents);
         let (linked, banned) = (random.range(10, 100), random.range(5, 70));
         let (domains, bans) = random_bans(n, values, linked, banned, &mut random);
+        let far = if gaps > 0 { random_gaps(&domains, linked, 3, &mut random) } else { Vec::new() };
+        let rows = if gaps > 0 && random.chance(gaps) { Rows::Gaps(&far) } else { Rows::Slots(&bans) };
         let (repeats, spare) = (random.below(4), random.below(6));
-        let mut sheet = encode_shuffled(&domains, &bans, repeats, spare, &mut random);
+        let mut sheet = encode_shuffled(&domains, rows, repeats, spare, &mut random);
         if random.chance(damaged) {
             damage(&mut sheet, &mut random);
         }

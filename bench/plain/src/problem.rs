@@ -69,6 +69,35 @@ impl Problem {
         self.bans[higher][lower] |= 1 << (8 * (low - 1) + high - 1);
     }
 
+    /// A record of edition 1: one pair of owned values. A value 0 wraps around and is above
+    /// every domain.
+    #[inline(always)]
+    fn add_slots(&mut self, lower: usize, higher: usize, low: u8, high: u8) -> bool {
+        let owned = low.wrapping_sub(1) < self.domain(lower) && high.wrapping_sub(1) < self.domain(higher);
+        if owned {
+            self.ban(lower, higher, low, high);
+        }
+        owned
+    }
+
+    /// A record of edition 2: every pair of owned values with a gap from least to greatest.
+    #[inline(always)]
+    fn add_gaps(&mut self, lower: usize, higher: usize, least: u8, greatest: u8) -> bool {
+        let (least, greatest) = (least as i8, greatest as i8);
+        let good = -7 <= least && least <= greatest && greatest <= 7;
+        if good {
+            self.bans[higher][lower] |= band(least, greatest) & self.owned(lower, higher);
+        }
+        good
+    }
+
+    /// The pairs of owned values of two agents.
+    #[inline(always)]
+    fn owned(&self, lower: usize, higher: usize) -> u64 {
+        let rows = u64::MAX >> (64 - 8 * u32::from(self.domain(lower)));
+        rows & (u64::from(domain_mask(self.domain(higher))) * 0x0101_0101_0101_0101)
+    }
+
     /// Reads a sheet. The checks come in the rules' order: length under 24, header, total
     /// length, the walk. The first fault decides.
     pub fn decode(sheet: &[u8]) -> Result<Problem, Rejection> {
@@ -92,8 +121,9 @@ impl Problem {
         let word = |at: usize| usize::from(u16::from_le_bytes([header[at], header[at + 1]]));
         let n = usize::from(header[0]);
         let (first, m) = (word(2), word(4));
-        let fixed = header[1] == 1 && word(6) == 0 && header[20..] == [0; 4];
-        if !(1..=MAX_AGENTS).contains(&n) || !fixed || m > MAX_RECORDS || first > m {
+        let fixed = word(6) == 0 && header[20..] == [0; 4];
+        let known = (1..=2).contains(&header[1]);
+        if !(1..=MAX_AGENTS).contains(&n) || !known || !fixed || m > MAX_RECORDS || first > m {
             return Err(Rejection::Header);
         }
         let mut domains = Assignment::EMPTY;
@@ -111,12 +141,24 @@ impl Problem {
         }
         self.n = n;
         self.domains = domains;
-        self.walk(first, records)
+        if header[1] == 1 {
+            self.walk(first, records, Problem::add_slots)
+        } else {
+            self.walk(first, records, Problem::add_gaps)
+        }
     }
 
     /// Follows the chain. A record met before has passed its checks, so a chain that comes
-    /// back is met exactly as one that does not end within m steps.
-    fn walk(&mut self, first: usize, records: &[[u8; RECORD]]) -> Result<(), Rejection> {
+    /// back is met exactly as one that does not end within m steps. `add` is what depends on
+    /// the edition: it puts what a record bans into the table, or says that its last two fields
+    /// are out of range.
+    #[inline(always)]
+    fn walk(
+        &mut self,
+        first: usize,
+        records: &[[u8; RECORD]],
+        add: impl Fn(&mut Problem, usize, usize, u8, u8) -> bool,
+    ) -> Result<(), Rejection> {
         let mut index = first;
         for _ in 0..records.len() {
             if index == 0 {
@@ -124,20 +166,14 @@ impl Problem {
             }
             let [lower, higher, low, high, next_low, next_high, end @ ..] = records[index - 1];
             let next = usize::from(u16::from_le_bytes([next_low, next_high]));
-            // A value 0 wraps around and is above every domain; agents beyond n are
-            // caught before their domain is asked.
+            // Agents beyond n are caught before their domain is asked.
             if lower < 1 || lower >= higher || usize::from(higher) > self.n {
                 return Err(Rejection::Record);
             }
             let (lower, higher) = (usize::from(lower) - 1, usize::from(higher) - 1);
-            if low.wrapping_sub(1) >= self.domain(lower)
-                || high.wrapping_sub(1) >= self.domain(higher)
-                || next > records.len()
-                || end != [0, 0]
-            {
+            if next > records.len() || end != [0, 0] || !add(self, lower, higher, low, high) {
                 return Err(Rejection::Record);
             }
-            self.ban(lower, higher, low, high);
             index = next;
         }
         if index == 0 {
@@ -145,6 +181,24 @@ impl Problem {
         } else {
             Err(Rejection::Chain)
         }
+    }
+}
+
+/// The pairs of values whose gap lies from least to greatest, of the gaps from -7 to 7.
+#[inline(always)]
+fn band(least: i8, greatest: i8) -> u64 {
+    let inside = |gap: &i8| (least..=greatest).contains(gap);
+    (-7..=7).filter(inside).fold(0, |word, gap| word | diagonal(gap))
+}
+
+/// The pairs of values with this gap, the higher's value minus the lower's.
+#[inline(always)]
+fn diagonal(gap: i8) -> u64 {
+    const SAME: u64 = 0x8040_2010_0804_0201;
+    if gap < 0 {
+        SAME << (8 * -gap)
+    } else {
+        SAME >> (8 * gap)
     }
 }
 

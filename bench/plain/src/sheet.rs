@@ -6,29 +6,60 @@ use crate::random::Random;
 /// A ban: lower number, higher number, value of the lower, value of the higher; from 1.
 pub type Ban = (u8, u8, u8, u8);
 
+/// A ban of gaps: lower number, higher number, from 1; least and greatest gap.
+pub type Gaps = (u8, u8, i8, i8);
+
+/// The rows of an edition of the sheet: what its records say.
+#[derive(Clone, Copy)]
+pub enum Rows<'a> {
+    Slots(&'a [Ban]),
+    Gaps(&'a [Gaps]),
+}
+
+impl Rows<'_> {
+    fn edition(self) -> u8 {
+        match self {
+            Rows::Slots(_) => 1,
+            Rows::Gaps(_) => 2,
+        }
+    }
+
+    /// The first four bytes of each record.
+    fn fields(self) -> Vec<[u8; 4]> {
+        match self {
+            Rows::Slots(bans) => bans.iter().map(|&(i, j, v, w)| [i, j, v, w]).collect(),
+            Rows::Gaps(gaps) => gaps.iter().map(|&(i, j, a, b)| [i, j, a as u8, b as u8]).collect(),
+        }
+    }
+}
+
 /// A sheet whose chain runs through its records in order.
-pub fn encode(domains: &[u8], bans: &[Ban]) -> Vec<u8> {
-    let m = bans.len();
-    let mut sheet = header(domains, u16::from(m > 0), m);
-    for (i, &ban) in bans.iter().enumerate() {
+pub fn encode(domains: &[u8], rows: Rows) -> Vec<u8> {
+    let fields = rows.fields();
+    let m = fields.len();
+    let mut sheet = header(rows.edition(), domains, u16::from(m > 0), m);
+    for (i, &four) in fields.iter().enumerate() {
         let next = if i + 1 < m { i + 2 } else { 0 };
-        sheet.extend(record(ban, next));
+        sheet.extend(record(four, next));
     }
     sheet
 }
 
-/// A sheet with the same bans in a shuffled order, some twice, among `spare` records that are
+/// A sheet with the same rows in a shuffled order, some twice, among `spare` records that are
 /// off the chain and hold anything.
 pub fn encode_shuffled(
     domains: &[u8],
-    bans: &[Ban],
+    rows: Rows,
     repeats: usize,
     spare: usize,
     random: &mut Random,
 ) -> Vec<u8> {
-    let mut chain = bans.to_vec();
-    if !bans.is_empty() {
-        chain.extend((0..repeats).map(|_| bans[random.below(bans.len())]));
+    let mut chain = rows.fields();
+    let once = chain.len();
+    if once > 0 {
+        for _ in 0..repeats {
+            chain.push(chain[random.below(once)]);
+        }
     }
     random.shuffle(&mut chain);
     chain.truncate(MAX_RECORDS);
@@ -36,12 +67,12 @@ pub fn encode_shuffled(
     let mut places: Vec<usize> = (1..=m).collect();
     random.shuffle(&mut places);
     let first = if chain.is_empty() { 0 } else { places[0] };
-    let mut sheet = header(domains, first as u16, m);
+    let mut sheet = header(rows.edition(), domains, first as u16, m);
     sheet.extend((0..m * RECORD).map(|_| random.next() as u8));
-    for (i, &ban) in chain.iter().enumerate() {
+    for (i, &four) in chain.iter().enumerate() {
         let next = if i + 1 < chain.len() { places[i + 1] } else { 0 };
         let at = HEADER + RECORD * (places[i] - 1);
-        sheet[at..at + RECORD].copy_from_slice(&record(ban, next));
+        sheet[at..at + RECORD].copy_from_slice(&record(four, next));
     }
     sheet
 }
@@ -110,17 +141,35 @@ pub fn random_bans_between(domains: &[u8], linked: usize, banned: usize, random:
     bans
 }
 
-fn header(domains: &[u8], first: u16, m: usize) -> Vec<u8> {
+/// Random bans of gaps between agents with these domains: each pair of agents has up to so many
+/// rows with `linked` percent. Some hit no pair of owned values.
+pub fn random_gaps(domains: &[u8], linked: usize, most: usize, random: &mut Random) -> Vec<Gaps> {
+    let mut gaps = Vec::new();
+    for higher in 1..domains.len() {
+        for lower in 0..higher {
+            if !random.chance(linked) {
+                continue;
+            }
+            for _ in 0..random.range(1, most) {
+                let (one, other) = (random.below(15) as i8 - 7, random.below(15) as i8 - 7);
+                gaps.push((lower as u8 + 1, higher as u8 + 1, one.min(other), one.max(other)));
+            }
+        }
+    }
+    gaps
+}
+
+fn header(edition: u8, domains: &[u8], first: u16, m: usize) -> Vec<u8> {
     let mut sheet = vec![0; HEADER];
     sheet[0] = domains.len() as u8;
-    sheet[1] = 1;
+    sheet[1] = edition;
     sheet[2..4].copy_from_slice(&first.to_le_bytes());
     sheet[4..6].copy_from_slice(&(m as u16).to_le_bytes());
     sheet[8..8 + domains.len()].copy_from_slice(domains);
     sheet
 }
 
-fn record(ban: Ban, next: usize) -> [u8; RECORD] {
-    let [low, high] = (next as u16).to_le_bytes();
-    [ban.0, ban.1, ban.2, ban.3, low, high, 0, 0]
+fn record([lower, higher, low, high]: [u8; 4], next: usize) -> [u8; RECORD] {
+    let [next_low, next_high] = (next as u16).to_le_bytes();
+    [lower, higher, low, high, next_low, next_high, 0, 0]
 }

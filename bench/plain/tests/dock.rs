@@ -3,7 +3,7 @@
 use std::io::Write;
 use std::process::{Command, Stdio};
 
-use plain::sheet::encode;
+use plain::sheet::{encode, Rows};
 
 const P9: [u8; 40] = [
     3, 1, 1, 0, 2, 0, 0, 0, 2, 1, 2, 0, 0, 0, 0, 0, 0, 0, 0, 0, 0, 0, 0, 0, //
@@ -27,12 +27,17 @@ fn dock(input: &[u8]) -> String {
 #[test]
 fn dock_prints() {
     assert_eq!(dock(&P9), "verdict plan\nrounds 5\nscanner 1 slot 2\nscanner 2 slot 1\nscanner 3 slot 1\n");
-    assert_eq!(dock(&encode(&[1], &[])), "verdict plan\nrounds 0\nscanner 1 slot 1\n");
-    assert_eq!(dock(&encode(&[1, 1], &[(1, 2, 1, 1)])), "verdict none\nrounds 2\n");
+    assert_eq!(dock(&encode(&[1], Rows::Slots(&[]))), "verdict plan\nrounds 0\nscanner 1 slot 1\n");
+    assert_eq!(dock(&encode(&[1, 1], Rows::Slots(&[(1, 2, 1, 1)]))), "verdict none\nrounds 2\n");
     assert_eq!(dock(&[]), "sheet refused 1\n");
     assert_eq!(dock(&P9[..39]), "sheet refused 1\n");
+    assert_eq!(dock(&encode(&[1, 1], Rows::Gaps(&[(1, 2, -1, 1)]))), "verdict none\nrounds 2\n");
+    let far = "verdict plan\nrounds 1\nscanner 1 slot 1\nscanner 2 slot 3\n";
+    assert_eq!(dock(&encode(&[2, 3], Rows::Gaps(&[(1, 2, -7, 1)]))), far);
+    assert_eq!(dock(&encode(&[1, 1], Rows::Gaps(&[(1, 2, -8, 1)]))), "sheet refused 3\n");
+    assert_eq!(dock(&encode(&[1, 1], Rows::Gaps(&[(1, 2, 1, 0)]))), "sheet refused 3\n");
     let mut sheet = P9;
-    sheet[1] = 2;
+    sheet[1] = 3;
     assert_eq!(dock(&sheet), "sheet refused 2\n");
     assert_eq!(dock(&vec![1; 200_000]), "sheet refused 2\n");
     let mut long = P9.to_vec();

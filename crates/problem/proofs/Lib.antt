@@ -1,3 +1,11 @@
+pub mod Bits
 pub mod Range
+pub mod Bans
+pub mod Fields
+pub mod Walk
+pub mod Checks
+pub mod Rows
 pub mod Sheet
+pub mod Writing
+pub mod Longest
 mod Cases

@@ -1,20 +1,20 @@
 -- A problem in range, as facts: its lengths and counts, and every bit of the ban table between owned values. The clauses of the test, both
 -- ways; and what one more ban does to the table.
-use mathlib.Core.Path.{_≡_, sym, _∙_}
+use mathlib.Core.Path.{_≡_, refl, sym, _∙_}
 use mathlib.Core.Logic.{_⊎_, inl, inr}
-use mathlib.Core.Bool.{true, _&&_, false≢true}
+use mathlib.Core.Bool.{Bool, true, _&&_, false≢true}
 use mathlib.Core.List.{List}
 use Prim.Native.Nat.{ℕ, zero, suc, pred, _+_, _*_, _^_, _/_, _%_, _≤_, _<_}
 use native.Mathlib.Omega.{arith}
-use lib.ListN.{length, getD, getD-replicate, List·getD-eq-default}
+use lib.ListN.{length, getD, set, length-replicate, getD-replicate, List·getD-eq-default}
 use lib.Seq.{getD-set-same, getD-set-other}
 use lib.Dec.{eqb, ltb, leb}
 use borrow.Author.Tests.{eqb-true, eqb-false, ltb-true, ltb-false, leb-true, leb-false, eq-eqb, lt-ltb, le-leb, lt-leb}
 use Rattle.base.specs.Finite.{within, allTo}
-use Rattle.base.specs.Bits.{bit, withBit}
-use Rattle.base.proofs.Tests.{test, within-true, to-within, both, to-both, implied, to-implied}
+use Rattle.base.specs.Bits.{bit}
+use Rattle.base.proofs.Tests.{test, within-true, to-within, both, to-both, or-cases, implied, to-implied}
 use Rattle.base.proofs.Search.{allTo-at, to-allTo}
-use Rattle.base.proofs.Bits.{withBit-cases, withBit-below, bit-of-zero, bit-positive, some-bit}
+use Rattle.base.proofs.Bits.{bit-of-zero, bit-positive, some-bit}
 use Rattle.problem.specs.Problem.{
   Problem,
   maxAgents,
@@ -27,7 +27,8 @@ use Rattle.problem.specs.Problem.{
   isPair,
   banned,
   linked,
-  withBan,
+  withTable,
+  withBits,
   noBans,
   countInRange,
   domainInRange,
@@ -36,6 +37,7 @@ use Rattle.problem.specs.Problem.{
   sized,
   inRange,
 }
+use Rattle.problem.proofs.Bits.{bits, bits-below}
 
 -- ---- one word
 
@@ -64,40 +66,45 @@ to-word-fits d e word f =
     (to-allTo _ _ (λ v lv hv. to-allTo _ _ (λ w lw hw.
     to-implied _ _ (λ b. let o = f .owned v w lv hv lw hw b in to-both _ _ (o .0) (o .1)))))
 
--- the word with one more bit, of owned values
-pub word-adds : (d e v w word : ℕ) → d ≤ maxDomain → e ≤ maxDomain → within d v ≡ true → within e w ≡ true → WordFits d e word
-    → WordFits d e (withBit word (bitAt v w))
-unfolding maxDomain bitAt
-word-adds d e v w word hd he ov ow f =
-    let bv = within-true d v ov in
-    let bw = within-true e w ow in
+-- the word with the pairs of owned values that h names
+pub word-adds : (h : ℕ → ℕ → Bool) (d e word : ℕ) → d ≤ maxDomain → e ≤ maxDomain → WordFits d e word → WordFits d e (withBits d e h word)
+word-adds h d e word hd he f =
     record {
-      short = withBit-below word (bitAt v w) 64 (omega arith) (f .short);
-      owned = λ v′ w′ lv hv lw hw b. owned v′ w′ lv hv lw hw (withBit-cases word (bitAt v w) (bitAt v′ w′) b);
+      short = bits-below h d e word hd he (f .short);
+      owned = λ v w lv hv lw hw b.
+          owned v w lv hv lw hw
+          (or-cases _ _ (sym (bits h v w (record { low = lv; high = hv }) (record { low = lw; high = hw }) d e word hd he) ∙ b));
     }
   where
-    owned : (v′ w′ : ℕ) → 1 ≤ v′ → v′ ≤ maxDomain → 1 ≤ w′ → w′ ≤ maxDomain
-        → (bit word (bitAt v′ w′) ≡ true) ⊎ (bitAt v′ w′ ≡ bitAt v w) → (within d v′ ≡ true) × (within e w′ ≡ true)
-    owned v′ w′ lv hv lw hw (inl b) = f .owned v′ w′ lv hv lw hw b
-    owned v′ w′ lv hv lw hw (inr q) =
-        let bv = within-true d v ov in
-        let bw = within-true e w ow in
-        let sv : v′ ≡ v = omega arith in
-        let sw : w′ ≡ w = omega arith in
-        (rw sv ov, rw sw ow)
+    owned : (v w : ℕ) → 1 ≤ v → v ≤ maxDomain → 1 ≤ w → w ≤ maxDomain
+        → (bit word (bitAt v w) ≡ true) ⊎ (within d v && within e w && h v w ≡ true) → (within d v ≡ true) × (within e w ≡ true)
+    owned v w lv hv lw hw (inl b) = f .owned v w lv hv lw hw b
+    owned v w lv hv lw hw (inr b) = both (within d v) _ (both (within d v && within e w) _ b .0)
 
--- a word that is not zero names owned values
-pub word-named : (d e word : ℕ) → WordFits d e word → 1 ≤ word → (1 ≤ d) × (1 ≤ e)
+-- a word that is not zero names two values
+word-value : (word : ℕ) → 1 ≤ word → word < 2 ^ 64
+    → (v : ℕ) × (w : ℕ) × (within maxDomain v ≡ true) × (within maxDomain w ≡ true) × (bit word (bitAt v w) ≡ true)
 unfolding maxDomain bitAt
-word-named d e word f l =
-    let b = some-bit 64 word l (f .short) in
-    let o = f .owned (suc (b .0 / 8)) (suc (b .0 % 8)) (omega arith) (omega arith) (omega arith) (omega arith) (rw (place (b .0)) (b .2)) in
-    let v = within-true d _ (o .0) in
-    let w = within-true e _ (o .1) in
-    (omega arith, omega arith)
+word-value word l h =
+    let b = some-bit 64 word l h in (
+      suc (b .0 / 8),
+      suc (b .0 % 8),
+      to-within _ _ (omega arith) (omega arith),
+      to-within _ _ (omega arith) (omega arith),
+      rw (place (b .0)) (b .2),
+    )
   where
     place : (k : ℕ) → 8 * (k / 8) + k % 8 ≡ k
     place k = omega arith
+
+-- owned ones, if it fits
+word-named : (d e word : ℕ) → WordFits d e word → 1 ≤ word → (1 ≤ d) × (1 ≤ e)
+word-named d e word f l =
+    let b = word-value word l (f .short) in
+    let v = within-true _ _ (b .2) in
+    let w = within-true _ _ (b .3) in
+    let o = f .owned (b .0) (b .1) (v .0) (v .1) (w .0) (w .1) (b .4) in
+    (omega (arith, within-true d _ (o .0)), omega (arith, within-true e _ (o .1)))
 
 -- ---- where a pair's word stands
 
@@ -151,19 +158,20 @@ no-words d i j l h u =
     let z : getD noBans (wordAt i j) 0 ≡ 0 = getD-replicate maxPairs (wordAt i j) 0 0 (word-in-table i j l h u) in
     rw z (record { short = omega arith; owned = λ v w _ _ _ _ b. absurd (false≢true (sym (bit-of-zero (bitAt v w)) ∙ b)) })
 
--- the table with one more ban, between owned values
-pub words-add : (d : ℕ → ℕ) (t : List ℕ) (i j v w : ℕ) → length t ≡ maxPairs → 1 ≤ i → i < j → j ≤ maxAgents
-    → d i ≤ maxDomain → d j ≤ maxDomain → within (d i) v ≡ true → within (d j) w ≡ true → Words d t → Words d (withBan t i j v w)
-unfolding withBan
-words-add d t i j v w n l h u di dj ov ow f i′ j′ l′ h′ u′ =
+-- the table with pairs of owned values of agents i and j
+pub words-add : (h : ℕ → ℕ → Bool) (d : ℕ → ℕ) (t : List ℕ) (i j : ℕ) → length t ≡ maxPairs → 1 ≤ i → i < j → j ≤ maxAgents
+    → d i ≤ maxDomain → d j ≤ maxDomain → Words d t
+    → Words d (set t (wordAt i j) (withBits (d i) (d j) h (getD t (wordAt i j) 0)))
+words-add h d t i j n l u r di dj f i′ j′ l′ u′ r′ =
     test (eqb (wordAt i′ j′) (wordAt i j))
-    (λ q. here (eqb-true _ _ q) (word-pair i′ j′ i j l′ h′ l h (eqb-true _ _ q)))
-    (λ q. rw (getD-set-other t (wordAt i j) (wordAt i′ j′) _ 0 (eqb-false _ _ q)) (f i′ j′ l′ h′ u′))
+    (λ q. here (eqb-true _ _ q) (word-pair i′ j′ i j l′ u′ l u (eqb-true _ _ q)))
+    (λ q. rw (getD-set-other t (wordAt i j) (wordAt i′ j′) _ 0 (eqb-false _ _ q)) (f i′ j′ l′ u′ r′))
   where
-    here : wordAt i′ j′ ≡ wordAt i j → (i′ ≡ i) × (j′ ≡ j) → WordFits (d i′) (d j′) (getD (withBan t i j v w) (wordAt i′ j′) 0)
+    here : wordAt i′ j′ ≡ wordAt i j → (i′ ≡ i) × (j′ ≡ j)
+        → WordFits (d i′) (d j′) (getD (set t (wordAt i j) (withBits (d i) (d j) h (getD t (wordAt i j) 0))) (wordAt i′ j′) 0)
     here e s =
-        rw (e, s .0, s .1, getD-set-same t (wordAt i j) _ 0 (rw n (word-in-table i j l h u)))
-        (word-adds (d i) (d j) v w _ di dj ov ow (f i j l h u))
+        rw (e, s .0, s .1, getD-set-same t (wordAt i j) _ 0 (rw n (word-in-table i j l u r)))
+        (word-adds h (d i) (d j) _ di dj (f i j l u r))
 
 -- ---- the whole
 
@@ -189,36 +197,77 @@ to-domain-fits p i f g =
     (λ q. rw (q, domainInRange) (f (leb-true _ _ q)))
     (λ q. rw (q, domainInRange) (eq-eqb _ _ (g (leb-false _ _ q))))
 
+-- n and the domains in range, and every word of the table
+pub header-ranged : (p : Problem) → length (p .domains) ≡ maxAgents → length (p .bans) ≡ maxPairs → countInRange p ≡ true
+    → allTo maxAgents (domainInRange p) ≡ true → Words (domain p) (p .bans) → Ranged p
+unfolding countInRange
+header-ranged p dl bl n d f =
+    let w = within-true maxAgents (p .count) n in
+    record {
+      domainsLong = dl;
+      bansLong = bl;
+      low = w .0;
+      high = w .1;
+      domained = λ i lo hi. within-true _ _ (domain-fits p i (allTo-at _ _ d i lo (omega arith)) .0 hi);
+      beyond = λ i lo hi. domain-fits p i (allTo-at _ _ d i (omega arith) hi) .1 lo;
+      words = f;
+    }
+
 pub ranged : (p : Problem) → inRange p ≡ true → Ranged p
-unfolding inRange sized countInRange bansOwned
+unfolding inRange sized bansOwned
 ranged p e =
     let c = both (sized p && countInRange p && allTo maxAgents (domainInRange p)) (bansOwned p) e in
     let d = both (sized p && countInRange p) _ (c .0) in
     let n = both (sized p) (countInRange p) (d .0) in
     let l = both (eqb (length (p .domains)) maxAgents) _ (n .0) in
-    let w = within-true maxAgents (p .count) (n .1) in
-    record {
-      domainsLong = eqb-true _ _ (l .0);
-      bansLong = eqb-true _ _ (l .1);
-      low = w .0;
-      high = w .1;
-      domained = λ i lo hi. within-true _ _ (domain-fits p i (allTo-at _ _ (d .1) i lo (omega arith)) .0 hi);
-      beyond = λ i lo hi. domain-fits p i (allTo-at _ _ (d .1) i (omega arith) hi) .1 lo;
-      words = λ i j lo h hi.
-          let row = allTo-at _ _ (c .1) j (omega arith) hi in
-          word-fits _ _ _ (allTo-at _ _ row i lo (omega arith));
-    }
+    header-ranged p (eqb-true _ _ (l .0)) (eqb-true _ _ (l .1)) (n .1) (d .1) (λ i j lo h hi.
+    let row = allTo-at _ _ (c .1) j (omega arith) hi in
+    word-fits _ _ _ (allTo-at _ _ row i lo (omega arith)))
+
+pub to-count : (p : Problem) → Ranged p → countInRange p ≡ true
+unfolding countInRange
+to-count p r = to-within maxAgents (p .count) (r .low) (r .high)
+
+pub to-domains : (p : Problem) → Ranged p → allTo maxAgents (domainInRange p) ≡ true
+to-domains p r =
+    to-allTo maxAgents (domainInRange p)
+    (λ i lo hi. to-domain-fits p i (λ u. let b = r .domained i lo u in to-within _ _ (b .0) (b .1)) (λ u. r .beyond i u hi))
 
 pub to-range : (p : Problem) → Ranged p → inRange p ≡ true
-unfolding inRange sized countInRange bansOwned
+unfolding inRange sized bansOwned
 to-range p r =
     let n = to-both (sized p) (countInRange p)
-    (to-both _ _ (eq-eqb _ _ (r .domainsLong)) (eq-eqb _ _ (r .bansLong))) (to-within maxAgents (p .count) (r .low) (r .high)) in
-    let d = to-allTo maxAgents (domainInRange p) (λ i lo hi.
-    to-domain-fits p i (λ u. let b = r .domained i lo u in to-within _ _ (b .0) (b .1)) (λ u. r .beyond i u hi)) in
+    (to-both _ _ (eq-eqb _ _ (r .domainsLong)) (eq-eqb _ _ (r .bansLong))) (to-count p r) in
     let w = to-allTo maxAgents _ (λ j lo hi. to-allTo (pred j) _ (λ i li hj.
     to-word-fits _ _ _ (r .words i j li (omega arith) hi))) in
-    to-both _ _ (to-both _ _ n d) w
+    to-both _ _ (to-both _ _ n (to-domains p r)) w
+
+-- another table changes no domain
+pub domain-same : (p : Problem) (t : List ℕ) (i : ℕ) → domain (withTable p t) i ≡ domain p i
+unfolding withTable domain
+domain-same p t zero = refl
+domain-same p t (suc i) = refl
+
+-- another table in range
+pub table-ranged : (p : Problem) (t : List ℕ) → Ranged p → length t ≡ maxPairs → Words (domain p) t → Ranged (withTable p t)
+unfolding withTable
+table-ranged p t r n f =
+    record {
+      domainsLong = r .domainsLong;
+      bansLong = n;
+      low = r .low;
+      high = r .high;
+      domained = λ i lo hi. rw (domain-same p t i) (r .domained i lo hi);
+      beyond = λ i lo hi. rw (domain-same p t i) (r .beyond i lo hi);
+      words = λ i j lo u hi. rw (domain-same p t i, domain-same p t j) (f i j lo u hi);
+    }
+
+pub none-long : length noBans ≡ maxPairs
+unfolding noBans
+none-long = length-replicate maxPairs 0
+
+pub bare-ranged : (p : Problem) → Ranged p → Ranged (withTable p noBans)
+bare-ranged p r = table-ranged p noBans r none-long (no-words (domain p))
 
 -- no domain is larger than 8, of any number
 pub domain-small : (p : Problem) → Ranged p → (i : ℕ) → domain p i ≤ maxDomain
@@ -248,6 +297,15 @@ linked-pair p i j e =
     let u = both (ltb 0 i && ltb i j) (leb j maxAgents) (h .0) in
     let l = both (ltb 0 i) (ltb i j) (u .0) in
     (ltb-true _ _ (l .0), ltb-true _ _ (l .1), leb-true _ _ (u .1))
+
+-- and a link is of some ban
+pub linked-banned : (p : Problem) → Ranged p → (i j : ℕ) → linked p i j ≡ true → (v : ℕ) × (w : ℕ) × (banned p i j v w ≡ true)
+unfolding linked banned
+linked-banned p r i j e =
+    let b = linked-pair p i j e in
+    let h = both (isPair i j) _ e in
+    let n = word-value _ (ltb-true _ _ (h .1)) (r .words i j (b .0) (b .1) (b .2) .short) in
+    (n .0, n .1, to-both _ _ (to-both _ _ (to-both _ _ (h .0) (n .2)) (n .3)) (n .4))
 
 -- linked agents are agents of the problem
 pub linked-inside : (p : Problem) → Ranged p → (i j : ℕ) → linked p i j ≡ true → (1 ≤ i) × (i < j) × (j ≤ p .count)

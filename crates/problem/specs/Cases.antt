@@ -1,29 +1,30 @@
--- Worked cases of the sheet's checks, each worked out from document 01, 'The sheet' and 'Nights on the rail'.
-use Prim.Native.Nat.{ℕ, pred, _/_, _%_}
-use mathlib.Core.Bool.{Bool, true, false, _&&_, _||_}
+-- Worked cases of the sheet's checks, each worked out from document 01, 'The sheet' and 'Nights on the rail', and document 02, request a.
+use Prim.Native.Nat.{ℕ, pred, _-_}
+use mathlib.Core.Bool.{Bool, true, false, not, _&&_}
 use mathlib.Core.List.{List, [], _∷_, _++_}
 use lib.ListN.{set, take, replicate}
 use lib.Dec.{eqb}
 use Rattle.base.specs.Finite.{allTo}
-use Rattle.problem.specs.Problem.{Problem, maxDomain, banned}
+use Rattle.problem.specs.Problem.{Problem, maxDomain, banned, linked}
+use Rattle.problem.specs.Row.{Row, rowsBan}
 use Rattle.problem.specs.Sheet.{Decoded, Valid, Invalid, faultNumber, decode}
+use Rattle.problem.specs.Writing.{headerBytes, rowBytes}
 
 -- ---- what a case says of a sheet
 
--- i:v with j:w
-pub record Ban : Type 0 where
-  pub lower : ℕ
-  pub lowerValue : ℕ
-  pub higher : ℕ
-  pub higherValue : ℕ
+-- the row that bans i:v with j:w
+abbrev pub ban : ℕ → ℕ → ℕ → ℕ → Row
+ban i v j w = record { lower = i; higher = j; low = v; high = w }
 
-abbrev pub ban : ℕ → ℕ → ℕ → ℕ → Ban
-ban i v j w = record { lower = i; lowerValue = v; higher = j; higherValue = w }
+-- the row that bans the gaps from least to greatest, as signed bytes
+abbrev pub gaps : ℕ → ℕ → ℕ → ℕ → Row
+gaps i j least greatest = record { lower = i; higher = j; low = least; high = greatest }
 
 pub data Case : Type 0 where
   Rejected : List ℕ → ℕ → Case  -- refused with this number
-  Reads : List ℕ → ℕ → List ℕ → List Ban → Case  -- good, with this n, these slot counts and exactly these bans
+  Reads : List ℕ → ℕ → List ℕ → List Row → Case  -- good, with this n, these slot counts and exactly these bans
   Same : List ℕ → List ℕ → Case  -- good both, and the same problem
+  Unlinked : List ℕ → ℕ → ℕ → Case  -- good, and these two agents are not linked
 
 unfoldable pub sameNumbers : List ℕ → List ℕ → Bool
 sameNumbers [] [] = true
@@ -36,22 +37,17 @@ sameBool true b = b
 sameBool false true = false
 sameBool false false = true
 
-unfoldable pub listed : List Ban → ℕ → ℕ → ℕ → ℕ → Bool
-listed [] i j v w = false
-listed (b ∷ bs) i j v w =
-    (eqb (b .lower) i && eqb (b .higher) j && eqb (b .lowerValue) v && eqb (b .higherValue) w) || listed bs i j v w
-
 -- of all that two of its agents could have banned, exactly these are
-unfoldable pub bansAre : List Ban → Problem → Bool
+unfoldable pub bansAre : List Row → Problem → Bool
 bansAre bs p =
     allTo (p .count)
-    (λ j. allTo (pred j) (λ i. allTo maxDomain (λ v. allTo maxDomain (λ w. sameBool (banned p i j v w) (listed bs i j v w)))))
+    (λ j. allTo (pred j) (λ i. allTo maxDomain (λ v. allTo maxDomain (λ w. sameBool (banned p i j v w) (rowsBan 1 p bs i j v w)))))
 
 unfoldable pub rejectedWith : ℕ → Decoded → Bool
 rejectedWith number (Valid p) = false
 rejectedWith number (Invalid f) = eqb (faultNumber f) number
 
-unfoldable pub readAs : ℕ → List ℕ → List Ban → Decoded → Bool
+unfoldable pub readAs : ℕ → List ℕ → List Row → Decoded → Bool
 readAs n slots bs (Valid p) = eqb (p .count) n && sameNumbers (p .domains) slots && bansAre bs p
 readAs n slots bs (Invalid f) = false
 
@@ -63,23 +59,36 @@ unfoldable pub sameDecoded : Decoded → Decoded → Bool
 sameDecoded (Valid p) d = sameProblem p d
 sameDecoded (Invalid f) d = false
 
+unfoldable pub apart : ℕ → ℕ → Decoded → Bool
+apart i j (Valid p) = not (linked p i j)
+apart i j (Invalid f) = false
+
 unfoldable pub caseHolds : Case → Bool
 caseHolds (Rejected s number) = rejectedWith number (decode s)
 caseHolds (Reads s n slots bs) = readAs n slots bs (decode s)
 caseHolds (Same s t) = sameDecoded (decode s) (decode t)
+caseHolds (Unlinked s i j) = apart i j (decode s)
 
 -- ---- sheets, as bytes
 
-unfoldable pub twoBytes : ℕ → List ℕ
-twoBytes k = k % 256 ∷ k / 256 ∷ []
-
 -- n, first index, m, twelve slot counts
 unfoldable pub header : ℕ → ℕ → ℕ → List ℕ → List ℕ
-header n first m slots = (n ∷ 1 ∷ []) ++ twoBytes first ++ twoBytes m ++ (0 ∷ 0 ∷ []) ++ slots ++ (0 ∷ 0 ∷ 0 ∷ 0 ∷ [])
+header = headerBytes 1
 
 -- lower, higher, slot of the lower, slot of the higher, next
 unfoldable pub row : ℕ → ℕ → ℕ → ℕ → ℕ → List ℕ
-row i j v w next = (i ∷ j ∷ v ∷ w ∷ []) ++ twoBytes next ++ (0 ∷ 0 ∷ [])
+row i j v w = rowBytes (ban i v j w)
+
+-- the same of edition 2; a gap below zero as a signed byte
+unfoldable pub gapHeader : ℕ → ℕ → ℕ → List ℕ → List ℕ
+gapHeader = headerBytes 2
+
+unfoldable pub minus : ℕ → ℕ
+minus k = 256 - k
+
+-- lower, higher, least and greatest gap, next
+unfoldable pub gapRow : ℕ → ℕ → ℕ → ℕ → ℕ → List ℕ
+gapRow i j least greatest = rowBytes (gaps i j least greatest)
 
 -- what a spare record may hold
 unfoldable pub garbage : List ℕ
@@ -95,6 +104,10 @@ twos = 2 ∷ 2 ∷ replicate 10 0
 unfoldable pub eights : List ℕ
 eights = replicate 12 8
 
+-- and of two agents with two and three slots
+unfoldable pub twoThree : List ℕ
+twoThree = 2 ∷ 3 ∷ replicate 10 0
+
 -- one agent, no records
 unfoldable pub plain : List ℕ
 plain = header 1 0 0 one
@@ -106,6 +119,10 @@ single record1 = header 2 1 1 twos ++ record1
 -- two agents and two good records, the second ending the chain; the first's next index is given
 unfoldable pub chain : ℕ → List ℕ
 chain next = header 2 1 2 twos ++ row 1 2 1 1 next ++ row 1 2 2 2 0
+
+-- two agents with two and three slots, one record of edition 2
+unfoldable pub far : List ℕ → List ℕ
+far record1 = gapHeader 2 1 1 twoThree ++ record1
 
 unfoldable pub rejections : List Case
 rejections =
@@ -129,7 +146,7 @@ rejections =
     ∷ Rejected (header 13 0 0 eights) 2
     -- edition
     ∷ Rejected (set plain 1 0) 2
-    ∷ Rejected (set plain 1 2) 2
+    ∷ Rejected (set plain 1 3) 2
     -- first index above m, by its low byte and by its high byte
     ∷ Rejected (set plain 2 1) 2
     ∷ Rejected (set (chain 2) 2 3) 2
@@ -189,5 +206,82 @@ readings =
     ∷ Reads (header 12 1 1 eights ++ row 11 12 8 8 0) 12 eights (ban 11 8 12 8 ∷ [])
     ∷ []
 
+-- ---- edition 2
+
+unfoldable pub gapRejections : List Case
+gapRejections =
+    -- "each from -7 to 7": -8 and 8 for the least and the greatest, and the ends of a signed byte
+    Rejected (far (gapRow 1 2 (minus 8) 0 0)) 3
+    ∷ Rejected (far (gapRow 1 2 8 8 0)) 3
+    ∷ Rejected (far (gapRow 1 2 0 8 0)) 3
+    ∷ Rejected (far (gapRow 1 2 (minus 8) (minus 8) 0)) 3
+    ∷ Rejected (far (gapRow 1 2 (minus 128) 0 0)) 3
+    ∷ Rejected (far (gapRow 1 2 0 127 0)) 3
+    -- least above greatest, both in range; -1 is not above 0
+    ∷ Rejected (far (gapRow 1 2 1 0 0)) 3
+    ∷ Rejected (far (gapRow 1 2 0 (minus 1) 0)) 3
+    ∷ Rejected (far (gapRow 1 2 7 (minus 7) 0)) 3
+    -- the field faults of before: scanners, next, last bytes
+    ∷ Rejected (far (gapRow 0 2 0 0 0)) 3
+    ∷ Rejected (far (gapRow 2 2 0 0 0)) 3
+    ∷ Rejected (far (gapRow 2 1 0 0 0)) 3
+    ∷ Rejected (far (gapRow 1 3 0 0 0)) 3
+    ∷ Rejected (far (gapRow 1 2 0 0 2)) 3
+    ∷ Rejected (set (far (gapRow 1 2 0 0 0)) 30 1) 3
+    ∷ Rejected (set (far (gapRow 1 2 0 0 0)) 31 1) 3
+    -- a record that hits nothing has its fields tested too
+    ∷ Rejected (far (gapRow 1 2 7 8 0)) 3
+    -- the chain comes back; a bad record that leads back is bad first
+    ∷ Rejected (far (gapRow 1 2 0 0 1)) 4
+    ∷ Rejected (gapHeader 2 1 2 twoThree ++ gapRow 1 2 0 0 2 ++ gapRow 1 2 7 7 1) 4
+    ∷ Rejected (gapHeader 2 1 2 twoThree ++ gapRow 1 2 0 0 2 ++ gapRow 1 2 1 0 1) 3
+    -- lengths, m and the header as before
+    ∷ Rejected (far (gapRow 1 2 0 0 0) ++ 0 ∷ []) 1
+    ∷ Rejected (take 31 (far (gapRow 1 2 0 0 0))) 1
+    ∷ Rejected (gapHeader 1 0 4225 one) 2
+    ∷ Rejected (set (far (gapRow 1 2 0 0 0)) 2 2) 2
+    -- what an edition takes for good the other may refuse: slots 2 and 1, and gap 0 to gap 0
+    ∷ Rejected (set (single (row 1 2 2 1 0)) 1 2) 3
+    ∷ Rejected (set (far (gapRow 1 2 0 0 0)) 1 1) 3
+    ∷ []
+
+unfoldable pub gapReadings : List Case
+gapReadings =
+    -- least and greatest the same: higher's slot minus lower's is 1, and is -1
+    Reads (far (gapRow 1 2 1 1 0)) 2 twoThree (ban 1 1 2 2 ∷ ban 1 2 2 3 ∷ [])
+    ∷ Reads (far (gapRow 1 2 (minus 1) (minus 1) 0)) 2 twoThree (ban 1 2 2 1 ∷ [])
+    -- both ends are included: from -1 to 1, and from 0 to 2
+    ∷ Reads
+    (far (gapRow 1 2 (minus 1) 1 0))
+    2
+    twoThree
+    (ban 1 1 2 1 ∷ ban 1 1 2 2 ∷ ban 1 2 2 1 ∷ ban 1 2 2 2 ∷ ban 1 2 2 3 ∷ [])
+    ∷ Reads (far (gapRow 1 2 0 2 0)) 2 twoThree (ban 1 1 2 1 ∷ ban 1 1 2 2 ∷ ban 1 1 2 3 ∷ ban 1 2 2 2 ∷ ban 1 2 2 3 ∷ [])
+    -- the whole range is every pair; its ends, each alone, are the corners of eight slots by eight
+    ∷ Same
+    (far (gapRow 1 2 (minus 7) 7 0))
+    (header 2 1 6 twoThree
+    ++ row 1 2 1 1 2 ++ row 1 2 1 2 3 ++ row 1 2 1 3 4 ++ row 1 2 2 1 5 ++ row 1 2 2 2 6 ++ row 1 2 2 3 0)
+    ∷ Reads (gapHeader 12 1 1 eights ++ gapRow 11 12 7 7 0) 12 eights (ban 11 1 12 8 ∷ [])
+    ∷ Reads (gapHeader 12 1 1 eights ++ gapRow 1 2 (minus 7) (minus 7) 0) 12 eights (ban 1 8 2 1 ∷ [])
+    -- "A record that hits no pair of owned slots bans nothing and makes no link."
+    ∷ Reads (far (gapRow 1 2 3 7 0)) 2 twoThree []
+    ∷ Unlinked (far (gapRow 1 2 3 7 0)) 1 2
+    ∷ Unlinked (far (gapRow 1 2 (minus 7) (minus 2) 0)) 1 2
+    ∷ Same (far (gapRow 1 2 3 7 0)) (gapHeader 2 0 0 twoThree)
+    -- the same pairs banned by two records count once, beside a record that hits nothing
+    ∷ Same
+    (gapHeader 2 1 3 twoThree ++ gapRow 1 2 (minus 1) 0 2 ++ gapRow 1 2 0 1 3 ++ gapRow 1 2 5 5 0)
+    (far (gapRow 1 2 (minus 1) 1 0))
+    -- a chain out of order, and one that passes a spare record
+    ∷ Same (gapHeader 2 2 2 twoThree ++ gapRow 1 2 1 1 0 ++ gapRow 1 2 (minus 1) 0 1) (far (gapRow 1 2 (minus 1) 1 0))
+    ∷ Same (gapHeader 2 1 3 twoThree ++ gapRow 1 2 1 1 3 ++ garbage ++ gapRow 1 2 (minus 1) 0 0) (far (gapRow 1 2 (minus 1) 1 0))
+    ∷ Reads (gapHeader 2 0 1 twoThree ++ garbage) 2 twoThree []
+    -- no records
+    ∷ Reads (set plain 1 2) 1 one []
+    -- the same bans in edition 1
+    ∷ Same (far (gapRow 1 2 1 1 0)) (header 2 1 2 twoThree ++ row 1 2 1 2 2 ++ row 1 2 2 3 0)
+    ∷ []
+
 unfoldable pub cases : List Case
-cases = rejections ++ readings
+cases = rejections ++ readings ++ gapRejections ++ gapReadings

@@ -1,3 +1,6 @@
 pub mod Problem
+pub mod Row
 pub mod Sheet
+pub mod Chain
+pub mod Writing
 pub mod Cases

@@ -2,11 +2,11 @@
 -- (slots). Document 01, 'The rail' and 'The sheet'.
 use Prim.Native.Nat.{ℕ, zero, suc, pred, _+_, _*_, _^_, _≤_}
 use mathlib.Core.Path.{_≡_}
-use mathlib.Core.Bool.{Bool, true, false, not, _&&_, _||_}
+use mathlib.Core.Bool.{Bool, true, false, not, cond, _&&_, _||_}
 use mathlib.Core.List.{List}
 use lib.ListN.{length, getD, set, replicate}
 use lib.Dec.{eqb, ltb, leb}
-use Rattle.base.specs.Finite.{within, allTo, greatest}
+use Rattle.base.specs.Finite.{within, allTo, each, greatest}
 use Rattle.base.specs.Bits.{bit, withBit}
 
 -- "n scanners, 1 to 12"
@@ -63,9 +63,19 @@ banned p i j v w =
 unfoldable pub linked : Problem → ℕ → ℕ → Bool
 linked p i j = isPair i j && ltb 0 (getD (p .bans) (wordAt i j) 0)
 
--- the table with one more ban; the same ban twice counts once
-unfoldable pub withBan : List ℕ → ℕ → ℕ → ℕ → ℕ → List ℕ
-withBan t i j v w = set t (wordAt i j) (withBit (getD t (wordAt i j) 0) (bitAt v w))
+-- the problem with another table
+unfoldable pub withTable : Problem → List ℕ → Problem
+withTable p t = record { count = p .count; domains = p .domains; bans = t }
+
+-- a word with the bit of each pair of values, v of 1 to d and w of 1 to e, that h names; the same pair twice counts once
+unfoldable pub withBits : ℕ → ℕ → (ℕ → ℕ → Bool) → ℕ → ℕ
+withBits d e h = each d (λ v. each e (λ w x. cond (h v w) (withBit x (bitAt v w)) x))
+
+-- the problem with a ban of each pair of owned values of lower agent i and higher agent j that h names
+unfoldable pub withBans : Problem → ℕ → ℕ → (ℕ → ℕ → Bool) → Problem
+withBans p i j h =
+    withTable p
+    (set (p .bans) (wordAt i j) (withBits (domain p i) (domain p j) h (getD (p .bans) (wordAt i j) 0)))
 
 unfoldable pub noBans : List ℕ
 noBans = replicate maxPairs 0

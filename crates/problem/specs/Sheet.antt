@@ -1,17 +1,19 @@
--- The sheet: from its bytes to a problem, or the first fault. Document 01, 'The sheet', and the table's numbers 1 to 4.
+-- The sheet, of either edition: from its bytes to a problem, or the first fault. Document 01, 'The sheet', and the table's numbers 1 to 4;
+-- document 02, request a.
 use Prim.Native.Nat.{ℕ, zero, suc, pred, _+_, _*_}
 use mathlib.Core.Bool.{Bool, true, false, _&&_}
 use mathlib.Core.List.{List}
 use lib.ListN.{length, getD, take, drop}
 use lib.Dec.{eqb, ltb, leb}
 use Rattle.base.specs.Finite.{at, within, allTo}
-use Rattle.problem.specs.Problem.{Problem, maxAgents, maxDomain, domain, noBans, withBan}
+use Rattle.problem.specs.Problem.{Problem, maxAgents, noBans, countInRange, domainInRange}
+use Rattle.problem.specs.Row.{Row, rowGood, withRow}
 
 -- why a sheet is rejected
 pub data SheetFault : Type 0 where
   BadLength : SheetFault  -- "length under 24, or not 24 + 8m"
   BadHeader : SheetFault  -- "a header byte outside its range, or first index above m"
-  BadRecord : SheetFault  -- "a chain record: scanners not .., a slot not owned, next above m, last bytes not zero"
+  BadRecord : SheetFault  -- "a chain record: scanners not .., a slot not owned, next above m, last bytes not zero"; a gap out of range
   Cycle : SheetFault  -- "the chain comes back to a record"
 
 -- the table's number
@@ -35,6 +37,10 @@ recordLength = 8
 unfoldable pub maxRecords : ℕ
 maxRecords = 4224
 
+-- "33,816 bytes, the longest sheet"
+unfoldable pub longestSheet : ℕ
+longestSheet = headerLength + recordLength * maxRecords
+
 unfoldable pub byteAt : List ℕ → ℕ → ℕ
 byteAt s k = getD s k 0
 
@@ -46,6 +52,9 @@ wordFrom s k = byteAt s k + 256 * byteAt s (k + 1)
 
 unfoldable pub agentsIn : List ℕ → ℕ
 agentsIn s = byteAt s 0
+
+unfoldable pub editionIn : List ℕ → ℕ
+editionIn s = byteAt s 1
 
 unfoldable pub firstIn : List ℕ → ℕ
 firstIn s = wordFrom s 2
@@ -61,19 +70,14 @@ domainsIn s = take maxAgents (drop 8 s)
 unfoldable pub withoutBans : List ℕ → Problem
 withoutBans s = record { count = agentsIn s; domains = domainsIn s; bans = noBans }
 
--- "slot counts .., zero beyond n"
-unfoldable pub domainGood : List ℕ → ℕ → Bool
-domainGood s i =
-    elim (leb i (agentsIn s))
-    [ true ↦ within maxDomain (domain (withoutBans s) i) | false ↦ eqb (domain (withoutBans s) i) 0 ]
-
+-- "byte 1 may be 1 or 2"
 unfoldable pub headerGood : List ℕ → Bool
 headerGood s =
-    within maxAgents (agentsIn s)
-    && eqb (byteAt s 1) 1
+    countInRange (withoutBans s)
+    && within 2 (editionIn s)
     && leb (recordsIn s) maxRecords
     && eqb (wordFrom s 6) 0
-    && allTo maxAgents (domainGood s)
+    && allTo maxAgents (domainInRange (withoutBans s))
     && eqb (wordFrom s 20) 0
     && eqb (wordFrom s 22) 0
     && leb (firstIn s) (recordsIn s)
@@ -83,48 +87,34 @@ headerGood s =
 unfoldable pub recordStart : ℕ → ℕ
 recordStart r = headerLength + recordLength * pred r
 
-unfoldable pub lowerOf : List ℕ → ℕ → ℕ
-lowerOf s r = byteAt s (recordStart r)
+-- the row whose first byte is at k
+unfoldable pub rowAt : List ℕ → ℕ → Row
+rowAt s k = record { lower = byteAt s k; higher = byteAt s (k + 1); low = byteAt s (k + 2); high = byteAt s (k + 3) }
 
-unfoldable pub higherOf : List ℕ → ℕ → ℕ
-higherOf s r = byteAt s (recordStart r + 1)
-
-unfoldable pub lowerValueOf : List ℕ → ℕ → ℕ
-lowerValueOf s r = byteAt s (recordStart r + 2)
-
-unfoldable pub higherValueOf : List ℕ → ℕ → ℕ
-higherValueOf s r = byteAt s (recordStart r + 3)
+unfoldable pub rowOf : List ℕ → ℕ → Row
+rowOf s r = rowAt s (recordStart r)
 
 unfoldable pub nextOf : List ℕ → ℕ → ℕ
 nextOf s r = wordFrom s (recordStart r + 4)
 
-unfoldable pub recordGood : List ℕ → ℕ → Bool
-recordGood s r =
-    ltb 0 (lowerOf s r)
-    && ltb (lowerOf s r) (higherOf s r)
-    && leb (higherOf s r) (agentsIn s)
-    && within (domain (withoutBans s) (lowerOf s r)) (lowerValueOf s r)
-    && within (domain (withoutBans s) (higherOf s r)) (higherValueOf s r)
-    && leb (nextOf s r) (recordsIn s)
-    && eqb (wordFrom s (recordStart r + 6)) 0
-
--- the table with the ban of record r
-unfoldable pub withRecord : List ℕ → ℕ → List ℕ → List ℕ
-withRecord s r t = withBan t (lowerOf s r) (higherOf s r) (lowerValueOf s r) (higherValueOf s r)
+-- record r, where p has the header's n and slot counts: what it says; "next above m, last bytes not zero"
+unfoldable pub recordGood : List ℕ → Problem → ℕ → Bool
+recordGood s p r =
+    rowGood (editionIn s) p (rowOf s r) && leb (nextOf s r) (recordsIn s) && eqb (wordFrom s (recordStart r + 6)) 0
 
 -- ---- the walk along the chain. "At each step of the walk, a record met before comes first, its fields second."
 
--- at record index r, with the records met before and the table so far. `steps` bounds the walk: a chain of more than m records has come
--- back to one, so where the steps are used up the fault is the same.
-unfoldable pub walk : ℕ → List ℕ → ℕ → (ℕ → Bool) → List ℕ → Decoded
-walk zero s r met t = Invalid Cycle
-walk (suc steps) s r met t =
+-- at record index r, with the records met before and the problem so far. `steps` bounds the walk: a chain of more than m records has
+-- come back to one, so where the steps are used up the fault is the same.
+unfoldable pub walk : ℕ → List ℕ → ℕ → (ℕ → Bool) → Problem → Decoded
+walk zero s r met p = Invalid Cycle
+walk (suc steps) s r met p =
     elim (eqb r 0) [
-      | true ↦ Valid (record { count = agentsIn s; domains = domainsIn s; bans = t })
+      | true ↦ Valid p
       | false ↦ elim (met r) [
         | true ↦ Invalid Cycle
-        | false ↦ elim (recordGood s r) [
-          | true ↦ walk steps s (nextOf s r) (at met r true) (withRecord s r t)
+        | false ↦ elim (recordGood s p r) [
+          | true ↦ walk steps s (nextOf s r) (at met r true) (withRow (editionIn s) (rowOf s r) p)
           | false ↦ Invalid BadRecord
         ]
       ]
@@ -139,7 +129,7 @@ decode s =
         | false ↦ Invalid BadHeader
         | true ↦ elim (eqb (length s) (headerLength + recordLength * recordsIn s)) [
           | false ↦ Invalid BadLength
-          | true ↦ walk (suc (recordsIn s)) s (firstIn s) (λ r. false) noBans
+          | true ↦ walk (suc (recordsIn s)) s (firstIn s) (λ r. false) (withoutBans s)
         ]
       ]
     ]

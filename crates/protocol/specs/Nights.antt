@@ -1,11 +1,14 @@
--- The worked nights of document 01 that are marked P, and three more: scripts of calls and of what must be seen between them.
+-- The worked nights of document 01 that are marked P, and four more: scripts of calls and of what must be seen between them.
 use Prim.Native.Nat.{ℕ, zero, suc}
 use mathlib.Core.Path.{_≡_}
 use mathlib.Core.Bool.{Bool, true, false, _&&_}
 use mathlib.Core.List.{List, [], _∷_, _++_}
 use lib.ListN.{length}
 use lib.Dec.{eqb}
-use Rattle.problem.specs.Cases.{Ban, ban, header, row, sameNumbers}
+use Rattle.problem.specs.Problem.{noBans}
+use Rattle.problem.specs.Row.{Row}
+use Rattle.problem.specs.Writing.{written}
+use Rattle.problem.specs.Cases.{ban, gaps, minus, sameNumbers}
 use Rattle.agent_rules.specs.Message.{Assignment, Message, Info, Back, AddLink}
 use Rattle.agent_rules.specs.Cases.{values, sameMessage}
 use Rattle.protocol.specs.Network.{Network, startSheet}
@@ -14,25 +17,17 @@ use Rattle.protocol.specs.Run.{Ending, None, Plan, Open, endingWord, Ran
 
 -- ---- sheets, as bytes
 
--- the index of the next record, zero behind the last
-unfoldable pub nextIndex : ℕ → List Ban → ℕ
-nextIndex r [] = 0
-nextIndex r (b ∷ bs) = suc r
-
--- records chained in their order, from record r on
-unfoldable pub records : ℕ → List Ban → List ℕ
-records r [] = []
-records r (b ∷ bs) =
-    row (b .lower) (b .higher) (b .lowerValue) (b .higherValue) (nextIndex r bs) ++ records (suc r) bs
-
 unfoldable pub padded : ℕ → List ℕ → List ℕ
 padded zero l = []
 padded (suc m) [] = 0 ∷ padded m []
 padded (suc m) (x ∷ l) = x ∷ padded m l
 
--- the sheet with these slot counts and bans
-unfoldable pub sheet : List ℕ → List Ban → List ℕ
-sheet domains bans = header (length domains) (nextIndex 0 bans) (length bans) (padded 12 domains) ++ records 1 bans
+-- the sheet of an edition with these slot counts and rows
+unfoldable pub sheetOf : ℕ → List ℕ → List Row → List ℕ
+sheetOf edition domains = written edition (record { count = length domains; domains = padded 12 domains; bans = noBans })
+
+unfoldable pub sheet : List ℕ → List Row → List ℕ
+sheet = sheetOf 1
 
 -- ---- messages, compared
 
@@ -118,6 +113,13 @@ sheetUnknown =
 unfoldable pub sheetOrder : List ℕ
 sheetOrder = sheet (2 ∷ 1 ∷ 1 ∷ []) (ban 1 1 2 1 ∷ ban 2 1 3 1 ∷ [])
 
+-- P9's slots; agent 3 behind agent 1 and not right behind agent 2, by slots and by gaps (the third record of gaps hits nothing)
+unfoldable pub sheetBans : List ℕ
+sheetBans = sheet (2 ∷ 1 ∷ 2 ∷ []) (ban 1 1 3 1 ∷ ban 1 2 3 1 ∷ ban 1 2 3 2 ∷ ban 2 1 3 2 ∷ [])
+
+unfoldable pub sheetGaps : List ℕ
+sheetGaps = sheetOf 2 (2 ∷ 1 ∷ 2 ∷ []) (gaps 1 3 (minus 7) 0 ∷ gaps 2 3 1 1 ∷ gaps 1 2 5 7 ∷ [])
+
 unfoldable pub empty : Assignment
 empty = values []
 
@@ -148,6 +150,8 @@ nights =
     ∷ Runs 1 Open 1 ∷ Waiting 2 3 (Info 1 ∷ [])
     ∷ Runs 1 Plan 1 ∷ Waiting 2 3 []
     ∷ Values (2 ∷ 1 ∷ 1 ∷ []) ∷ [])
+    -- the same bans by slots and by gaps
+    ∷ SameStart sheetGaps sheetBans
     ∷ Played sheetBlame (Runs 100000 None 4 ∷ [])
     ∷ Played sheetUnknown (Runs 100000 Plan 4 ∷ Values (2 ∷ 2 ∷ 1 ∷ []) ∷ [])
     ∷ Played sheetOrder (Runs 100000 None 2 ∷ [])

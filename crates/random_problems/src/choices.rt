@@ -2,6 +2,7 @@
 ghost use Prim.Native.Nat.{_≤_, _<_};
 use crate::reading::obeys;
 use crate::reading::slots;
+use crate::reading::wide;
 
 // Place i - 1 is the slot of scanner i. `over` says that the choices were gone through.
 pub struct Choice {
@@ -10,14 +11,16 @@ pub struct Choice {
 }
 
 // The slot of scanner i, and 0 where there is no such scanner.
-pub fn slot_of(c: Choice, i: usize) -> usize {
+pub fn slot_of(c: Choice, i: usize) -> usize
+    ensures { λ v. ⌜ v < 256 ⌝ }
+{
     if i == 0 {
         return 0;
     }
     if 12 < i {
         return 0;
     }
-    c.of[i - 1] as usize
+    wide(c.of[i - 1])
 }
 
 // Each has its first slot.

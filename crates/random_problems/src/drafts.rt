@@ -1,4 +1,4 @@
-// Random sheets of every kind: chains out of order, spare records, bans that stand twice, damaged ones.
+// Random sheets of every kind: both editions, chains out of order, spare records, bans that stand twice, damaged ones.
 ghost use Prim.Native.Nat.{_+_, _≤_, _<_};
 use crate::draws::next;
 use crate::draws::pick;
@@ -121,6 +121,15 @@ fn headed(state: u64) -> Draft {
     with_scanners(d, n, most_slots(n))
 }
 
+// One sheet in three bans gaps.
+fn of_edition(d: Draft) -> Draft {
+    let o = stirred(d);
+    if pick(o.state, 3) == 0 {
+        return with_byte(o, 1, 2);
+    }
+    o
+}
+
 // ---- the records
 
 // Two scanners, the higher behind the lower, for the record that begins here.
@@ -147,10 +156,32 @@ fn with_slot(d: Draft, at: usize) -> Draft
     with_byte(d, at + 2, 1 + pick(d.state, byte_at(d, 7 + scanner)))
 }
 
-// Record r bans a slot of one scanner with a slot of another, higher one.
+// No gap is above 7, for which 14 stands.
+fn capped(gap: usize) -> usize
+    ensures { λ g. ⌜ g ≤ 14 ⌝ }
+{
+    if gap < 15 { gap } else { 14 }
+}
+
+// A least gap and a greatest one, up to three above it: 0 to 14 stand for -7 to 7, and a byte is 7 less.
+fn with_gaps(d: Draft, at: usize) -> Draft
+    requires { ⌜ at ≤ 976 ⌝ }
+{
+    let d = stirred(d);
+    let least = pick(d.state, 15);
+    let d = stirred(d);
+    let greatest = capped(least + pick(d.state, 4));
+    with_byte(with_byte(d, at + 2, 249 + least), at + 3, 249 + greatest)
+}
+
+// Record r bans a slot of one scanner with a slot of another, higher one, or gaps between them.
 fn with_ban(d: Draft, r: usize) -> Draft {
     let at = record_at(r);
-    with_slot(with_slot(with_pair(d, at), at), at + 1)
+    let o = with_pair(d, at);
+    if byte_at(o, 1) == 2 {
+        return with_gaps(o, at);
+    }
+    with_slot(with_slot(o, at), at + 1)
 }
 
 // Record r says what record q says.
@@ -268,7 +299,7 @@ fn with_more(d: Draft) -> Draft {
     d
 }
 
-// Almost half of the sheets are damaged; some damage is harmless.
+// Half of the sheets are damaged; some damage is harmless.
 fn damaged(d: Draft) -> Draft {
     let d = stirred(d);
     let records = 8 * byte_at(d, 4);
@@ -280,11 +311,12 @@ fn damaged(d: Draft) -> Draft {
         4 => with_detour(d),
         5 => with_cut(d),
         6 => with_more(d),
+        7 => with_hit(d, 24, records, 256),
         _ => d,
     }
 }
 
 // A sheet for this state of the generator.
 pub fn drawn(state: u64) -> Draft {
-    damaged(with_records(headed(state)))
+    damaged(with_records(of_edition(headed(state))))
 }

@@ -18,11 +18,13 @@ use rails::at_rest;
 use rails::listed;
 use rails::taken;
 use reading::fault;
+use reading::of_gaps;
 use run::Ending;
 use tallies::AT_REST;
 use tallies::AT_VERDICT;
 use tallies::CUT_SHORT;
 use tallies::DELIVERIES;
+use tallies::GAPS;
 use tallies::JAMMED;
 use tallies::NONES;
 use tallies::OPEN;
@@ -94,7 +96,7 @@ fn with_list(t: Tally, rail: Network, state: u64, found: bool, s: &[u8]) -> Tall
     if l.wrong == 0 {
         return t;
     }
-    judged(t, 15, false, b"a delivery with a wrong number:", s)
+    judged(t, 16, false, b"a delivery with a wrong number:", s)
 }
 
 // A sheet, which is refused with the right number, or whose rail is run and delivered on.
@@ -112,6 +114,7 @@ fn with_sheet(t: Tally, state: u64, s: &[u8]) -> Tally {
     if number != 0 {
         return with_one(t, number as usize);
     }
+    let t = if of_gaps(s) { with_one(t, GAPS) } else { t };
     let found = solvable(s);
     with_list(
         with_run(t, rail, state, found, s),
@@ -131,7 +134,7 @@ fn with_bytes(t: Tally, state: u64, bytes: &[u8], length: usize) -> Tally {
 
 // So many sheets, from a fixed seed.
 fn tried(sheets: usize) -> Tally {
-    let mut t = Tally { of: [0u64; 15] };
+    let mut t = Tally { of: [0u64; 16] };
     let mut state: u64 = 20030139;
     for k in 0..sheets {
         let d = drawn(state);

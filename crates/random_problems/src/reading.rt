@@ -62,7 +62,7 @@ fn all_slots_right(s: &[u8]) -> bool {
 fn header_right(s: &[u8]) -> bool {
     let n = byte(s, 0);
     let m = word(s, 4);
-    if n == 0 || 12 < n || byte(s, 1) != 1 {
+    if n == 0 || 12 < n || byte(s, 1) == 0 || 2 < byte(s, 1) {
         return false;
     }
     if 4224 < m || m < word(s, 2) {
@@ -90,6 +90,28 @@ fn owned(s: &[u8], i: usize, v: usize) -> bool
     0 < v && v <= slots(s, i)
 }
 
+// The sheet bans gaps.
+pub fn of_gaps(s: &[u8]) -> bool {
+    byte(s, 1) == 2
+}
+
+// The gap in byte k, 7 more: 0 to 14 stand for -7 to 7, and what is beyond is no gap.
+fn gap(s: &[u8], k: usize) -> usize
+    ensures { λ g. ⌜ g < 256 ⌝ }
+{
+    (byte(s, k) + 7) % 256
+}
+
+// The two fields behind the scanners: gaps in order, or owned slots.
+fn fields_right(s: &[u8], at: usize) -> bool
+    requires { ⌜ at < 65000 ⌝ }
+{
+    if of_gaps(s) {
+        return gap(s, at + 2) <= gap(s, at + 3) && gap(s, at + 3) < 15;
+    }
+    owned(s, byte(s, at), byte(s, at + 2)) && owned(s, byte(s, at + 1), byte(s, at + 3))
+}
+
 fn record_right(s: &[u8], r: usize) -> bool {
     let at = record_at(r);
     let lower = byte(s, at);
@@ -97,7 +119,7 @@ fn record_right(s: &[u8], r: usize) -> bool {
     if lower == 0 || higher <= lower || byte(s, 0) < higher {
         return false;
     }
-    if !owned(s, lower, byte(s, at + 2)) || !owned(s, higher, byte(s, at + 3)) {
+    if !fields_right(s, at) {
         return false;
     }
     word(s, at + 4) <= word(s, 4) && word(s, at + 6) == 0
@@ -137,13 +159,15 @@ pub fn fault(s: &[u8]) -> u8 {
 
 // ---- bans
 
-// Record r bans these slots.
+// Record r bans these slots: they are the two that it names, or the higher's, 7 more, is as far above the lower's as its gaps say, 7 more.
 fn bans(s: &[u8], r: usize, c: Choice) -> bool {
     let at = record_at(r);
-    if slot_of(c, byte(s, at)) != byte(s, at + 2) {
-        return false;
+    let low = slot_of(c, byte(s, at));
+    let high = slot_of(c, byte(s, at + 1));
+    if of_gaps(s) {
+        return low + gap(s, at + 2) <= high + 7 && high + 7 <= low + gap(s, at + 3);
     }
-    slot_of(c, byte(s, at + 1)) == byte(s, at + 3)
+    low == byte(s, at + 2) && high == byte(s, at + 3)
 }
 
 // No record of the chain bans these slots.

@@ -25,15 +25,17 @@ pub const DELIVERIES: usize = 12;
 
 pub const REFUSALS: usize = 13;
 
-pub const FAILED: usize = 14;
+pub const GAPS: usize = 14;
+
+pub const FAILED: usize = 15;
 
 pub struct Tally {
-    pub of: [u64; 15],
+    pub of: [u64; 16],
 }
 
 pub fn with_more(t: Tally, kind: usize, more: u64) -> Tally {
     let mut o = t;
-    if 14 < kind {
+    if 15 < kind {
         return o;
     }
     let n = t.of[kind];
@@ -81,22 +83,23 @@ fn counted(words: &[u8], tried: u64, failures: u64) -> u64 {
     failures
 }
 
-fn report_sheets(t: [u64; 15]) -> u64 {
+fn report_sheets(t: [u64; 16]) -> u64 {
     let failures = counted(b"sheets ", t[SHEETS], t[FAILED]);
+    let failures = counted(b"of gaps, accepted ", t[GAPS], failures);
     let failures = counted(b"refused 1: ", t[1], failures);
     let failures = counted(b"refused 2: ", t[2], failures);
     let failures = counted(b"refused 3: ", t[3], failures);
     counted(b"refused 4: ", t[4], failures)
 }
 
-fn report_runs(t: [u64; 15], before: u64) -> u64 {
+fn report_runs(t: [u64; 16], before: u64) -> u64 {
     let failures = counted(b"runs to a plan ", t[PLANS], before);
     let failures = counted(b"runs to none ", t[NONES], failures);
     let failures = counted(b"runs that jammed ", t[JAMMED], failures);
     counted(b"runs left open ", t[OPEN], failures)
 }
 
-fn report_lists(t: [u64; 15], before: u64) -> u64 {
+fn report_lists(t: [u64; 16], before: u64) -> u64 {
     let failures = counted(b"lists to rest ", t[AT_REST], before);
     let failures = counted(b"lists to the verdict ", t[AT_VERDICT], failures);
     let failures = counted(b"lists cut short ", t[CUT_SHORT], failures);

@@ -1,6 +1,7 @@
-mod Header
+mod Headers
 mod Table
+mod Gaps
+mod Pairs
+mod Bands
 mod Records
-mod Chain
 mod Walking
-mod Checks

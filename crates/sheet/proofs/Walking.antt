@@ -1,32 +1,42 @@
--- The walk's loop invariant: what is left of the walk is the definition's walk from here, with the records met as a list of flags.
--- It holds at the first record, and a good record that was not met before takes it to the next.
-use mathlib.Core.Path.{_≡_, sym, ap, _∙_}
-use mathlib.Core.Bool.{Bool, true, false}
+-- The walk's loop invariant: what is left of the walk is the definition's walk from here, with the table so far.
+-- It holds at the first record, and a good record takes it to the next.
+use mathlib.Core.Path.{_≡_, _∙_}
+use mathlib.Core.Bool.{true, false}
 use mathlib.Core.List.{List}
-use Prim.Native.Nat.{ℕ, _+_, _-_, _*_, _≤_, _<_}
+use Prim.Native.Nat.{ℕ, _+_, _-_, _*_, _^_, _≤_, _<_}
 use native.Mathlib.Numerals.{add-one}
 use native.Mathlib.Omega.{arith}
-use lib.ListN.{length, getD, set, replicate, length-set, length-replicate}
-use Rattle.base.proofs.Loops.{flagged, flagged-none, flagged-set}
-use Rattle.problem.specs.Problem.{maxPairs, noBans, withBan}
-use Rattle.problem.specs.Sheet.{headerLength, recordLength, byteAt, wordFrom, agentsIn, firstIn, recordsIn, headerGood, nextOf, recordGood, withRecord, walk}
-use Rattle.sheet.specs.Abstract.{wholeWalk, Framed}
-use Rattle.sheet.proofs.Header.{header}
-use Rattle.sheet.proofs.Records.{good-record, ban-there, next-there}
-use Rattle.sheet.proofs.Chain.{walk-goes}
+use lib.Dec.{eqb, ltb}
+use lib.ListN.{length, set, replicate, length-set, length-replicate}
+use lib.Seq.{set-out, getD-set-same, getD-set-other}
+use borrow.Author.Tests.{eqb-true, eqb-false, ltb-true, ltb-false}
+use Rattle.base.proofs.Tests.{test}
+use Rattle.base.proofs.Arrays.{getD-same}
+use Rattle.problem.specs.Problem.{maxDomain, maxPairs, withTable, withBans, noBans}
+use Rattle.problem.specs.Row.{withRow}
+use Rattle.problem.specs.Sheet.{Invalid, BadRecord, headerLength, recordLength, wordFrom, agentsIn, firstIn, recordsIn, withoutBans, headerGood, rowAt, rowOf, nextOf, recordGood, decode}
+use Rattle.problem.proofs.Fields.{record-fits}
+use Rattle.problem.proofs.Range.{domain-same}
+use Rattle.problem.proofs.Bits.{bits-below}
+use Rattle.problem.proofs.Walk.{freeWalk, free-fails, free-goes, record-same}
+use Rattle.problem.proofs.Checks.{walked}
+use Rattle.sheet.specs.Abstract.{Framed}
+use Rattle.sheet.specs.Parts.{Good, Short, tableWith}
+use Rattle.sheet.proofs.Headers.{header}
+use Rattle.sheet.proofs.Records.{start-at, good-record}
 
-pub record Walking (s : List ℕ) (met : List Bool) (bans : List ℕ) (r left : ℕ) : Type 0 where
+pub record Walking (s : List ℕ) (bans : List ℕ) (r left : ℕ) : Type 0 where
   pub header : headerGood s ≡ true
   pub agents : agentsIn s ≤ 12
   pub records : recordsIn s ≤ 4224
   pub total : length s ≡ 24 + 8 * recordsIn s
   pub here : r ≤ recordsIn s
-  pub flags : length met ≡ 4225
   pub words : length bans ≡ 66
-  pub rest : wholeWalk s ≡ walk left s r (flagged met) bans
+  pub short : Short bans
+  pub rest : decode s ≡ freeWalk left s r (withTable (withoutBans s) bans)
 
-pub starts : (s : List ℕ) → Framed s → Walking s (replicate 4225 false) (replicate 66 0) (wordFrom s 2) (wordFrom s 4 + 1)
-unfolding headerLength recordLength firstIn recordsIn noBans maxPairs wholeWalk
+pub starts : (s : List ℕ) → Framed s → Walking s (replicate 66 0) (wordFrom s 2) (wordFrom s 4 + 1)
+unfolding maxPairs withTable noBans headerLength recordLength firstIn recordsIn withoutBans
 starts s f =
     let head = header s (f .header) in
     record {
@@ -35,30 +45,53 @@ starts s f =
       records = head .records;
       total = f .total;
       here = head .first;
-      flags = length-replicate 4225 false;
       words = length-replicate {A = ℕ} 66 0;
-      rest = rw (flagged-none 4225, add-one (wordFrom s 4));
+      short = λ k. rw (getD-same {A = ℕ} 66 0 k) (omega arith);
+      rest = rw (add-one (wordFrom s 4)) (walked s (f .header) (f .total));
     }
 
-pub goes : (s : List ℕ) (met : List Bool) (bans : List ℕ) (r left : ℕ) → Walking s met bans r left → 0 < left
-    → (r ≡ 0 → ⊥) → getD met r false ≡ false → recordGood s r ≡ true
-    → (let k = 16 + 8 * r in
-    Walking s (set met r true) (withBan bans (byteAt s k) (byteAt s (k + 1)) (byteAt s (k + 2)) (byteAt s (k + 3))) (wordFrom s (k + 4)) (left - 1))
-unfolding flagged withBan
-goes s met bans r left w more e m h =
-    let l : 1 ≤ r = omega arith in
-    let inside : r < length met = omega arith in
+pub fails : (s bans : List ℕ) (r left : ℕ) → Walking s bans r left → 0 < left → (r ≡ 0 → ⊥) → recordGood s (withoutBans s) r ≡ false
+    → decode s ≡ Invalid BadRecord
+fails s bans r left w more e h =
+    w .rest ∙ free-fails s r (withTable (withoutBans s) bans) left more e (record-same s (withoutBans s) bans r ∙ h)
+
+pub good : (s bans : List ℕ) (r left : ℕ) → Walking s bans r left → (r ≡ 0 → ⊥) → recordGood s (withoutBans s) r ≡ true → Good s r
+good s bans r left w e h = record { header = w .header; index = omega arith; inside = omega (arith, w .total, w .here); fields = h }
+
+-- words of 64 bits stay so
+short-set : (t : List ℕ) (i x : ℕ) → Short t → x < 2 ^ 64 → Short (set t i x)
+short-set t i x short h k =
+    test (eqb k i)
+    (λ e. test (ltb i (length t))
+    (λ l. rw (eqb-true k i e, getD-set-same t i x 0 (ltb-true i (length t) l)) h)
+    (λ l. rw (set-out t i x (ltb-false i (length t) l)) (short k)))
+    (λ e. rw (getD-set-other t i k x 0 (eqb-false k i e)) (short k))
+
+short-more : (s : List ℕ) (r : ℕ) (t : List ℕ) → Good s r → Short t → Short (tableWith s r t)
+unfolding maxDomain withTable withBans rowAt rowOf withRow tableWith
+short-more s r t g short =
+    let f = rw (← start-at r (g .index)) at (good-record s r g) in
+    let same = domain-same (withoutBans s) t in
+    short-set t _ _ short
+    (bits-below _ _ _ _ (rw (same (rowOf s r .lower)) (f .lowers .1)) (rw (same (rowOf s r .higher)) (f .highers .1)) (short _))
+
+next-there : (s : List ℕ) (r : ℕ) → 1 ≤ r → wordFrom s (20 + 8 * r) ≡ nextOf s r
+unfolding nextOf
+next-there s r l = let on : 20 + 8 * r ≡ 16 + 8 * r + 4 = omega arith in rw (on, start-at r l)
+
+pub goes : (s bans : List ℕ) (r left : ℕ) → Walking s bans r left → 0 < left → (r ≡ 0 → ⊥) → recordGood s (withoutBans s) r ≡ true
+    → Walking s (tableWith s r bans) (wordFrom s (20 + 8 * r)) (left - 1)
+unfolding withTable withBans withRow tableWith
+goes s bans r left w more e h =
+    let there = next-there s r (omega arith) in
+    let on = free-goes s r (withTable (withoutBans s) bans) left more e (record-same s (withoutBans s) bans r ∙ h) in
     record {
       header = w .header;
       agents = w .agents;
       records = w .records;
       total = w .total;
-      here = good-record s r l (w .header) h .next;
-      flags = length-set met r true ∙ w .flags;
-      words = simp length-set (w .words);
-      rest =
-          rw (ban-there s r bans l, next-there s r l)
-          (w .rest
-          ∙ walk-goes s r (flagged met) bans left more e m h
-          ∙ ap (λ (f : ℕ → Bool). walk (left - 1) s (nextOf s r) f (withRecord s r bans)) (sym (flagged-set met r inside)));
+      here = rw there (record-fits s (withoutBans s) r h .next);
+      words = length-set bans _ _ ∙ w .words;
+      short = short-more s r bans (good s bans r left w e h) (w .short);
+      rest = rw there (w .rest ∙ on);
     }

@@ -1,11 +1,11 @@
 -- What the code's values mean: the problem and the outcome of the definitions that they stand for. A primed name is the definitions'.
-use Prim.Native.Nat.{ℕ, suc, _+_, _*_}
+use Prim.Native.Nat.{ℕ, _+_, _*_}
 use mathlib.Core.Path.{_≡_}
-use mathlib.Core.Bool.{true, false}
+use mathlib.Core.Bool.{true}
 use mathlib.Core.List.{List}
 use lib.ListN.{length}
-use Rattle.problem.specs.Problem.{Problem as Problem′, emptyProblem, noBans}
-use Rattle.problem.specs.Sheet.{Decoded as Decoded′, Valid, Invalid, faultNumber, headerLength, recordLength, firstIn, recordsIn, headerGood, walk}
+use Rattle.problem.specs.Problem.{Problem as Problem′, emptyProblem}
+use Rattle.problem.specs.Sheet.{Decoded as Decoded′, Valid, Invalid, faultNumber, headerLength, recordLength, recordsIn, headerGood}
 use Rattle.sheet.specs.declared.Problem.{Problem}
 use Rattle.sheet.specs.declared.Decoded.{Decoded}
 
@@ -30,10 +30,6 @@ outcomeOf d = record { number = d .number; problem = problemOf (d .problem) }
 pub record Sized (p : Problem) : Type 0 where
   pub domains : length (p .domains) ≡ 12
   pub bans : length (p .bans) ≡ 66
-
--- the walk as it begins: at the first record, none met, no ban
-unfoldable pub wholeWalk : List ℕ → Decoded′
-wholeWalk s = walk (suc (recordsIn s)) s (firstIn s) (λ r. false) noBans
 
 -- the header is good and the total length is the one that it states: the walk may begin
 pub record Framed (s : List ℕ) : Type 0 where

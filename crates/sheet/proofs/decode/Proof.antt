@@ -3,10 +3,10 @@
 use mathlib.Core.Path.{_≡_, sym, _∙_}
 use mathlib.Core.Bool.{true}
 use borrow.Author.Needs.{needs}
-use borrow.Author.Tests.{not-true, not-false}
-use Rattle.problem.specs.Sheet.{faultNumber, recordsIn, headerGood}
+use borrow.Author.Tests.{eqb-true, not-true, not-false}
+use Rattle.problem.specs.Sheet.{faultNumber, headerLength, recordLength, recordsIn, headerGood}
 use Rattle.sheet.specs.Abstract.{outcome}
-use Rattle.sheet.proofs.Checks.{short, bad-header, bad-length, framed, walked}
+use Rattle.problem.proofs.Checks.{short, bad-header, bad-length}
 use Rattle.sheet.proofs.decode.Statement.{statement}
 use Rattle.sheet.proofs.decode.Tie as tie
 
@@ -44,15 +44,12 @@ good : (c : tie.Else2) → headerGood (c .before .before .before .before .before
 good c = sym (c .before .before .header-good .ensures) ∙ not-false (c .before .before .header-good .result) (c .if2 .left)
 
 walk-requires : tie.Need-walk-requires
-unfolding recordsIn
-walk-requires c κs = framed _ _ (c .before .before .two-bytes .ensures .0) (good (c .before)) (c .if3 .taken)
+unfolding headerLength recordLength recordsIn
+walk-requires c κs =
+    record { header = good (c .before); total = rw (← c .before .before .two-bytes .ensures .0) (eqb-true _ _ (c .if3 .taken)) }
 
 returns-3 : tie.Need-returns-3
-unfolding recordsIn
-returns-3 c =
-    let counted = c .before .before .before in
-    let frame = framed _ _ (counted .two-bytes .ensures .0) (good (c .before .before)) (c .before .if3 .taken) in
-    (rw (walked _ (counted .before .before .if1 .left) frame) (c .walk .ensures .0), c .walk .ensures .1)
+returns-3 c = c .walk .ensures
 
 rejected-requires-3 : tie.Need-rejected-requires-3
 rejected-requires-3 c κs = search needs
@@ -61,9 +58,8 @@ returns-4 : tie.Need-returns-4
 unfolding faultNumber recordsIn outcome
 returns-4 c =
     let counted = c .before .before .before in
-    let other = c .before .if3 .left in (
-      rw (bad-length _ _ (counted .two-bytes .ensures .0) (counted .before .before .if1 .left) (good (c .before .before)) other)
-          (c .rejected3 .ensures .0),
+    let other = rw (counted .two-bytes .ensures .0) at (c .before .if3 .left) in (
+      rw (bad-length _ (counted .before .before .if1 .left) (good (c .before .before)) other) (c .rejected3 .ensures .0),
       c .rejected3 .ensures .1,
     )
 
