@@ -1,4 +1,4 @@
--- The worked nights of document 01 that are marked P, and four more: scripts of calls and of what must be seen between them.
+-- The worked nights of document 01 that are marked P, and six more: scripts of calls and of what must be seen between them.
 use Prim.Native.Nat.{ℕ, zero, suc}
 use mathlib.Core.Path.{_≡_}
 use mathlib.Core.Bool.{Bool, true, false, _&&_}
@@ -10,7 +10,8 @@ use Rattle.problem.specs.Row.{Row}
 use Rattle.problem.specs.Writing.{written}
 use Rattle.problem.specs.Cases.{ban, gaps, minus, sameNumbers}
 use Rattle.agent_rules.specs.Message.{Assignment, Message, Info, Back, AddLink}
-use Rattle.agent_rules.specs.Cases.{values, sameMessage}
+use Rattle.agent_rules.specs.Agent.{Agent}
+use Rattle.agent_rules.specs.Cases.{values, agent, sameAgent, sameMessage}
 use Rattle.protocol.specs.Network.{Network, startSheet}
 use Rattle.protocol.specs.Delivery.{answerNumber, deliver, askValue}
 use Rattle.protocol.specs.Run.{Ending, None, Plan, Open, endingWord, Ran, run}
@@ -44,6 +45,7 @@ pub data Scene : Type 0 where
   Delivers : ℕ → ℕ → ℕ → Scene  -- a delivery on a line: its number
   Waiting : ℕ → ℕ → List Message → Scene  -- a line holds exactly these, head first
   Values : List ℕ → Scene  -- asked, agents 1, 2, .. give these values, and number 0
+  Holds : ℕ → Agent → Scene  -- an agent has this record
 
 unfoldable pub asked : ℕ → List ℕ → Network → Bool
 asked i [] w = true
@@ -60,6 +62,7 @@ holdsFrom (Delivers i j number ∷ cs) w =
     let d = deliver w i j in eqb (answerNumber (d .answer)) number && holdsFrom cs (d .network)
 holdsFrom (Waiting i j ms ∷ cs) w = sameMessages (w .channel i j) ms && holdsFrom cs w
 holdsFrom (Values vs ∷ cs) w = asked 1 vs w && holdsFrom cs w
+holdsFrom (Holds i a ∷ cs) w = sameAgent (w .agents i) a && holdsFrom cs w
 
 -- ---- nights
 
@@ -120,8 +123,19 @@ sheetBans = sheet (2 ∷ 1 ∷ 2 ∷ []) (ban 1 1 3 1 ∷ ban 1 2 3 1 ∷ ban 1 
 unfoldable pub sheetGaps : List ℕ
 sheetGaps = sheetOf 2 (2 ∷ 1 ∷ 2 ∷ []) (gaps 1 3 (minus 7) 0 ∷ gaps 2 3 1 1 ∷ gaps 1 2 5 7 ∷ [])
 
+-- agents 1 and 2 of P5, agent 1 with a value more, on one rail with two others
+unfoldable pub sheetShared : List ℕ
+sheetShared = sheet (3 ∷ 1 ∷ 2 ∷ 1 ∷ []) (ban 1 1 2 1 ∷ ban 1 1 3 1 ∷ ban 1 2 4 1 ∷ ban 3 2 4 1 ∷ [])
+
 unfoldable pub empty : Assignment
 empty = values []
+
+-- agent 2 of either, when it was told 1's value 1, and then 2
+unfoldable pub told1 : List Scene
+told1 = Holds 2 (agent 1 (1 ∷ []) [] [] []) ∷ Waiting 2 1 (Back empty 1 ∷ []) ∷ []
+
+unfoldable pub told2 : List Scene
+told2 = Holds 2 (agent 1 (1 ∷ []) [] (2 ∷ []) []) ∷ Waiting 2 1 [] ∷ []
 
 unfoldable pub nights : List Night
 nights =
@@ -155,4 +169,10 @@ nights =
     ∷ Played sheetBlame (Runs 100000 None 4 ∷ [])
     ∷ Played sheetUnknown (Runs 100000 Plan 4 ∷ Values (2 ∷ 2 ∷ 1 ∷ []) ∷ [])
     ∷ Played sheetOrder (Runs 100000 None 2 ∷ [])
+    -- two rails alike in agent 2, which is handed the same on both: it has the same record and sends the same
+    ∷ Played sheet5 (Delivers 1 2 0 ∷ told1 ++ Delivers 2 1 0 ∷ Delivers 1 2 0 ∷ told2)
+    ∷ Played sheetShared (
+    Delivers 1 3 0 ∷ Delivers 2 1 8 ∷ Delivers 1 2 0
+    ∷ told1 ++ Delivers 1 4 0 ∷ Delivers 2 1 0 ∷ Delivers 1 4 0 ∷ Delivers 1 2 0
+    ∷ told2)
     ∷ []

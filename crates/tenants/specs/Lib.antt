@@ -1,0 +1,3 @@
+pub mod Tenants
+pub mod Claims
+pub mod Nights

@@ -1,0 +1,1 @@
+// Theorems about two networks that are alike in one agent; no code.
