@@ -1,4 +1,4 @@
-// Document 01's rules 'Choosing' and 'Backing up'.
+// The rules 'Choosing' and 'Backing up'.
 ghost use mathlib.Core.Path.{_≡_};
 ghost use mathlib.Core.Bool.{not};
 ghost use mathlib.Core.List.{List};
@@ -92,7 +92,7 @@ fn give_reasons(nogoods: &mut [u64; 8], view: u64, bars: Bars, stored: u8, tried
     }
 }
 
-// "The lowest slot still free is taken, those above it are not tried and get no reason." Where none is free, all left sides are joined.
+// "The lowest slot that is still free is taken; those above it are not tried and get no reason." Where none is free, all left sides are joined.
 fn choose(nogoods: &mut [u64; 8], own: Own, view: u64, bars: Bars, stored: u8) -> Choice
     requires { ⌜ OwnFits own ⌝ }
     requires { ⌜ (length (now nogoods) ≡ 8) × Coherent own (assignment view) (nogoodsOf stored (now nogoods)) ⌝ }
@@ -133,7 +133,7 @@ impl State {
         }
     }
 
-    // The value taken: "news goes to all it informs, even if the slot is the old one". None, 0: the verdict falls, and nobody is told.
+    // The value taken: "News of it goes to all that it informs, even if the slot is the old one". None, 0: the verdict falls, and nobody is told.
     fn ending(self, value: u8, links: u16, count: u8) -> Done
         ensures { λ r. ⌜ r ≡ ended self value links count ⌝ }
     {
@@ -157,8 +157,8 @@ impl State {
         }
     }
 
-    // Choosing, with backing up: "If no slot is free, join all left sides. .. Otherwise the highest-numbered scanner in it gets a refusal .. The sender sets
-    // that scanner to unknown, drops all reasons naming it, and chooses again. This repeats until a slot is taken." The Backs are put into `backs`, each
+    // Choosing, with backing up: "If no slot is free, all left sides are joined. .. Otherwise the highest-numbered scanner in it gets a refusal .. The sender sets
+    // that scanner to unknown, drops all reasons naming it, and chooses again. chooses again, until a slot is taken." The Backs are put into `backs`, each
     // as the whole nogood. Link requests to the agents of the set `links` are sent before.
     pub(crate) fn settle(
         self,

@@ -165,7 +165,7 @@ impl Agent {
         }
     }
 
-    // The start: "All views are unknown, each scanner chooses." Nothing is known, so nothing is barred, the lowest value is free, and an Info of it goes
+    // The start: "All views are unknown, and each scanner chooses." Nothing is known, so nothing is barred, the lowest value is free, and an Info of it goes
     // to all that are informed.
     pub fn begin(own: Own, listens: u16, informs: u16) -> Agent
         requires { ⌜ OwnFits own ⌝ }

@@ -1,4 +1,4 @@
-// Document 01's rules 'News' (Info), 'Refusal' (Back) and 'Link request' (AddLink): what an agent does with a message before it chooses, if it has to.
+// The rules 'News' (Info), 'Refusal' (Back) and 'Link request' (AddLink): what an agent does with a message before it chooses, if it has to.
 ghost use mathlib.Core.Path.{_≡_};
 ghost use mathlib.Core.Bool.{false};
 ghost use mathlib.Core.List.{List};
@@ -43,7 +43,7 @@ impl State {
         }
     }
 
-    // "Update the view, drop reasons that disagree with it. If the own slot is now banned, choose; else nothing." What nogoods name has its value in the
+    // "The view is updated, and reasons that disagree with it are dropped. If the own slot is now banned, it chooses; otherwise that is all." What nogoods name has its value in the
     // view: they can be left alone where that value stays, and where there was none.
     pub(crate) fn on_info(
         self,
@@ -73,7 +73,7 @@ impl State {
         }
     }
 
-    // "each left-side scanner that the receiver listens to has that slot in its view"; "Unknown does not match." A walk along the left side, which can be
+    // "each left-side scanner that the receiver listens to has that slot in its view"; "unknown does not match." A walk along the left side, which can be
     // left out where the view has all of it.
     fn hear(self, own: Own, bans: &[u64], lhs: u64) -> Heard
         requires { ⌜ Able own (now bans) ⌝ }
@@ -113,9 +113,9 @@ impl State {
         h
     }
 
-    // A Back: "It holds if the refused slot is the receiver's slot and each left-side scanner that the receiver listens to has that slot in its view." Then
-    // "for each left-side scanner not listened to, upward, send a link request, listen to it, put its slot into the view. Then store the left side as the
-    // reason, clear the slot, choose. If it does not hold: where the refused slot is the own slot, send news to the sender; otherwise nothing."
+    // A Back: "It holds if the refused slot is the receiver's own and each scanner of the left side that the receiver listens to has that slot in its view." Then
+    // "upward, each scanner of the left side that is not listened to gets a link request, is listened to and has its slot put into the view. Then store the left side as the
+    // reason, clear the slot, choose. If it does not hold: where the refused slot is the own one, news goes to the sender; otherwise nothing."
     pub(crate) fn on_back(
         self,
         own: Own,
@@ -155,7 +155,7 @@ impl State {
         }
     }
 
-    // "Inform the sender from now on and send it news."
+    // "The sender is informed from now on, and gets news."
     pub(crate) fn on_add_link(self, own: Own, from: u8) -> Taken
         requires { ⌜ (own .number < from) × (from ≤ 12) ⌝ }
         ensures { λ r. ⌜ ((bans nogoods : List ℕ) → Handed own bans self nogoods from AddLink′ → Takes own (bansIn bans) r nogoods (onAddLink (agentIn self nogoods) from)) ⌝ }

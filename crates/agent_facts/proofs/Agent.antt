@@ -6,7 +6,7 @@ use Prim.Native.Nat.{ℕ}
 use Rattle.agent_rules.specs.Message.{Assignment, Message, Info, Back, AddLink}
 use Rattle.agent_rules.specs.Agent.{Self, Bans, Agent}
 use Rattle.agent_rules.specs.Receiving.{quiet, informing, onAddLink, receive, begin}
-use Rattle.agent_facts.specs.Messages.{IsBack}
+use Rattle.agent_rules.specs.Sorts.{IsBack}
 use Rattle.agent_facts.specs.Facts.{Setting, Good, Handed, Facts, AgentFacts}
 use Rattle.agent_facts.proofs.Posts.{answer-sent, answer-some}
 use Rattle.agent_facts.proofs.Links.{receive-links}

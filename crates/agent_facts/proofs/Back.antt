@@ -16,10 +16,10 @@ use Rattle.agent_rules.specs.Message.{Assignment, known, Back, AddLink, Post, s
 use Rattle.agent_rules.specs.Agent.{Self, Bans, Agent, Step, above}
 use Rattle.agent_rules.specs.Choosing.{after, checkView}
 use Rattle.agent_rules.specs.Receiving.{quiet, answer, holds, unheard, addLinks, accepting, outdated, onBack}
-use Rattle.agent_facts.specs.Messages.{afterOne, seen}
+use Rattle.agent_rules.specs.Sorts.{afterOne, seen}
+use Rattle.agent_rules.proofs.Messages.{sentTo-append, seen-append}
+use Rattle.agent_rules.proofs.Assignments.{to-above}
 use Rattle.agent_facts.specs.Facts.{Excludes, Setting, Good, TellsSender, Sends, Facts}
-use Rattle.agent_facts.proofs.Messages.{sentTo-append, seen-append}
-use Rattle.agent_facts.proofs.Assignments.{to-above}
 use Rattle.agent_facts.proofs.Posts.{Gets, nothing, once, gets-all, gets-one, requests-get, answer-sent, answer-some}
 use Rattle.agent_facts.proofs.LeftSides.{to-unheard, holds-value, to-holds, view-heard, view-named}
 use Rattle.agent_facts.proofs.Links.{SameLinks, check-same}

@@ -9,8 +9,8 @@ use Rattle.agent_rules.specs.Message.{nobody}
 use Rattle.agent_rules.specs.Agent.{Self, Bans, noNogoods, unusedAgent}
 use Rattle.agent_rules.specs.Choosing.{blame, blaming, reasonOf, reason, choose, choice, chosen, took, settle, checkView}
 use Rattle.agent_rules.specs.Receiving.{fresh, begin}
+use Rattle.agent_rules.proofs.Assignments.{unknown}
 use Rattle.agent_facts.specs.Facts.{Begun}
-use Rattle.agent_facts.proofs.Assignments.{unknown}
 use Rattle.agent_facts.proofs.Posts.{gets-one, gets-none, infos-get}
 use Rattle.agent_facts.proofs.Walk.{blame-some}
 

@@ -17,9 +17,9 @@ use Rattle.base.proofs.Lists.{All, All-map, Any}
 use Rattle.agent_rules.specs.Message.{Assignment, known, Message, Info, Back, AddLink, sentTo}
 use Rattle.agent_rules.specs.Agent.{Self, Bans, Nogoods, Agent, Step, above}
 use Rattle.agent_rules.specs.Choosing.{Choice, choice, chosen, took, union, failed, refusing, forget, after, settle, checkView}
-use Rattle.agent_facts.specs.Messages.{IsBack, Not, Refuses, afterOne, seen}
+use Rattle.agent_rules.specs.Sorts.{IsBack, Not, Refuses, afterOne, seen}
+use Rattle.agent_rules.proofs.Assignments.{unknown, unknown-zero, to-above, from-above, knownTo, knownTo-le, knownTo-less}
 use Rattle.agent_facts.specs.Facts.{Setting, Good, busyView, Backs, Sends}
-use Rattle.agent_facts.proofs.Assignments.{unknown, unknown-zero, to-above, from-above, knownTo, knownTo-le, knownTo-less}
 use Rattle.agent_facts.proofs.Posts.{gets-all, gets-one, infos-get}
 use Rattle.agent_facts.proofs.Walk.{conflicts-false, Walked, walked}
 use Rattle.agent_facts.proofs.Reasons.{Sound, NoneFree, walked-sound, union-view, no-value, back-implied, forget-sound}

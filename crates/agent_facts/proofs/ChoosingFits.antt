@@ -19,8 +19,8 @@ use Rattle.agent_rules.specs.Message.{Assignment, known, Message, sentTo}
 use Rattle.agent_rules.specs.Agent.{Self, Bans, Nogoods, Agent, Step, above}
 use Rattle.agent_rules.specs.Choosing.{choice, chosen, took, union, failed, refusing, without, forget, after, settle, checkView}
 use Rattle.agent_rules.specs.Shape.{EachNamed}
+use Rattle.agent_rules.proofs.Assignments.{known-zero, unknown, above-is, to-above, from-above, agents-named}
 use Rattle.agent_facts.specs.Facts.{RestFits, Valued, PostFits}
-use Rattle.agent_facts.proofs.Assignments.{known-zero, unknown, above-is, to-above, from-above, agents-named}
 use Rattle.agent_facts.proofs.Posts.{gets-all, gets-none, gets-few, infos-get}
 use Rattle.agent_facts.proofs.LeftSides.{without-some, forgotten}
 use Rattle.agent_facts.proofs.Walk.{Walked, walked}

@@ -35,10 +35,10 @@ use Rattle.agent_rules.specs.Receiving.{
   receive,
 }
 use Rattle.agent_rules.specs.Shape.{EachNamed, EachIn, RecordFits, MessageFits}
-use Rattle.agent_facts.specs.Messages.{IsInfo, Not}
+use Rattle.agent_rules.specs.Sorts.{IsInfo, Not}
+use Rattle.agent_rules.proofs.Messages.{sentTo-append}
+use Rattle.agent_rules.proofs.Assignments.{above-is, from-above}
 use Rattle.agent_facts.specs.Facts.{Answered, RestFits, PostFits, StepFits}
-use Rattle.agent_facts.proofs.Messages.{sentTo-append}
-use Rattle.agent_facts.proofs.Assignments.{above-is, from-above}
 use Rattle.agent_facts.proofs.Posts.{gets-all, gets-few, requests-get, answer-get}
 use Rattle.agent_facts.proofs.LeftSides.{agrees-at, agreeing-some, unheard-true, view-heard, view-named}
 use Rattle.agent_facts.proofs.Links.{SameLinks, check-same}

@@ -12,7 +12,7 @@ use Rattle.agent_rules.specs.Message.{Assignment, Info, sentTo}
 use Rattle.agent_rules.specs.Agent.{Self, Bans, Agent, Step}
 use Rattle.agent_rules.specs.Choosing.{checkView}
 use Rattle.agent_rules.specs.Receiving.{quiet, keepIf, agreeing, updated, conflicts, onInfo}
-use Rattle.agent_facts.specs.Messages.{IsBack}
+use Rattle.agent_rules.specs.Sorts.{IsBack}
 use Rattle.agent_facts.specs.Facts.{Setting, Good, Quiet, Facts}
 use Rattle.agent_facts.proofs.LeftSides.{agrees-at, to-agrees, agreeing-some}
 use Rattle.agent_facts.proofs.Walk.{conflicts-true, conflicts-false}

@@ -13,7 +13,7 @@ use Rattle.agent_rules.specs.Message.{Assignment, known}
 use Rattle.agent_rules.specs.Agent.{Self, Agent, above, agrees}
 use Rattle.agent_rules.specs.Choosing.{dropIf, without}
 use Rattle.agent_rules.specs.Receiving.{keepIf, agreeing, matches, holds, unheard, accepting}
-use Rattle.agent_facts.proofs.Assignments.{to-above}
+use Rattle.agent_rules.proofs.Assignments.{to-above}
 
 -- ---- agreeing with a view
 

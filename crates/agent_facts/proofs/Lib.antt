@@ -1,5 +1,3 @@
-pub mod Messages
-pub mod Assignments
 mod Posts
 mod LeftSides
 mod Walk

@@ -29,9 +29,9 @@ use Rattle.agent_rules.specs.Receiving.{
   onAddLink,
   receive,
 }
-use Rattle.agent_facts.specs.Messages.{IsAddLink, Not, OneLink}
+use Rattle.agent_rules.specs.Sorts.{IsAddLink, Not, OneLink}
+use Rattle.agent_rules.proofs.Messages.{sentTo-append, one-put}
 use Rattle.agent_facts.specs.Facts.{Requests, Linking}
-use Rattle.agent_facts.proofs.Messages.{sentTo-append, one-put}
 use Rattle.agent_facts.proofs.Posts.{Gets, nothing, once, gets-all, infos-get, requests-get, answer-get}
 use Rattle.agent_facts.proofs.LeftSides.{unheard-true}
 

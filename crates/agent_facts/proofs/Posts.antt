@@ -17,9 +17,9 @@ use Rattle.agent_rules.specs.Message.{Assignment, Message, Info, AddLink, Post,
 use Rattle.agent_rules.specs.Agent.{Self, Agent, above}
 use Rattle.agent_rules.specs.Choosing.{infoTo, infos}
 use Rattle.agent_rules.specs.Receiving.{answer, unheard, addLinkTo, addLinks}
-use Rattle.agent_facts.specs.Messages.{IsInfo, Not}
+use Rattle.agent_rules.specs.Sorts.{IsInfo, Not}
+use Rattle.agent_rules.proofs.Messages.{sentTo-append}
 use Rattle.agent_facts.specs.Facts.{TellsSender}
-use Rattle.agent_facts.proofs.Messages.{sentTo-append}
 
 -- a channel gets the message q, where its receiver is one of those gone through and passes; else nothing
 pub data Gets (q : Message) (passes : Bool) (Inside : Type 0) (l : List Message) : Type 0 where

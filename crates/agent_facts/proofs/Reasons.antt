@@ -12,8 +12,8 @@ use Rattle.base.proofs.Search.{at-same, at-other}
 use Rattle.agent_rules.specs.Message.{Assignment, known, nobody}
 use Rattle.agent_rules.specs.Agent.{Self, Bans, Nogoods}
 use Rattle.agent_rules.specs.Choosing.{only, Choice, join, lhsOf, union, without}
+use Rattle.agent_rules.proofs.Assignments.{unknown}
 use Rattle.agent_facts.specs.Facts.{Barred, Extends, Excludes, Setting}
-use Rattle.agent_facts.proofs.Assignments.{unknown}
 use Rattle.agent_facts.proofs.LeftSides.{without-some, forgotten}
 use Rattle.agent_facts.proofs.Walk.{Walked}
 

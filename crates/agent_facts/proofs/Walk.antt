@@ -13,8 +13,8 @@ use Rattle.agent_rules.specs.Message.{Assignment, known}
 use Rattle.agent_rules.specs.Agent.{Self, Bans, Nogoods, above}
 use Rattle.agent_rules.specs.Choosing.{bars, blame, only, blaming, reasonOf, reason, Choice, choose}
 use Rattle.agent_rules.specs.Receiving.{conflicts}
+use Rattle.agent_rules.proofs.Assignments.{to-above}
 use Rattle.agent_facts.specs.Facts.{Barred}
-use Rattle.agent_facts.proofs.Assignments.{to-above}
 
 -- the bans name agents above
 abbrev pub Upward : Self → Bans → Type 0

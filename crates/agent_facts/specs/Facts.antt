@@ -13,7 +13,7 @@ use Rattle.problem.specs.Problem.{maxAgents, maxDomain}
 use Rattle.agent_rules.specs.Message.{Assignment, known, Message, Info, Back, AddLink, sentTo}
 use Rattle.agent_rules.specs.Agent.{Self, Bans, Agent, Step}
 use Rattle.agent_rules.specs.Shape.{EachNamed, EachIn, RecordFits, MessageFits}
-use Rattle.agent_facts.specs.Messages.{IsInfo, IsBack, IsAddLink, Not, Refuses, OneLink, seen}
+use Rattle.agent_rules.specs.Sorts.{IsInfo, IsBack, IsAddLink, Not, Refuses, OneLink, seen}
 
 -- ---- links: of every step, whatever the record and the message
 

@@ -1,4 +1,4 @@
--- An agent (scanner): what it is by the problem, what it holds, and what a step of it gives. Document 01, 'The rail'.
+-- An agent (scanner): what it is by the problem, what it holds, and what a step of it gives. docs/RULES.md, 'The rail'.
 use Prim.Native.Nat.{ℕ, pred}
 use mathlib.Core.Bool.{Bool, false, not, _||_}
 use mathlib.Core.Option.{Option, none}
@@ -16,7 +16,7 @@ pub record Self : Type 0 where
 abbrev pub Bans : Type 0
 Bans = ℕ → ℕ → ℕ → Bool
 
--- "for each own slot at most one stored reason, the left side of a refusal"
+-- "for each own slot at most one stored reason, which is the left side of a refusal"
 abbrev pub Nogoods : Type 0
 Nogoods = ℕ → Option Assignment
 

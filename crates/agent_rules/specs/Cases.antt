@@ -1,4 +1,4 @@
--- Single steps of one agent, worked by hand from document 01's 'What a scanner does': at least one for each branch of each rule and for each
+-- Single steps of one agent, worked by hand from docs/RULES.md, 'What a scanner does': at least one for each branch of each rule and for each
 -- entry of 'Misreadings to catch' that one step can show.
 use Prim.Native.Nat.{ℕ}
 use mathlib.Core.Bool.{Bool, true, false, _&&_, _||_}

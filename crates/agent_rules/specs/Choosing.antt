@@ -1,4 +1,4 @@
--- The rules 'Choosing' and 'Backing up' of document 01 (figure 1: ChooseValue, CheckAgentView lines 2-4, Backtrack).
+-- The rules 'Choosing' and 'Backing up' of docs/RULES.md (figure 1: ChooseValue, CheckAgentView lines 2-4, Backtrack).
 use Prim.Native.Nat.{ℕ, zero, suc, _-_}
 use mathlib.Core.Bool.{Bool, true, false, _&&_, cond}
 use mathlib.Core.Option.{Option, none, some}
@@ -10,7 +10,7 @@ use Rattle.agent_rules.specs.Agent.{Self, Bans, Nogoods, Agent, Step, wi
 
 -- ---- whom to blame
 
--- agent k has a known value in the view that bans the own value v. "Unknown scanners ban nothing."
+-- agent k has a known value in the view that bans the own value v. "A scanner that is unknown bans nothing."
 unfoldable pub bars : Bans → Assignment → ℕ → ℕ → Bool
 bars bans view v k = known (view k) && bans k (view k) v
 
@@ -41,7 +41,7 @@ pub record Choice : Type 0 where
   pub value : Option ℕ  -- the value taken, if one is free
   pub nogoods : Nogoods  -- the reasons, with those given on the way
 
--- "Go through own slots upward": m of them from v on. "The lowest slot still free is taken, those above it are not tried and get no reason."
+-- "goes through its own slots upward": m of them from v on. "The lowest slot that is still free is taken; those above it are not tried and get no reason."
 unfoldable pub choose : ℕ → ℕ → Self → Bans → Assignment → Nogoods → Choice
 choose zero v s bans view nogoods = record { value = none; nogoods = nogoods }
 choose (suc m) v s bans view nogoods =
@@ -53,7 +53,7 @@ choose (suc m) v s bans view nogoods =
 unfoldable pub choice : Self → Bans → Agent → Choice
 choice s bans a = choose (s .domain) 1 s bans (a .view) (a .nogoods)
 
--- "news goes to all it informs, even if the slot is the old one"
+-- "News of it goes to all that it informs, even if the slot is the old one"
 unfoldable pub infoTo : Agent → ℕ → ℕ → List Post
 infoTo a v k = elim (a .informs k) [ true ↦ record { to = k; message = Info v } ∷ [] | false ↦ [] ]
 
@@ -77,16 +77,16 @@ unfoldable pub lhsOf : Option Assignment → Assignment
 lhsOf none = nobody
 lhsOf (some lhs) = lhs
 
--- "join all left sides": of values 1 to m
+-- "all left sides are joined": of values 1 to m
 unfoldable pub union : ℕ → Nogoods → Assignment
 union zero nogoods = nobody
 union (suc m) nogoods = join (union m nogoods) (lhsOf (nogoods (suc m)))
 
--- "If the union is empty, the verdict is "none": the scanner is left without a slot, and its reasons .. remain"
+-- "If the join is empty, the verdict is "none": the scanner is left without a slot, and its reasons .. remain"
 unfoldable pub failed : Agent → Nogoods → Step
 failed a nogoods = record { agent = chosen a 0 nogoods; sent = []; verdict = true }
 
--- "the highest-numbered scanner in it gets a refusal: its slot is the one refused, the rest is the left side"
+-- "the highest-numbered scanner in the join gets a refusal: its slot is the one refused, and the rest is the left side"
 unfoldable pub refusing : ℕ → Assignment → Post
 refusing k whole = record { to = k; message = Back (at whole k 0) (whole k) }
 
@@ -99,7 +99,7 @@ unfoldable pub without : ℕ → Option Assignment → Option Assignment
 without k none = none
 without k (some lhs) = dropIf (known (lhs k)) lhs
 
--- "The sender sets that scanner to unknown, drops all reasons naming it"
+-- "The sender sets that scanner to unknown, drops every reason that names it"
 unfoldable pub forget : ℕ → Agent → Nogoods → Agent
 forget k a nogoods = withNogoods (withView a (at (a .view) k 0)) (λ v. without k (nogoods v))
 
@@ -107,7 +107,7 @@ forget k a nogoods = withNogoods (withView a (at (a .view) k 0)) (λ v. without 
 unfoldable pub after : List Post → Step → Step
 after posts t = record { agent = t .agent; sent = posts ++ t .sent; verdict = t .verdict }
 
--- Choosing, with backing up. "This repeats until a slot is taken." Each time one agent more of the view is unknown, so `times` above the
+-- Choosing, with backing up. "chooses again, until a slot is taken." Each time one agent more of the view is unknown, so `times` above the
 -- number of agents is never used up.
 unfoldable pub settle : ℕ → Self → Bans → Agent → Step
 settle zero s bans a = failed a (choice s bans a .nogoods)

@@ -1,4 +1,5 @@
 pub mod Message
+pub mod Sorts
 pub mod Agent
 pub mod Choosing
 pub mod Receiving

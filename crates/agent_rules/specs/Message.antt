@@ -1,4 +1,4 @@
--- What agents send each other. Document 01, 'The rail': "A message is exactly one of three".
+-- What agents send each other. docs/RULES.md, 'The rail': "A message is exactly one of three".
 use Prim.Native.Nat.{ℕ}
 use mathlib.Core.Bool.{Bool, true, false}
 use mathlib.Core.List.{List, [], _∷_}
@@ -16,7 +16,7 @@ nobody k = 0
 
 pub data Message : Type 0 where
   Info : ℕ → Message  -- news: "the sender's slot"
-  Back : Assignment → ℕ → Message  -- refusal: the left side, "and one slot the receiver must not take"
+  Back : Assignment → ℕ → Message  -- refusal: the left side, "and one slot that the receiver must not take"
   AddLink : Message  -- link request
 
 -- a message on its way

@@ -1,4 +1,4 @@
--- What an agent does with a message, and at the start. Document 01, 'What a scanner does' (figure 1: ProcessInfo, ResolveConflict; figure 2:
+-- What an agent does with a message, and at the start. docs/RULES.md, 'What a scanner does' (figure 1: ProcessInfo, ResolveConflict; figure 2:
 -- ResolveConflict, SetLink, CheckAddLink).
 use Prim.Native.Nat.{ℕ}
 use mathlib.Core.Bool.{Bool, true, false, not, _&&_, _||_, cond}
@@ -33,7 +33,7 @@ answer a to = record { to = to; message = Info (a .value) } ∷ []
 
 -- ---- News
 
--- "drop reasons that disagree with it"
+-- "reasons that disagree with it are dropped"
 unfoldable pub keepIf : Bool → Assignment → Option Assignment
 keepIf true lhs = some lhs
 keepIf false lhs = none
@@ -42,7 +42,7 @@ unfoldable pub agreeing : Self → Assignment → Option Assignment → Option A
 agreeing s view none = none
 agreeing s view (some lhs) = keepIf (agrees s view lhs) lhs
 
--- "Update the view, drop reasons that disagree with it."
+-- "The view is updated, and reasons that disagree with it are dropped."
 unfoldable pub updated : Self → Agent → ℕ → ℕ → Agent
 updated s a from v =
     withNogoods (withView a (at (a .view) from v)) (λ w. agreeing s (at (a .view) from v) (a .nogoods w))
@@ -51,7 +51,7 @@ updated s a from v =
 unfoldable pub conflicts : Self → Bans → Assignment → ℕ → Bool
 conflicts s bans view v = isSome (lowest (above s) 1 (bars bans view v))
 
--- "If the own slot is now banned, choose; else nothing."
+-- "If the own slot is now banned, it chooses; otherwise that is all."
 unfoldable pub onInfo : Self → Bans → Agent → ℕ → ℕ → Step
 onInfo s bans a from v =
     elim (conflicts s bans (at (a .view) from v) (a .value))
@@ -59,11 +59,11 @@ onInfo s bans a from v =
 
 -- ---- Refusal
 
--- a left-side agent that is listened to has that value in the view. "Unknown does not match."
+-- a left-side agent that is listened to has that value in the view. "unknown does not match."
 unfoldable pub matches : Agent → Assignment → ℕ → Bool
 matches a lhs k = not (known (lhs k)) || not (a .listens k) || eqb (lhs k) (a .view k)
 
--- "It holds if the refused slot is the receiver's slot and each left-side scanner that the receiver listens to has that slot in its view."
+-- "It holds if the refused slot is the receiver's own and each scanner of the left side that the receiver listens to has that slot in its view."
 unfoldable pub holds : Self → Agent → Assignment → ℕ → Bool
 holds s a lhs v = eqb v (a .value) && allTo (above s) (matches a lhs)
 
@@ -74,20 +74,20 @@ unheard a lhs k = known (lhs k) && not (a .listens k)
 unfoldable pub addLinkTo : Agent → Assignment → ℕ → List Post
 addLinkTo a lhs k = elim (unheard a lhs k) [ true ↦ record { to = k; message = AddLink } ∷ [] | false ↦ [] ]
 
--- "for each left-side scanner not listened to, upward, send a link request"
+-- "upward, each scanner of the left side that is not listened to gets a link request"
 unfoldable pub addLinks : Self → Agent → Assignment → List Post
 addLinks s a lhs = gather (above s) 1 (addLinkTo a lhs)
 
--- ".. listen to it, put its slot into the view."
+-- ".. is listened to and has its slot put into the view."
 abbrev pub hearing : Agent → Assignment → Agent
 hearing a lhs =
     withView (withListens a (λ k. a .listens k || known (lhs k))) (λ k. cond (unheard a lhs k) (lhs k) (a .view k))
 
--- "Then store the left side as the reason, clear the slot"
+-- "then the left side is stored as the reason, the slot is cleared"
 unfoldable pub accepting : Agent → Assignment → ℕ → Agent
 accepting a lhs v = withValue (withNogoods (hearing a lhs) (at (a .nogoods) v (some lhs))) 0
 
--- "If it does not hold: where the refused slot is the own slot, send news to the sender; otherwise nothing."
+-- "If it does not hold: where the refused slot is the own one, news goes to the sender; otherwise nothing."
 unfoldable pub outdated : Agent → ℕ → ℕ → Step
 outdated a from v = quiet a (elim (eqb v (a .value)) [ true ↦ answer a from | false ↦ [] ])
 
@@ -96,7 +96,7 @@ onBack s bans a from lhs v =
     elim (holds s a lhs v)
     [ true ↦ after (addLinks s a lhs) (checkView s bans (accepting a lhs v)) | false ↦ outdated a from v ]
 
--- ---- Link request: "Inform the sender from now on and send it news."
+-- ---- Link request: "The sender is informed from now on, and gets news."
 
 unfoldable pub informing : Agent → ℕ → Agent
 informing a from = withInforms a (at (a .informs) from true)
@@ -111,7 +111,7 @@ receive s bans a from (Info v) = onInfo s bans a from v
 receive s bans a from (Back lhs v) = onBack s bans a from lhs v
 receive s bans a from AddLink = onAddLink a from
 
--- ---- Start: "All views are unknown, each scanner chooses."
+-- ---- Start: "All views are unknown, and each scanner chooses."
 
 unfoldable pub fresh : (ℕ → Bool) → (ℕ → Bool) → Agent
 fresh listens informs = withInforms (withListens unusedAgent listens) informs

@@ -1,4 +1,4 @@
--- The shape of one agent's record and of a message that waits for it: document 01's 'Shape', as far as one agent can see it. A record has room
+-- The shape of one agent's record and of a message that waits for it: docs/RULES.md's shape, as far as one agent can see it. A record has room
 -- to name the agents 1 to 16.
 use Prim.Native.Nat.{ℕ, _≤_, _<_}
 use mathlib.Core.Path.{_≡_}

@@ -1,1 +1,1 @@
-// Definitions and single-step cases; no code.
+// Definitions, laws of messages and assignments, single-step cases; no code.

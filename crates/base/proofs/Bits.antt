@@ -1,13 +1,13 @@
 -- Setting a bit: that bit is 1 then, every other is as it was, and the number stays below the same power of two.
 -- All by halving: bit k + 1 of x is bit k of x / 2.
-use mathlib.Core.Path.{_≡_, refl, sym, ap, ap₂, _∙_}
-use mathlib.Core.Logic.{_≢_, _⊎_, inl, inr}
+use mathlib.Core.Path.{_≡_, refl, sym, ap, _∙_}
+use mathlib.Core.Logic.{_≢_}
 use mathlib.Core.Bool.{Bool, true, false, false≢true, cond, _&&_, _||_, or-true, or-false}
 use Prim.Native.Nat.{ℕ, zero, suc, _+_, _-_, _*_, _/_, _%_, _^_, _≤_, _<_}
-use native.Mathlib.Nat.{pow-suc, pow-succ', div-div-eq-div-mul, div-one, mod-lt, not-suc-le-zero, mul-div-cancel}
+use native.Mathlib.Nat.{pow-suc, pow-succ', div-div-eq-div-mul, div-one, not-suc-le-zero, mul-div-cancel}
 use native.Mathlib.Omega.{arith}
-use lib.Bits.{bitAnd, bitOr, and-shr, and-mod, or-step, or-zero-r, or-block, or-shr, or-mod}
-use lib.Pow.{pow-pos, split, field, mod-mod-pow, shr-shr}
+use lib.Bits.{bitAnd, bitOr, and-shr, and-mod, or-shr, or-mod}
+use lib.Pow.{field, mod-mod-pow, shr-shr}
 use lib.Dec.{eqb, eqb·zero-suc, eqb·suc-zero, eqb·suc-suc}
 use borrow.Author.Tests.{eqb-true, eqb-false, eq-eqb, ne-eqb}
 use Rattle.base.specs.Bits.{bit, withBit}
@@ -70,17 +70,6 @@ pub withBit-other : (x k j : ℕ) → j ≢ k → bit (withBit x k) j ≡ bit x 
 unfolding withBit
 withBit-other x k j n = test (bit x k) (λ e. rw e) (λ e. rw e (plus-other k x j n e))
 
--- a bit that is 1 after bit k was set
-pub withBit-cases : (x k j : ℕ) → bit (withBit x k) j ≡ true → (bit x j ≡ true) ⊎ (j ≡ k)
-withBit-cases x k j e =
-    test (eqb j k) (λ q. inr (eqb-true j k q)) (λ q. inl (sym (withBit-other x k j (eqb-false j k q)) ∙ e))
-
-pub withBit-keeps : (x k j : ℕ) → bit x j ≡ true → bit (withBit x k) j ≡ true
-withBit-keeps x k j e =
-    test (eqb j k)
-    (λ q. rw (eqb-true j k q) (withBit-same x k))
-    (λ q. withBit-other x k j (eqb-false j k q) ∙ e)
-
 pub withBit-below : (x k m : ℕ) → k < m → x < 2 ^ m → withBit x k < 2 ^ m
 unfolding withBit
 withBit-below x k m l h = test (bit x k) (λ e. rw e h) (λ e. rw e (plus-below k m x l h e))
@@ -106,33 +95,6 @@ some-bit (suc m) x l h =
     let n = eqb-false (x % 2) 1 e in
     let r = some-bit m (x / 2) (omega (arith, n)) (omega arith) in
     (suc (r .0), omega arith, bit-suc x (r .0) ∙ r .2))
-
--- ---- or with a power of two sets that bit: below it nothing changes, and the lowest binary digit from it on becomes 1
-
--- the lowest binary digit becomes 1
-or-one : (q : ℕ) → bitOr q 1 ≡ q / 2 * 2 + 1
-or-one q = or-step q 1 ∙ ap₂ (λ (a b : ℕ). a * 2 + b) (or-zero-r (q / 2)) (omega arith)
-
--- from bit k on and below it
-or-split : (x k : ℕ) → bitOr x (2 ^ k) ≡ (x / 2 ^ k / 2 * 2 + 1) * 2 ^ k + x % 2 ^ k
-or-split x k =
-    let e : x ≡ x / 2 ^ k * 2 ^ k + x % 2 ^ k = sym (split x k) in
-    let one : 2 ^ k ≡ 1 * 2 ^ k + 0 = omega arith in
-    ap₂ bitOr e one
-    ∙ or-block k (x / 2 ^ k) 1 (x % 2 ^ k) 0 (mod-lt x (pow-pos k)) (pow-pos k)
-    ∙ ap₂ (λ (a b : ℕ). a * 2 ^ k + b) (or-one (x / 2 ^ k)) (or-zero-r (x % 2 ^ k))
-
--- the digits from bit k on put in place of x's
-raised : (x k q : ℕ) → x / 2 ^ k / 2 * 2 + 1 ≡ q → bitOr x (2 ^ k) ≡ q * 2 ^ k + x % 2 ^ k
-raised x k q h = or-split x k ∙ ap (λ (a : ℕ). a * 2 ^ k + x % 2 ^ k) h
-
-pub or-power : (x k : ℕ) → bitOr x (2 ^ k) ≡ withBit x k
-unfolding bit withBit
-or-power x k =
-    let q = x / 2 ^ k in
-    test (eqb (q % 2) 1)
-    (λ h. rw h (raised x k q (omega (arith, eqb-true (q % 2) 1 h)) ∙ split x k))
-    (λ h. rw h (raised x k (q + 1) (omega (arith, eqb-false (q % 2) 1 h)) ∙ omega (arith, split x k)))
 
 -- ---- bits above a number, of a power of two, of or, and of a part
 

@@ -1,14 +1,14 @@
--- A number taken apart from its lowest digit up, as a loop does, and a test of each of its digits; a number all of whose bits are 0.
+-- A test of each of 1 to m, from either end and of two things at once; the bits of a part of a number, and numbers whose bits are 0 on one side.
 use Prim.Native.Nat.{ℕ, zero, suc, pred, _+_, _-_, _/_, _%_, _^_, _≤_, _<_}
 use mathlib.Core.Path.{_≡_, refl, sym, ap, _∙_}
 use mathlib.Core.Bool.{Bool, true, false, not, _&&_, _||_, or-true}
-use native.Mathlib.Nat.{not-suc-le-zero, pow-suc, div-one, lt-of-le-of-lt, lt-of-lt-of-le, mod-lt, div-lt-iff-lt-mul, pow-le-pow-right, pow-zero}
+use native.Mathlib.Nat.{div-one, lt-of-le-of-lt, mod-lt}
 use native.Mathlib.Omega.{arith}
 use lib.Dec.{eqb, leb, ltb}
 use lib.Pow.{pow-pos, shr-shr, shr-le}
 use Rattle.base.proofs.Bits.{bit-ext, bit-of-zero, bit-above, bit-field}
 use borrow.Author.Tests.{eqb-true, eq-eqb, leb-false, ltb-true, ltb-false, lt-leb, le-ltb}
-use Rattle.base.specs.Finite.{fromOne, allTo}
+use Rattle.base.specs.Finite.{allTo}
 use Rattle.base.specs.Bits.{bit}
 use Rattle.base.proofs.Tests.{test}
 use Rattle.base.proofs.Search.{allTo-at, to-allTo}
@@ -48,55 +48,10 @@ unfolding allTo
 allTo-and zero p q = refl
 allTo-and (suc m) p q = rw (allTo-and m p q) (and-pairs (p (suc m)) (q (suc m)) (allTo m p) (allTo m q))
 
-pub all-true : {a b : Bool} → a ≡ true → b ≡ true → a && b ≡ true
-all-true e f = rw (e, f)
-
 pub same-test : (a b : Bool) → (a ≡ true → b ≡ true) → (b ≡ true → a ≡ true) → a ≡ b
 same-test true b f g = sym (f refl)
 same-test false true f g = g refl
 same-test false false f g = refl
-
--- ---- the digits of a number, from the lowest up
-
--- A word of n + 1 digits is taken apart digit by digit: f are its digits, g those of the word without the lowest, z the digit that a number has
--- above its highest, which passes.
-pub walk-next : {A : Type 0} (f g : ℕ → A) (z : A) (T : ℕ → A → Bool) (n : ℕ) → ((k : ℕ) → f (suc k) ≡ g k) → g n ≡ z
-    → ((k : ℕ) → T k z ≡ true)
-    → allTo (suc n) (λ k. T k (fromOne z f k)) ≡ T 1 (f 0) && allTo (suc n) (λ k. T (suc k) (fromOne z g k))
-unfolding allTo fromOne
-walk-next f g z T n next top clear =
-    allTo-first n (λ k. T k (fromOne z f k))
-    ∙ ap (λ (b : Bool). T 1 (f 0) && b)
-    (allTo-same n (λ k. T (suc k) (f k)) (λ k. T (suc k) (fromOne z g k)) shifted
-    ∙ rw (top, clear (suc (suc n))))
-  where
-    shifted : (k : ℕ) → 1 ≤ k → k ≤ n → T (suc k) (f k) ≡ T (suc k) (fromOne z g k)
-    shifted zero l u = absurd (not-suc-le-zero l)
-    shifted (suc k) l u = rw (next k)
-
--- a number of at most n - k digits in base b: where it is not 0, one digit can be taken off
-pub record OneOff (b n k x : ℕ) : Type 0 where
-  pub fewer : k < n
-  pub rest : x / b < b ^ (n - (k + 1))
-  pub fits : x < b ^ n
-
-pub one-off : (b n k x : ℕ) → 1 ≤ b → x < b ^ (n - k) → (x ≡ 0 → ⊥) → OneOff b n k x
-one-off b n k x l h e =
-    test (ltb k n)
-    (λ t.
-    let f = ltb-true k n t in
-    let d : n - k ≡ suc (n - (k + 1)) = omega arith in
-    record {
-      fewer = f;
-      rest = div-lt-iff-lt-mul l .1 (rw (d, pow-suc) at h);
-      fits = lt-of-lt-of-le h (pow-le-pow-right l (omega arith));
-    })
-    (λ t.
-    let f = ltb-false k n t in
-    let d : n - k ≡ 0 = omega arith in
-    let g : x < b ^ 0 = rw d at h in
-    let i : x < 1 = rw pow-zero at g in
-    absurd (e (omega arith)))
 
 -- ---- bits
 

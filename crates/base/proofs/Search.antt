@@ -1,15 +1,15 @@
 -- What a search finds, and what a map has where it was changed.
 use mathlib.Core.Path.{_≡_, refl, sym, fun-ext, _∙_}
 use mathlib.Core.Logic.{_≢_}
-use mathlib.Core.Bool.{cond, _||_, Bool, true, false, and-eq-true-iff, false≢true}
+use mathlib.Core.Bool.{cond, Bool, true, false, and-eq-true-iff, false≢true}
 use mathlib.Core.Option.{none, some}
 use Prim.Native.Nat.{ℕ, zero, suc, _+_, _-_, _≤_, _<_}
 use native.Mathlib.Nat.{add-zero, add-suc, suc-add, not-suc-le-zero, le-of-suc-le-suc}
 use native.Mathlib.Omega.{arith}
 use lib.Dec.{eqb, leb}
 use borrow.Author.Tests.{eqb-true, eqb-false, eq-eqb, ne-eqb, leb-true, leb-false}
-use Rattle.base.specs.Finite.{at, lowest, highest, allTo, greatest, isSome}
-use Rattle.base.proofs.Tests.{test, eq-test, opt, no-some}
+use Rattle.base.specs.Finite.{at, lowest, highest, allTo, greatest}
+use Rattle.base.proofs.Tests.{test, eq-test, no-some}
 
 -- ---- the lowest of the m numbers from k on
 
@@ -88,13 +88,6 @@ lowest-last (suc m) k p e =
     (λ t. no-some (sym (rw (t, lowest) at e)))
     (λ t. rw (t, lowest, add-suc k m, ← suc-add k m) (lowest-last m (suc k) p (rw (t, lowest) at e)))
 
-pub isSome-last : (m k : ℕ) (p : ℕ → Bool) → isSome (lowest (suc m) k p) ≡ isSome (lowest m k p) || p (k + m)
-unfolding isSome
-isSome-last m k p =
-    opt (lowest m k p)
-    (λ e. rw (e, lowest-last m k p e) (test (p (k + m)) (λ t. rw t) (λ t. rw t)))
-    (λ s e. rw (e, lowest-grows m (suc m) k p s (omega arith) e))
-
 pub lowest-before : (m k : ℕ) (p : ℕ → Bool) (s j : ℕ) → lowest m k p ≡ some s → k ≤ j → j < s → p j ≡ false
 unfolding lowest
 lowest-before zero k p s j e l h = no-some e
@@ -104,18 +97,6 @@ lowest-before (suc m) k p s j e l h =
     (λ t. test (eqb j k)
     (λ u. rw (eqb-true j k u) t)
     (λ u. lowest-before m (suc k) p s j (rw (t, lowest) at e) (omega (arith, eqb-false j k u)) h))
-
--- from above, one number less
-
-pub highest-here : (k : ℕ) (p : ℕ → Bool) → 0 < k → p k ≡ true → highest k p ≡ some k
-unfolding highest
-highest-here zero p h e = absurd (not-suc-le-zero h)
-highest-here (suc k) p h e = rw (e, highest)
-
-pub highest-below : (k : ℕ) (p : ℕ → Bool) → 0 < k → p k ≡ false → highest k p ≡ highest (k - 1) p
-unfolding highest
-highest-below zero p h e = absurd (not-suc-le-zero h)
-highest-below (suc k) p h e = let d : suc k - 1 ≡ k = omega arith in rw (e, highest, d)
 
 -- ---- each of 1 to m
 

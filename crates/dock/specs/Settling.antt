@@ -1,4 +1,4 @@
--- What the program prints the parts of: the start of a sheet and the run on it. Document 01, 'Rounds and the run', the last paragraph.
+-- What the program prints the parts of: the start of a sheet and the run on it. docs/RULES.md, 'Rounds and the run', the last paragraph.
 use Prim.Native.Nat.{ℕ}
 use mathlib.Core.Path.{_≡_}
 use mathlib.Core.List.{List}

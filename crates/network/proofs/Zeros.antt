@@ -15,22 +15,18 @@ use Rattle.agent_rules.specs.Agent.{Agent as Agent′, unusedAgent, noNogoods}
 use Rattle.protocol.specs.Network.{emptyNetwork}
 use Rattle.packed.specs.Packed.{members}
 use Rattle.agent.specs.Abstract.{assigned, nogoodAt, agentOf}
-use Rattle.agent.specs.declared.Agent.{Agent}
 use Rattle.packed.proofs.Digits.{nobody-assigned}
 use Rattle.network.specs.Abstract.{isChannel, ring, rowOf, channelOf, problemOf, agentsOf, networkOf}
-use Rattle.network.specs.declared.Network.{Network}
+use Rattle.network.specs.Empty.{emptyAgent, emptyRecord}
 use Rattle.packed.proofs.Sets.{no-members}
-
-abbrev pub zeroAgent : Agent
-zeroAgent = record { value = 0; stored = 0; listens = 0; informs = 0; view = record { digits = 0 }; nogoods = replicate 8 0 }
 
 no-nogoods : (v : ℕ) → fromOne none (nogoodAt 0 (replicate 8 0)) v ≡ none
 unfolding fromOne nogoodAt
 no-nogoods zero = refl
 no-nogoods (suc v) = rw (bit-of-zero v, nogoodAt)
 
-zero-agent : agentOf zeroAgent ≡ unusedAgent
-unfolding agentOf unusedAgent noNogoods assigned
+zero-agent : agentOf emptyAgent ≡ unusedAgent
+unfolding emptyAgent agentOf unusedAgent noNogoods assigned
 zero-agent =
     λ i.
     record {
@@ -41,11 +37,11 @@ zero-agent =
       nogoods = fun-ext no-nogoods i;
     }
 
-zero-agents : (k : ℕ) → agentsOf (map agentOf (replicate 12 zeroAgent)) k ≡ unusedAgent
+zero-agents : (k : ℕ) → agentsOf (map agentOf (replicate 12 emptyAgent)) k ≡ unusedAgent
 unfolding agentsOf fromOne
 zero-agents zero = refl
 zero-agents (suc k) =
-    ap (λ (l : List Agent′). getD l k unusedAgent) (map-replicate agentOf 12 zeroAgent)
+    ap (λ (l : List Agent′). getD l k unusedAgent) (map-replicate agentOf 12 emptyAgent)
     ∙ ap (λ (a : Agent′). getD (replicate 12 a) k unusedAgent) zero-agent
     ∙ getD-same 12 unusedAgent k
 
@@ -54,25 +50,24 @@ unfolding rowOf fromOne nobody
 zero-row n zero j = rw nobody-assigned
 zero-row n (suc i) j = rw (getD-same {A = ℕ} n 0 i, nobody-assigned)
 
-zero-channel : (r : Network) → r .counts ≡ replicate 12 0 → (i j : ℕ) → channelOf r i j ≡ []
-unfolding channelOf ring
-zero-channel r e i j = rw (e, zero-row 12 i j)
+zero-channel : (i j : ℕ) → channelOf emptyRecord i j ≡ []
+unfolding emptyRecord channelOf ring
+zero-channel i j = rw (zero-row 12 i j)
 
-zero-channels : (r : Network) → r .counts ≡ replicate 12 0 → (i j : ℕ) → networkOf r .channel i j ≡ []
+zero-channels : (i j : ℕ) → networkOf emptyRecord .channel i j ≡ []
 unfolding networkOf
-zero-channels r e i j =
+zero-channels i j =
     test (isChannel i j)
-    (λ t. rw (t, networkOf) (zero-channel r e i j))
+    (λ t. rw (t, networkOf) (zero-channel i j))
     (λ t. rw (t, networkOf))
 
-pub zeros : (r : Network) → r .count ≡ 0 → r .domains ≡ replicate 12 0 → r .bans ≡ replicate 66 0 → r .verdict ≡ false
-    → r .agents ≡ replicate 12 zeroAgent → r .counts ≡ replicate 12 0 → networkOf r ≡ emptyNetwork
-unfolding networkOf problemOf emptyNetwork emptyProblem noBans maxAgents maxPairs
-zeros r n d b v a c =
+pub record-empty : networkOf emptyRecord ≡ emptyNetwork
+unfolding emptyRecord networkOf problemOf emptyNetwork emptyProblem noBans maxAgents maxPairs
+record-empty =
     λ i.
     record {
-      problem = record { count = n i; domains = d i; bans = b i };
-      verdict = v i;
-      agents = fun-ext (λ k. ap (λ (l : List Agent). agentsOf (map agentOf l) k) a ∙ zero-agents k) i;
-      channel = fun-ext (λ x. fun-ext (zero-channels r c x)) i;
+      problem = emptyProblem;
+      verdict = false;
+      agents = fun-ext zero-agents i;
+      channel = fun-ext (λ x. fun-ext (zero-channels x)) i;
     }

@@ -4,6 +4,7 @@ ghost use Rattle.protocol.specs.Network.{emptyNetwork};
 ghost use Rattle.protocol.specs.Shape.{inShape};
 ghost use Rattle.protocol.specs.Delivery.{answerNumber, askValue};
 ghost use Rattle.network.specs.Abstract.{networkOf};
+ghost use Rattle.network.specs.Empty.{emptyRecord};
 use agent::Agent;
 use agent::Lhs;
 use agent::Message;
@@ -51,9 +52,9 @@ pub struct Asked {
     pub value: u8,
 }
 
-// The empty rail: n = 0, all else zero.
+// The empty rail: n = 0, all else zero, and every place holds the same message.
 pub fn empty() -> Network
-    ensures { λ r. ⌜ networkOf r ≡ emptyNetwork ⌝ }
+    ensures { λ r. ⌜ (r ≡ emptyRecord) × (networkOf r ≡ emptyNetwork) ⌝ }
 {
     let nobody = Lhs { digits: 0 };
     let agent = Agent {

@@ -39,6 +39,15 @@ pub record FullArrays (o : Network) : Type 0 where
 
 -- ---- rows
 
+pub row-here : (rows : List ℕ) (i x : ℕ) → i < length rows → rowOf (set rows i x) (suc i) ≡ assignment x
+unfolding rowOf fromOne
+row-here rows i x h = rw (getD-set-same rows i x 0 h)
+
+pub row-elsewhere : (rows : List ℕ) (i x y : ℕ) → y ≢ suc i → rowOf (set rows i x) y ≡ rowOf rows y
+unfolding rowOf fromOne
+row-elsewhere rows i x zero n = refl
+row-elsewhere rows i x (suc y) n = rw (getD-set-other rows i y x 0 (λ q. n (ap suc q)))
+
 -- the row of sender i, as the code reads it
 abbrev pub wordAt : List ℕ → ℕ → ℕ
 wordAt rows i = getD rows (i - 1) 0
@@ -50,12 +59,10 @@ row-is rows (suc i) h = let e : suc i - 1 ≡ i = omega arith in rw e
 
 module _ (rows : List ℕ) (i x : ℕ) (lo : 1 ≤ i) where
   pub row-same : i ≤ length rows → rowOf (set rows (i - 1) x) i ≡ assignment x
-  row-same h = row-is (set rows (i - 1) x) i lo ∙ ap assignment (getD-set-same rows (i - 1) x 0 (omega arith))
+  row-same h = let e : suc (i - 1) ≡ i = omega arith in rw e at (row-here rows (i - 1) x (omega arith))
 
   pub row-other : (y : ℕ) → y ≢ i → rowOf (set rows (i - 1) x) y ≡ rowOf rows y
-  unfolding rowOf fromOne
-  row-other zero n = refl
-  row-other (suc y) n = ap assignment (getD-set-other rows (i - 1) y x 0 (λ e. n (omega arith)))
+  row-other y n = row-elsewhere rows (i - 1) x y (λ e. n (omega arith))
 
 -- ---- changed networks
 
@@ -323,9 +330,12 @@ agents-set l k b h = fun-ext (λ x. go x)
         let n = eqb-false x k t in
         getD-set-other l k x b unusedAgent n ∙ sym (at-other (agentsOf l) (suc k) b (suc x) (λ e. n (omega arith))))
 
+pub agents-put : (l : List Agent) (k : ℕ) (a : Agent) → k < length l
+    → agentsOf (map agentOf (set l k a)) ≡ at (agentsOf (map agentOf l)) (suc k) (agentOf a)
+agents-put l k a h = ap agentsOf (map-set agentOf l k a) ∙ agents-set (map agentOf l) k (agentOf a) (rw (length-map l agentOf) h)
+
 pub agents-changed : (o : Network) (j : ℕ) (a : Agent) → FullArrays o → 1 ≤ j → j ≤ 12
     → agentsOf (map agentOf (set (o .agents) (j - 1) a)) ≡ at (agentsOf (map agentOf (o .agents))) j (agentOf a)
 agents-changed o j a z lo hi =
-    ap agentsOf (map-set agentOf (o .agents) (j - 1) a)
-    ∙ agents-set (map agentOf (o .agents)) (j - 1) (agentOf a) (rw (length-map (o .agents) agentOf, z .agents) (omega arith))
+    agents-put (o .agents) (j - 1) a (rw (z .agents) (omega arith))
     ∙ ap (λ (k : ℕ). at (agentsOf (map agentOf (o .agents))) k (agentOf a)) (let e : suc (j - 1) ≡ j = omega arith in e)

@@ -1,7 +1,7 @@
 -- One delivery as the code makes it, from the message at the head on: it finds the message (`Found`), hands it to its receiver (`Stepped`), and
 -- then the definitions' delivery is rejected or accepted as the code's is, with the network that the code has stored.
 use Prim.Native.Nat.{ℕ, suc, pred, _+_, _-_, _*_, _%_, _≤_}
-use mathlib.Core.Bool.{Bool, true, false, not, _&&_, _||_}
+use mathlib.Core.Bool.{Bool, true, false, _&&_, _||_}
 use mathlib.Core.Path.{_≡_, refl, sym, ap, _∙_, subst, fun-ext}
 use mathlib.Core.Logic.{_≢_}
 use mathlib.Core.List.{List, [], _∷_}
@@ -34,7 +34,6 @@ use Rattle.protocol.specs.Delivery.{
   AlreadyInformed,
   NoRoom,
   Accepted,
-  Delivery,
   rejecting,
   numbersGood,
   asksAgain,

@@ -27,6 +27,13 @@ ring-snoc ps b h (suc k) =
     let e : h + suc k ≡ suc h + k = omega arith in
     rw e (ap (λ (l : List Message′). placeOf (getD ps (b + h % 8) noPlace) ∷ l) (ring-snoc ps b (suc h) k))
 
+-- other places that hold the same
+pub ring-same : (ps qs : List Place) (b h k : ℕ) → ((j : ℕ) → getD ps (b + j % 8) noPlace ≡ getD qs (b + j % 8) noPlace)
+    → ring ps b h k ≡ ring qs b h k
+unfolding ring
+ring-same ps qs b h zero e = refl
+ring-same ps qs b h (suc k) e = rw (e h, ring-same ps qs b (suc h) k e)
+
 -- a store outside
 ring-set : (ps : List Place) (b h k x : ℕ) (v : Place) → ((j : ℕ) → j < k → b + (h + j) % 8 ≢ x)
     → ring (set ps x v) b h k ≡ ring ps b h k

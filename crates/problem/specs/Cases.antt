@@ -1,4 +1,4 @@
--- Worked cases of the sheet's checks, each worked out from document 01, 'The sheet' and 'Nights on the rail', and document 02, request a.
+-- Worked cases of the sheet's checks, each worked out from docs/RULES.md, 'The sheet' and 'Nights on the rail'.
 use Prim.Native.Nat.{ℕ, pred, _-_}
 use mathlib.Core.Bool.{Bool, true, false, not, _&&_}
 use mathlib.Core.List.{List, [], _∷_, _++_}
@@ -48,8 +48,8 @@ rejectedWith number (Valid p) = false
 rejectedWith number (Invalid f) = eqb (faultNumber f) number
 
 unfoldable pub readAs : ℕ → List ℕ → List Row → Decoded → Bool
-readAs n slots bs (Valid p) = eqb (p .count) n && sameNumbers (p .domains) slots && bansAre bs p
-readAs n slots bs (Invalid f) = false
+readAs n domains bs (Valid p) = eqb (p .count) n && sameNumbers (p .domains) domains && bansAre bs p
+readAs n domains bs (Invalid f) = false
 
 unfoldable pub sameProblem : Problem → Decoded → Bool
 sameProblem p (Valid q) = eqb (p .count) (q .count) && sameNumbers (p .domains) (q .domains) && sameNumbers (p .bans) (q .bans)
@@ -65,7 +65,7 @@ apart i j (Invalid f) = false
 
 unfoldable pub caseHolds : Case → Bool
 caseHolds (Rejected s number) = rejectedWith number (decode s)
-caseHolds (Reads s n slots bs) = readAs n slots bs (decode s)
+caseHolds (Reads s n domains bs) = readAs n domains bs (decode s)
 caseHolds (Same s t) = sameDecoded (decode s) (decode t)
 caseHolds (Unlinked s i j) = apart i j (decode s)
 
@@ -126,10 +126,10 @@ far record1 = gapHeader 2 1 1 twoThree ++ record1
 
 unfoldable pub rejections : List Case
 rejections =
-    -- "Two good records, the second ending the chain: record 1 with next 1: refusal 4; with next 2: good; with next 3: 3."
+    -- "Two good records, the second ending the chain: record 1 with next 1 is refused with 4, with next 2 it is good, with next 3 refused with 3."
     Rejected (chain 1) 4
     ∷ Rejected (chain 3) 3
-    -- "23 bytes: 1. m of 4,225: 2." The length comes before the header; m of 4,224 is in range, and 24 bytes are then too few
+    -- "A sheet of 23 bytes: 1. An m of 4,225: 2." The length comes before the header; m of 4,224 is in range, and 24 bytes are then too few
     ∷ Rejected [] 1
     ∷ Rejected (take 23 plain) 1
     ∷ Rejected (take 23 (set plain 0 0)) 1
@@ -163,7 +163,7 @@ rejections =
     ∷ Rejected (set plain 21 1) 2
     ∷ Rejected (set plain 22 1) 2
     ∷ Rejected (set plain 23 1) 2
-    -- a chain record: scanners not 1 ≤ lower < higher ≤ n
+    -- where its scanners are not 1 ≤ lower < higher ≤ n
     ∷ Rejected (single (row 0 2 2 1 0)) 3
     ∷ Rejected (single (row 2 2 2 1 0)) 3
     ∷ Rejected (single (row 2 1 2 1 0)) 3
@@ -191,7 +191,7 @@ readings =
     3
     (2 ∷ 1 ∷ 2 ∷ replicate 9 0)
     (ban 1 1 3 1 ∷ ban 2 1 3 2 ∷ [])
-    -- "with next 2: good"
+    -- "with next 2 it is good"
     ∷ Reads (chain 2) 2 twos (ban 1 1 2 1 ∷ ban 1 2 2 2 ∷ [])
     -- a chain out of order, and one that passes a spare record
     ∷ Same (header 2 2 2 twos ++ row 1 2 2 2 0 ++ row 1 2 1 1 1) (chain 2)
@@ -264,7 +264,7 @@ gapReadings =
     ++ row 1 2 1 1 2 ++ row 1 2 1 2 3 ++ row 1 2 1 3 4 ++ row 1 2 2 1 5 ++ row 1 2 2 2 6 ++ row 1 2 2 3 0)
     ∷ Reads (gapHeader 12 1 1 eights ++ gapRow 11 12 7 7 0) 12 eights (ban 11 1 12 8 ∷ [])
     ∷ Reads (gapHeader 12 1 1 eights ++ gapRow 1 2 (minus 7) (minus 7) 0) 12 eights (ban 1 8 2 1 ∷ [])
-    -- "A record that hits no pair of owned slots bans nothing and makes no link."
+    -- "A record that hits no pair of owned slots bans nothing, makes no link."
     ∷ Reads (far (gapRow 1 2 3 7 0)) 2 twoThree []
     ∷ Unlinked (far (gapRow 1 2 3 7 0)) 1 2
     ∷ Unlinked (far (gapRow 1 2 (minus 7) (minus 2) 0)) 1 2

@@ -29,7 +29,7 @@ abbrev pub BansAsSaid : Type 0
 BansAsSaid =
     (s : List ℕ) (p : Problem) → decode s ≡ Valid p → (i j v w : ℕ) → banned p i j v w ≡ rowsBan (editionIn s) p (rowsIn s) i j v w
 
--- "Two scanners are linked from the start exactly if a ban names both"
+-- "Two scanners are linked from the start exactly if some ban names both"
 abbrev pub LinksAsBanned : Type 0
 LinksAsBanned =
     (s : List ℕ) (p : Problem) → decode s ≡ Valid p → (i j : ℕ)

@@ -1,5 +1,5 @@
 -- The problem that the agents (scanners) solve: how many they are, their domains (slot counts), and the bans between their values
--- (slots). Document 01, 'The rail' and 'The sheet'.
+-- (slots). docs/RULES.md, 'The rail' and 'The sheet'.
 use Prim.Native.Nat.{ℕ, zero, suc, pred, _+_, _*_, _^_, _≤_}
 use mathlib.Core.Path.{_≡_}
 use mathlib.Core.Bool.{Bool, true, false, not, cond, _&&_, _||_}
@@ -13,7 +13,7 @@ use Rattle.base.specs.Bits.{bit, withBit}
 unfoldable pub maxAgents : ℕ
 maxAgents = 12
 
--- "d_i from 1 to 8"
+-- "d_i is 1 to 8"
 unfoldable pub maxDomain : ℕ
 maxDomain = 8
 
@@ -59,7 +59,7 @@ unfoldable pub banned : Problem → ℕ → ℕ → ℕ → ℕ → Bool
 banned p i j v w =
     isPair i j && within maxDomain v && within maxDomain w && bit (getD (p .bans) (wordAt i j) 0) (bitAt v w)
 
--- "Two scanners are linked from the start exactly if a ban names both"
+-- "Two scanners are linked from the start exactly if some ban names both"
 unfoldable pub linked : Problem → ℕ → ℕ → Bool
 linked p i j = isPair i j && ltb 0 (getD (p .bans) (wordAt i j) 0)
 
@@ -80,7 +80,7 @@ withBans p i j h =
 unfoldable pub noBans : List ℕ
 noBans = replicate maxPairs 0
 
--- ---- "n and slot counts in range; bans only between owned slots"
+-- ---- "n and slot counts are in range, and bans are only between owned slots"
 
 unfoldable pub countInRange : Problem → Bool
 countInRange p = within maxAgents (p .count)

@@ -1,5 +1,5 @@
--- What a record says, of either edition: the test of its fields and what it bans. Nothing here knows of bytes and places. Document 01, 'The
--- sheet', for edition 1; document 02, request a, for edition 2.
+-- What a record says, of either edition: the test of its fields and what it bans. Nothing here knows of bytes and places. docs/RULES.md, 'The
+-- sheet', for edition 1.
 use Prim.Native.Nat.{ℕ}
 use mathlib.Core.Bool.{Bool, false, cond, _&&_, _||_}
 use mathlib.Core.List.{List, [], _∷_}
@@ -33,7 +33,7 @@ signed b = cond (ltb b 128) (pos b) (pos b -ℤ pos 256)
 unfoldable pub between : ℤ → ℤ → ℤ → Bool
 between least greatest z = leZ least z && leZ z greatest
 
--- edition 2: "a least and a greatest gap, each from -7 to 7"; "a gap outside its range, or least above greatest, is a field fault"
+-- edition 2: "a least and a greatest gap, as signed bytes, each from -7 to 7"; "where a gap lies outside -7 to 7 or the least is above the greatest"
 unfoldable pub gapsGood : Row → Bool
 gapsGood row =
     between (negℤ (pos 7)) (pos 7) (signed (row .low))
@@ -48,12 +48,12 @@ rowGood edition p row = agentsGood p row && fieldsGood edition p row
 
 -- ---- what it bans
 
--- "the slot of the higher scanner minus slot of the lower"
+-- "the slot of the higher scanner minus the slot of the lower"
 unfoldable pub gap : ℕ → ℕ → ℤ
 gap v w = pos w -ℤ pos v
 
--- value v of the row's lower agent and value w of its higher one. Edition 1: its two slots; edition 2: "every pair where the slot of the
--- higher scanner minus slot of the lower lies from least to greatest"
+-- value v of the row's lower agent and value w of its higher one. Edition 1: its two slots; edition 2: "every pair of owned slots whose gap lies
+-- from least to greatest"
 unfoldable pub hits : ℕ → Row → ℕ → ℕ → Bool
 hits edition row v w =
     cond (eqb edition 2) (between (signed (row .low)) (signed (row .high)) (gap v w)) (eqb v (row .low) && eqb w (row .high))
@@ -63,7 +63,7 @@ unfoldable pub rowBans : ℕ → Problem → Row → ℕ → ℕ → ℕ → ℕ
 rowBans edition p row i j v w =
     eqb i (row .lower) && eqb j (row .higher) && owns p i v && owns p j w && hits edition row v w
 
--- the problem with what one more row bans. "A record that hits no pair of owned slots bans nothing and makes no link."
+-- the problem with what one more row bans. "A record that hits no pair of owned slots bans nothing, makes no link."
 unfoldable pub withRow : ℕ → Row → Problem → Problem
 withRow edition row p = withBans p (row .lower) (row .higher) (hits edition row)
 

@@ -1,5 +1,4 @@
--- The sheet, of either edition: from its bytes to a problem, or the first fault. Document 01, 'The sheet', and the table's numbers 1 to 4;
--- document 02, request a.
+-- The sheet, of either edition: from its bytes to a problem, or the first fault. docs/RULES.md, 'The sheet', and the table's numbers 1 to 4.
 use Prim.Native.Nat.{ℕ, zero, suc, pred, _+_, _*_}
 use mathlib.Core.Bool.{Bool, true, false, _&&_}
 use mathlib.Core.List.{List}
@@ -12,8 +11,8 @@ use Rattle.problem.specs.Row.{Row, rowGood, withRow}
 -- why a sheet is rejected
 pub data SheetFault : Type 0 where
   BadLength : SheetFault  -- "length under 24, or not 24 + 8m"
-  BadHeader : SheetFault  -- "a header byte outside its range, or first index above m"
-  BadRecord : SheetFault  -- "a chain record: scanners not .., a slot not owned, next above m, last bytes not zero"; a gap out of range
+  BadHeader : SheetFault  -- "a header byte outside its range (an edition other than 1 or 2 too), or the first index above m"
+  BadRecord : SheetFault  -- "a fault in a record on the chain"
   Cycle : SheetFault  -- "the chain comes back to a record"
 
 -- the table's number
@@ -33,11 +32,11 @@ headerLength = 24
 unfoldable pub recordLength : ℕ
 recordLength = 8
 
--- "record count m, 0 to 4,224"
+-- "the number of records m, 0 to 4,224"
 unfoldable pub maxRecords : ℕ
 maxRecords = 4224
 
--- "33,816 bytes, the longest sheet"
+-- "33,816 bytes is the longest sheet"
 unfoldable pub longestSheet : ℕ
 longestSheet = headerLength + recordLength * maxRecords
 
@@ -62,7 +61,7 @@ firstIn s = wordFrom s 2
 unfoldable pub recordsIn : List ℕ → ℕ
 recordsIn s = wordFrom s 4
 
--- "Bytes 8-19: slot counts of scanners 1 to 12"
+-- "Bytes 8-19 are the slot counts of scanners 1 to 12"
 unfoldable pub domainsIn : List ℕ → List ℕ
 domainsIn s = take maxAgents (drop 8 s)
 
@@ -70,7 +69,7 @@ domainsIn s = take maxAgents (drop 8 s)
 unfoldable pub withoutBans : List ℕ → Problem
 withoutBans s = record { count = agentsIn s; domains = domainsIn s; bans = noBans }
 
--- "byte 1 may be 1 or 2"
+-- "Byte 1 is the edition, 1 or 2"
 unfoldable pub headerGood : List ℕ → Bool
 headerGood s =
     countInRange (withoutBans s)
@@ -97,12 +96,12 @@ rowOf s r = rowAt s (recordStart r)
 unfoldable pub nextOf : List ℕ → ℕ → ℕ
 nextOf s r = wordFrom s (recordStart r + 4)
 
--- record r, where p has the header's n and slot counts: what it says; "next above m, last bytes not zero"
+-- record r, where p has the header's n and slot counts: what it says; "its next index is above m, or its last bytes are not zero"
 unfoldable pub recordGood : List ℕ → Problem → ℕ → Bool
 recordGood s p r =
     rowGood (editionIn s) p (rowOf s r) && leb (nextOf s r) (recordsIn s) && eqb (wordFrom s (recordStart r + 6)) 0
 
--- ---- the walk along the chain. "At each step of the walk, a record met before comes first, its fields second."
+-- ---- the walk along the chain. "at each step a record met before comes first and its fields second."
 
 -- at record index r, with the records met before and the problem so far. `steps` bounds the walk: a chain of more than m records has
 -- come back to one, so where the steps are used up the fault is the same.
@@ -120,7 +119,7 @@ walk (suc steps) s r met p =
       ]
     ]
 
--- "Checks: length under 24; header; total length; then the walk. First fault decides."
+-- "the first fault deciding: a length under 24; the header; the total length; then the walk along the chain."
 unfoldable pub decode : List ℕ → Decoded
 decode s =
     elim (ltb (length s) headerLength) [

@@ -1,4 +1,4 @@
--- Writing a sheet: the bytes that say a problem's n and slot counts and these rows. Document 01, 'The sheet', from the writer's side.
+-- Writing a sheet: the bytes that say a problem's n and slot counts and these rows. docs/RULES.md, 'The sheet', from the writer's side.
 use Prim.Native.Nat.{ℕ, suc, _/_, _%_}
 use mathlib.Core.List.{List, [], _∷_, _++_}
 use lib.ListN.{length}
@@ -11,14 +11,14 @@ twoBytes k = k % 256 ∷ k / 256 ∷ []
 
 -- edition, n, index of the first record, record count, twelve slot counts
 unfoldable pub headerBytes : ℕ → ℕ → ℕ → ℕ → List ℕ → List ℕ
-headerBytes edition n first m slots =
-    (n ∷ edition ∷ []) ++ twoBytes first ++ twoBytes m ++ (0 ∷ 0 ∷ []) ++ slots ++ (0 ∷ 0 ∷ 0 ∷ 0 ∷ [])
+headerBytes edition n first m domains =
+    (n ∷ edition ∷ []) ++ twoBytes first ++ twoBytes m ++ (0 ∷ 0 ∷ []) ++ domains ++ (0 ∷ 0 ∷ 0 ∷ 0 ∷ [])
 
--- "lower scanner, higher scanner, .., index of the next record (two bytes), two zero bytes"
+-- "the lower scanner, the higher scanner, .. the index of the next record (two bytes), two zero bytes"
 unfoldable pub rowBytes : Row → ℕ → List ℕ
 rowBytes row next = (row .lower ∷ row .higher ∷ row .low ∷ row .high ∷ []) ++ twoBytes next ++ (0 ∷ 0 ∷ [])
 
--- the index that leads on from record r to the rows that are left. "Index zero ends the chain."
+-- the index that leads on from record r to the rows that are left. "Index 0 ends the chain."
 unfoldable pub indexAfter : ℕ → List Row → ℕ
 indexAfter r [] = 0
 indexAfter r (row ∷ rows) = suc r

@@ -1,4 +1,4 @@
--- One delivery, and asking a value. Document 01, the end of 'What a scanner does', and the table's numbers 5 to 10.
+-- One delivery, and asking a value. docs/RULES.md, the end of 'What a scanner does', and the table's numbers 5 to 10.
 use Prim.Native.Nat.{ℕ}
 use mathlib.Core.Bool.{Bool, true, false, not, _&&_}
 use mathlib.Core.List.{List, [], _∷_}
@@ -12,11 +12,11 @@ use Rattle.protocol.specs.Shape.{hasRoom, inShape}
 
 -- why a call is rejected
 pub data Rejection : Type 0 where
-  BadShape : Rejection  -- "the shape below is broken"
+  BadShape : Rejection  -- "the shape is broken"
   BadNumbers : Rejection  -- "scanner numbers not 1 to n, or equal"
-  VerdictStands : Rejection  -- "verdict already stands"
-  EmptyChannel : Rejection  -- "that line is empty"
-  AlreadyInformed : Rejection  -- "link request from a scanner already informed"
+  VerdictStands : Rejection  -- "a verdict stands"
+  EmptyChannel : Rejection  -- "the line is empty"
+  AlreadyInformed : Rejection  -- "a link request from a scanner that is informed already"
   NoRoom : Rejection  -- "no room"
 
 -- the table's number
@@ -48,7 +48,7 @@ pub record Delivery : Type 0 where
   pub answer : Answer
   pub sent : List Post  -- by the receiver, in order; nothing where the delivery is rejected
 
--- "The rail given"
+-- "the rail given"
 unfoldable pub rejecting : Rejection → Network → Delivery
 rejecting r w = record { network = w; answer = Rejected r; sent = [] }
 
@@ -65,8 +65,7 @@ asksAgain a i AddLink = a .informs i
 unfoldable pub fits : Network → Bool
 fits w = allTo maxAgents (λ i. allTo maxAgents (λ j. hasRoom w i j))
 
--- "A delivery takes the head of one line and does the above. It needs room: it is refused exactly if a line would come to hold more than
--- eight."
+-- "A delivery takes the head of one line and does this. It needs room: it is refused exactly if a line would come to hold more than eight messages."
 unfoldable pub deliverHead : Network → ℕ → ℕ → List Message → Delivery
 deliverHead w i j [] = rejecting EmptyChannel w
 deliverHead w i j (m ∷ others) =
@@ -78,7 +77,7 @@ deliverHead w i j (m ∷ others) =
       ]
     ]
 
--- "Delivery tests 5 to 10 in that order."
+-- "A delivery tests 5 to 10 in that order."
 unfoldable pub deliver : Network → ℕ → ℕ → Delivery
 deliver w i j =
     elim (inShape w) [
@@ -92,7 +91,7 @@ deliver w i j =
       ]
     ]
 
--- ---- "Asking a scanner's slot refuses with 5 or 6 and slot 0; a scanner left without a slot by the verdict gives 0 and no refusal."
+-- ---- "Asking a scanner's slot refuses with 5 or 6 and slot 0; a scanner that the verdict left without a slot gives slot 0 and no refusal."
 
 pub record Asked : Type 0 where
   pub answer : Answer

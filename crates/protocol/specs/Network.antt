@@ -1,4 +1,4 @@
--- The network (rail): the problem, the agents, and the channels (lines) between them; and the start. Document 01, 'The rail', 'Start'.
+-- The network (rail): the problem, the agents, and the channels (lines) between them; and the start. docs/RULES.md, 'The rail', 'Start'.
 use Prim.Native.Nat.{ℕ}
 use mathlib.Core.Bool.{Bool, true, false, not, _||_}
 use mathlib.Core.List.{List, [], _++_}
@@ -10,7 +10,7 @@ use Rattle.agent_rules.specs.Message.{Message, Post, sentTo}
 use Rattle.agent_rules.specs.Agent.{Self, Bans, Agent, Step, unusedAgent}
 use Rattle.agent_rules.specs.Receiving.{receive, begin}
 
--- Two networks are the same when they are equal: the record holds what document 01 says that two rails must agree in, and nothing else.
+-- Two networks are the same when they are equal: the record holds what docs/RULES.md says that two rails must agree in, and nothing else.
 pub record Network : Type 0 where
   pub problem : Problem  -- n, slot counts and bans
   pub verdict : Bool  -- the verdict "none" stands

@@ -1,4 +1,4 @@
--- The worked nights of document 01 that are marked P, and six more: scripts of calls and of what must be seen between them.
+-- The worked nights of docs/RULES.md that are marked P, and six more: scripts of calls and of what must be seen between them.
 use Prim.Native.Nat.{ℕ, zero, suc}
 use mathlib.Core.Path.{_≡_}
 use mathlib.Core.Bool.{Bool, true, false, _&&_}
@@ -93,7 +93,7 @@ sheet4 = sheet (2 ∷ 2 ∷ []) (ban 1 1 2 1 ∷ ban 1 1 2 1 ∷ [])
 unfoldable pub sheet5 : List ℕ
 sheet5 = sheet (2 ∷ 1 ∷ []) (ban 1 1 2 1 ∷ [])
 
--- as document 01 prints it
+-- as docs/RULES.md has it
 unfoldable pub sheet9 : List ℕ
 sheet9 =
     0x03 ∷ 0x01 ∷ 0x01 ∷ 0x00 ∷ 0x02 ∷ 0x00 ∷ 0x00 ∷ 0x00 ∷ 0x02 ∷ 0x01 ∷ 0x02 ∷ 0x00 ∷ 0x00 ∷ 0x00 ∷ 0x00 ∷ 0x00 ∷ 0x00 ∷ 0x00 ∷ 0x00 ∷ 0x00
@@ -102,11 +102,11 @@ sheet9 =
     ∷ 0x02 ∷ 0x03 ∷ 0x01 ∷ 0x02 ∷ 0x00 ∷ 0x00 ∷ 0x00 ∷ 0x00
     ∷ []
 
--- "the highest-numbered blamed" would end in 3 rounds
+-- the highest-numbered blamed would end in 3 rounds
 unfoldable pub sheetBlame : List ℕ
 sheetBlame = sheet (2 ∷ 1 ∷ 2 ∷ []) (ban 1 1 2 1 ∷ ban 1 2 3 1 ∷ ban 1 2 3 2 ∷ ban 2 1 3 2 ∷ [])
 
--- "unknown counts as matching" would end in 3 rounds
+-- unknown counting as a match would end in 3 rounds
 unfoldable pub sheetUnknown : List ℕ
 sheetUnknown =
     sheet (2 ∷ 2 ∷ 2 ∷ [])

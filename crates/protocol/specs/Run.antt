@@ -1,4 +1,4 @@
--- Rounds and the run. Document 01, 'Rounds and the run', first paragraph.
+-- Rounds and the run. docs/RULES.md, 'Rounds and the run', first paragraph.
 use Prim.Native.Nat.{ℕ, zero, suc, _+_}
 use mathlib.Core.Bool.{Bool, true, false, _&&_, _||_}
 use mathlib.Core.Option.{Option, none, some}
@@ -49,7 +49,7 @@ isEmpty (m ∷ ms) = false
 unfoldable pub idle : Network → Bool
 idle w = allTo (w .problem .count) (λ i. allTo (w .problem .count) (λ j. isEmpty (w .channel i j)))
 
--- "it visits lines by sender, then receiver, upward, and delivers as many messages as the line held when the round began": the lines,
+-- "it visits the lines by sender, then receiver, upward, and delivers as many messages of a line as the line held when the round began": the lines,
 -- each as often as it holds a message
 unfoldable pub visits : Network → List Line
 visits w =
@@ -100,7 +100,7 @@ sweep s (l ∷ ls) = sweep (attempt s l) ls
 unfoldable pub round : Network → Sweep
 round w = sweep (beginRound w) (visits w)
 
--- "The round in which the run stops counts if all that waited at its start was delivered", as every other round does
+-- "The round in which it stops counts if all that waited at its start was delivered", as every other round does
 unfoldable pub isFull : Network → Sweep → Bool
 isFull w s = eqb (s .delivered) (length (visits w))
 
@@ -183,14 +183,14 @@ runFrom (suc left) made rounds w =
           ]
     ]
 
--- "0 to 1,000,000; more is taken as 1,000,000"
+-- "0 to 1,000,000, and more is taken as 1,000,000"
 unfoldable pub maxRounds : ℕ
 maxRounds = 1000000
 
 unfoldable pub allowed : ℕ → ℕ
 allowed k = elim (leb k maxRounds) [ true ↦ k | false ↦ maxRounds ]
 
--- "The run refuses only with 5, zero rounds and that number in place of the word; on a rail with a verdict it returns `none`, zero rounds."
+-- "The run refuses only with 5, with zero rounds and that number in place of the word; on a rail with a verdict it returns `none` and zero rounds."
 unfoldable pub run : ℕ → Network → Ran
 run k w =
     elim (inShape w) [

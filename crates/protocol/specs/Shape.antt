@@ -1,4 +1,4 @@
--- The shape of a network, clause by clause. Document 01, below the table: "Shape: ..".
+-- The shape of a network, clause by clause. docs/RULES.md, below the table: "The shape: ..".
 use Prim.Native.Nat.{ℕ, pred}
 use mathlib.Core.Bool.{Bool, true, false, not, _&&_, _||_}
 use mathlib.Core.Option.{Option, none, some}

@@ -4,7 +4,7 @@
 mod choices;
 mod drafts;
 mod draws;
-mod rails;
+mod networks;
 mod reading;
 mod tallies;
 
@@ -14,9 +14,9 @@ use drafts::drawn;
 use draws::next;
 use draws::pick;
 use network::Network;
-use rails::at_rest;
-use rails::listed;
-use rails::taken;
+use networks::at_rest;
+use networks::listed;
+use networks::taken;
 use reading::fault;
 use reading::of_gaps;
 use run::Ending;
@@ -58,16 +58,16 @@ fn ended(t: Tally, e: Ending, settled: bool, found: bool, s: &[u8]) -> Tally {
     }
 }
 
-fn with_run(t: Tally, rail: Network, state: u64, found: bool, s: &[u8]) -> Tally {
-    let out = run::run(rail, allowed(state));
+fn with_run(t: Tally, network: Network, state: u64, found: bool, s: &[u8]) -> Tally {
+    let out = run::run(network, allowed(state));
     let after = out.network;
     let ending = out.ending;
     ended(t, ending, settles(s, taken(after)), found, s)
 }
 
 // Where a list of deliveries has come to.
-fn list_ended(t: Tally, rail: Network, found: bool, s: &[u8]) -> Tally {
-    if rail.verdict {
+fn list_ended(t: Tally, network: Network, found: bool, s: &[u8]) -> Tally {
+    if network.verdict {
         return judged(
             t,
             AT_VERDICT,
@@ -76,11 +76,11 @@ fn list_ended(t: Tally, rail: Network, found: bool, s: &[u8]) -> Tally {
             s,
         );
     }
-    if at_rest(rail) {
+    if at_rest(network) {
         return judged(
             t,
             AT_REST,
-            settles(s, taken(rail)),
+            settles(s, taken(network)),
             b"a rest that breaks a ban:",
             s,
         );
@@ -88,9 +88,9 @@ fn list_ended(t: Tally, rail: Network, found: bool, s: &[u8]) -> Tally {
     with_one(t, CUT_SHORT)
 }
 
-fn with_list(t: Tally, rail: Network, state: u64, found: bool, s: &[u8]) -> Tally {
-    let l = listed(rail, state, 200);
-    let after = l.rail;
+fn with_list(t: Tally, network: Network, state: u64, found: bool, s: &[u8]) -> Tally {
+    let l = listed(network, state, 200);
+    let after = l.network;
     let t = with_more(with_more(t, DELIVERIES, l.accepted), REFUSALS, l.refused);
     let t = list_ended(t, after, found, s);
     if l.wrong == 0 {
@@ -102,7 +102,7 @@ fn with_list(t: Tally, rail: Network, state: u64, found: bool, s: &[u8]) -> Tall
 // A sheet, which is refused with the right number, or whose rail is run and delivered on.
 fn with_sheet(t: Tally, state: u64, s: &[u8]) -> Tally {
     let out = start::start(s);
-    let rail = out.network;
+    let network = out.network;
     let number = fault(s);
     let t = judged(
         t,
@@ -117,8 +117,8 @@ fn with_sheet(t: Tally, state: u64, s: &[u8]) -> Tally {
     let t = if of_gaps(s) { with_one(t, GAPS) } else { t };
     let found = solvable(s);
     with_list(
-        with_run(t, rail, state, found, s),
-        rail,
+        with_run(t, network, state, found, s),
+        network,
         next(state),
         found,
         s,

@@ -49,7 +49,7 @@ pub fn deliver(r: Network, from: u8, to: u8) -> Answer
     a
 }
 
-// "0 to 1,000,000; more is taken as 1,000,000"
+// "0 to 1,000,000, and more is taken as 1,000,000"
 fn at_most_a_million(rounds: u64) -> u64
     ensures { λ k. ⌜ (k ≡ allowedBy rounds) × (k ≤ 1000000) ⌝ }
 {

@@ -17,14 +17,14 @@ use Rattle.problem.proofs.Range.{Ranged, domain-small}
 use Rattle.agent_rules.specs.Message.{Assignment, Message, Info, Back, AddLink, sentTo}
 use Rattle.agent_rules.specs.Agent.{Agent, Step}
 use Rattle.agent_rules.specs.Shape.{anyValue, maxNamed, EachNamed, EachIn, RecordFits, MessageFits}
-use Rattle.agent_facts.specs.Messages.{IsInfo, Not}
+use Rattle.agent_rules.specs.Sorts.{IsInfo, Not}
+use Rattle.agent_rules.proofs.Messages.{addlink-not-info}
+use Rattle.agent_rules.proofs.Assignments.{agents-named}
 use Rattle.agent_facts.specs.Facts.{Asks, Answered, RestFits, Valued, PostFits, StepFits}
-use Rattle.agent_facts.proofs.Messages.{addlink-not-info}
-use Rattle.agent_facts.proofs.Assignments.{agents-named}
-use Rattle.agent_facts.proofs.Agent.{agent-facts}
 use Rattle.protocol.specs.Network.{Network, selfOf, bansOf, withStep, withChannel, stepOn, handed}
 use Rattle.protocol.specs.Shape.{hasRoom, inShape}
 use Rattle.protocol.specs.Delivery.{rejecting, numbersGood, fits, deliver}
+use Rattle.shape_laws.proofs.Wall.{agent-facts}
 use Rattle.shape_laws.proofs.Handing.{Handing, OnAgent, mine, other, on-agent, OnChannel, hit, put, rest, on-channel, handing}
 use Rattle.shape_laws.proofs.Outcome.{Outcome, refused, accepted, outcome, numbers}
 use Rattle.shape_laws.proofs.ShapeClauses.{AgentShaped, Unused, MessageShaped, Shaped, shaped, to-shape}

@@ -13,9 +13,9 @@ use Rattle.base.proofs.Search.{at-same, at-other}
 use Rattle.agent_rules.specs.Message.{Message, Post, sentTo}
 use Rattle.agent_rules.specs.Agent.{Step}
 use Rattle.agent_facts.specs.Facts.{Linking}
-use Rattle.agent_facts.proofs.Agent.{agent-facts}
 use Rattle.protocol.specs.Network.{Network, selfOf, bansOf, posted, withStep, withChannel, stepOn, handed}
 use Rattle.protocol.specs.Run.{Line, isLine}
+use Rattle.shape_laws.proofs.Wall.{agent-facts}
 use Rattle.shape_laws.proofs.Lines.{line-ends, is-line}
 
 pub record Handing (d : Line) (m : Message) (t : Step) (w w′ : Network) : Type 0 where

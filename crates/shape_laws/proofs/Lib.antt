@@ -1,3 +1,4 @@
+pub mod Wall
 pub mod ShapeClauses
 pub mod Lines
 pub mod Outcome

@@ -13,8 +13,8 @@ use Rattle.problem.proofs.Range.{Ranged, linked-inside}
 use Rattle.agent_rules.specs.Message.{Info, sentTo}
 use Rattle.agent_rules.specs.Agent.{unusedAgent}
 use Rattle.agent_facts.specs.Facts.{Begun}
-use Rattle.agent_facts.proofs.Agent.{agent-facts}
 use Rattle.protocol.specs.Network.{selfOf, bansOf, begun, startAgent, startChannel, start}
+use Rattle.shape_laws.proofs.Wall.{agent-facts}
 
 module _ (p : Problem) (r : Ranged p) where
   pub begins : (i : ℕ) → 1 ≤ i → i ≤ p .count → Begun (selfOf p i) (λ k. linked p k i) (λ k. linked p i k) (begun p i)

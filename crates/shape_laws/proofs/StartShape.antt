@@ -9,7 +9,7 @@ use Rattle.problem.specs.Problem.{Problem, owns, linked, inRange}
 use Rattle.problem.proofs.Range.{Ranged, ranged, linked-inside}
 use Rattle.agent_rules.specs.Message.{nobody}
 use Rattle.agent_rules.specs.Agent.{unusedAgent, noNogoods}
-use Rattle.agent_facts.proofs.Assignments.{unknown}
+use Rattle.agent_rules.proofs.Assignments.{unknown}
 use Rattle.protocol.specs.Network.{selfOf, startAgent, start}
 use Rattle.protocol.specs.Shape.{capacity, inShape}
 use Rattle.shape_laws.proofs.ShapeClauses.{AgentShaped, Unused, ChannelShaped, Shaped, to-shape}

@@ -65,11 +65,11 @@ unfolding headerLength
 good-record s r g = rw (← start-at r (g .index)) (good-there s r (header-in-range s (omega (arith, g .inside)) (g .header)) (g .fields))
 
 -- edition 1: its slots are owned
-pub slots-owned : (s : List ℕ) (k : ℕ) → Record s k → (editionIn s ≡ 2 → ⊥)
+pub values-owned : (s : List ℕ) (k : ℕ) → Record s k → (editionIn s ≡ 2 → ⊥)
     → (within (domain (withoutBans s) (byteAt s k)) (byteAt s (k + 2)) ≡ true)
     × (within (domain (withoutBans s) (byteAt s (k + 1))) (byteAt s (k + 3)) ≡ true)
 unfolding owns rowAt valuesGood fieldsGood
-slots-owned s k f e = both _ _ (rw (ne-eqb (editionIn s) 2 e) at (f .fields))
+values-owned s k f e = both _ _ (rw (ne-eqb (editionIn s) 2 e) at (f .fields))
 
 -- ---- what it bans
 
@@ -91,11 +91,11 @@ only d e a b v w oa ob =
     (λ t. rw t (sym (and-false (within d v && within e w))))
 
 -- edition 1
-pub slot-row : (s : List ℕ) (r x : ℕ) → Good s r → (editionIn s ≡ 2 → ⊥)
+pub value-row : (s : List ℕ) (r x : ℕ) → Good s r → (editionIn s ≡ 2 → ⊥)
     → (let k = 16 + 8 * r in Pairs x (λ v w. eqb v (byteAt s (k + 2)) && eqb w (byteAt s (k + 3)))) → Pairs x (rowPairs s r)
 unfolding owns rowAt rowOf hits rowPairs
-slot-row s r x g e p =
-    let own = slots-owned s (16 + 8 * r) (good-record s r g) e in
+value-row s r x g e p =
+    let own = values-owned s (16 + 8 * r) (good-record s r g) e in
     renamed p (λ v w a b c d. rw (start-at r (g .index), ne-eqb (editionIn s) 2 e) (only _ _ _ _ v w (own .0) (own .1)))
 
 -- the table with it

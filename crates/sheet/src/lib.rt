@@ -1,4 +1,4 @@
-// Reads a sheet of either edition: from its bytes to a problem, or to the number of the first fault. Document 01, 'The sheet'.
+// Reads a sheet of either edition: from its bytes to a problem, or to the number of the first fault. docs/RULES.md, 'The sheet'.
 ghost use mathlib.Core.Path.{_≡_};
 ghost use Rattle.problem.specs.Problem.{emptyProblem};
 ghost use Rattle.problem.specs.Sheet.{decode};

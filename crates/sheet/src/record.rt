@@ -50,7 +50,7 @@ fn gap_good(gap: i8) -> bool
     -7 <= gap && gap <= 7
 }
 
-// Edition 2: a least and a greatest gap, each from -7 to 7, the least not above the greatest.
+// Edition 2: a least and a greatest gap, as signed bytes, each from -7 to 7, the least not above the greatest.
 fn gaps_good(least: i8, greatest: i8) -> bool
     ensures { λ b. ⌜ b ≡ (between (negℤ (pos 7)) (pos 7) least && between (negℤ (pos 7)) (pos 7) greatest && leZ least greatest) ⌝ }
 {

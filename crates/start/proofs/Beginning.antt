@@ -1,21 +1,14 @@
 -- One agent begins: the record that its code gives, and the Infos that it sends, go into the network as the definition's first step does.
-use mathlib.Core.Path.{_≡_, sym, ap, fun-ext, _∙_}
+use mathlib.Core.Path.{_≡_, sym, ap, _∙_}
 use mathlib.Core.Bool.{Bool, true, or-false}
-use mathlib.Core.List.{List, map}
-use Prim.Native.Nat.{ℕ, zero, suc, _≤_, _<_}
-use native.Mathlib.Omega.{arith}
-use lib.ListN.{length, set, length-map}
-use lib.Seq.{getD-set-same, getD-set-other}
-use Rattle.base.specs.Finite.{at, fromOne}
-use Rattle.base.proofs.Tests.{eq-test}
-use Rattle.base.proofs.Search.{at-same, at-other}
-use Rattle.base.proofs.Arrays.{map-set}
+use Prim.Native.Nat.{ℕ, suc, _≤_, _<_}
+use lib.ListN.{length, set}
 use Rattle.problem.specs.Problem.{Problem, maxAgents, linked}
 use Rattle.problem.proofs.Range.{Ranged, linked-pair}
-use Rattle.agent_rules.specs.Agent.{Agent as Agent′, Step, unusedAgent}
+use Rattle.agent_rules.specs.Agent.{Agent as Agent′, Step}
 use Rattle.agent_rules.specs.Receiving.{begin}
-use Rattle.agent_facts.proofs.Agent.{agent-facts}
 use Rattle.protocol.specs.Network.{selfOf, bansOf, withStep, begun}
+use Rattle.shape_laws.proofs.Start.{begins}
 use Rattle.agent.specs.declared.Agent.{Agent}
 use Rattle.agent.specs.declared.Own.{Own}
 use Rattle.agent.specs.Abstract.{agentOf, selfOf as ownOf}
@@ -23,7 +16,8 @@ use Rattle.agent.specs.Posting.{newsTo}
 use Rattle.agent.specs.Entries.{BeginsAs}
 use Rattle.packed.specs.Packed.{members}
 use Rattle.network.specs.declared.Network.{Network}
-use Rattle.network.specs.Abstract.{problemOf, agentsOf, channelOf, networkOf}
+use Rattle.network.specs.Abstract.{problemOf, channelOf, networkOf}
+use Rattle.network_laws.proofs.Changes.{agents-put}
 use Rattle.start.proofs.Posting.{withPosts}
 
 -- ---- its step
@@ -37,10 +31,10 @@ begun-by p i a own m n e s l k = rw (s, l, k) at e
 -- those it informs are below
 pub informs-below : (p : Problem) (i : ℕ) (a : Agent) → Ranged p → 1 ≤ i → i ≤ p .count → BeginsAs a (begun p i)
     → (j : ℕ) → members (a .informs) j ≡ true → (i < j) × (j ≤ 12)
-unfolding begun selfOf agentOf maxAgents
+unfolding agentOf maxAgents
 informs-below p i a r l h b j e =
-    let f = agent-facts .begins (selfOf p i) (bansOf p i) (λ k. linked p k i) (λ k. linked p i k) l (r .domained i l h .0) in
-    let s : linked p i j ≡ true = ap (λ (g : ℕ → Bool). g j) (sym (ap (λ (x : Agent′). x .informs) (b .agent) ∙ f .informed)) ∙ e in
+    let informed = begins p r i l h .informed in
+    let s : linked p i j ≡ true = ap (λ (g : ℕ → Bool). g j) (sym (ap (λ (x : Agent′). x .informs) (b .agent) ∙ informed)) ∙ e in
     let q = linked-pair p i j s in
     (q .1, q .2)
 
@@ -59,20 +53,6 @@ withAgent o m a =
       counts = o .counts;
       places = o .places;
     }
-
-agents-put : (l : List Agent) (m : ℕ) (a : Agent) → m < length l
-    → agentsOf (map agentOf (set l m a)) ≡ at (agentsOf (map agentOf l)) (suc m) (agentOf a)
-unfolding agentsOf fromOne
-agents-put l m a u =
-    rw (map-set agentOf l m a)
-    (fun-ext (elim [
-      | zero ↦ sym (at-other (agentsOf (map agentOf l)) (suc m) (agentOf a) zero (λ q. omega arith))
-      | suc k ↦ eq-test k m
-          (λ q. rw (q, at-same (agentsOf (map agentOf l)) (suc m) (agentOf a))
-          (getD-set-same (map agentOf l) m (agentOf a) unusedAgent (simp length-map (omega arith))))
-          (λ q. rw (at-other (agentsOf (map agentOf l)) (suc m) (agentOf a) (suc k) (λ e. q (omega arith)))
-          (getD-set-other (map agentOf l) m k (agentOf a) unusedAgent q))
-    ]))
 
 pub step-put : (o : Network) (m : ℕ) (a : Agent) (t : Step) → BeginsAs a t → m < length (o .agents)
     → withPosts (networkOf (withAgent o m a)) (suc m) (newsTo (a .value) (a .informs)) ≡ withStep (networkOf o) (suc m) t

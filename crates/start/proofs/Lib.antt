@@ -1,7 +1,6 @@
 mod Words
 mod Masks
 mod News
-mod Rows
 mod Posting
 mod Telling
 mod Told

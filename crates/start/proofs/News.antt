@@ -11,7 +11,7 @@ use Rattle.base.proofs.Tests.{test, eq-test}
 use Rattle.base.proofs.Gathers.{gather-none, gather-one}
 use Rattle.problem.specs.Problem.{maxAgents}
 use Rattle.agent_rules.specs.Message.{Message, Post, sentTo}
-use Rattle.agent_facts.proofs.Messages.{sentTo-append}
+use Rattle.agent_rules.proofs.Messages.{sentTo-append}
 use Rattle.agent.specs.Posting.{postIf, postsTo}
 
 sent-gathered : (y m k : ℕ) (f : ℕ → List Post) → sentTo y (gather m k f) ≡ gather m k (λ j. sentTo y (f j))

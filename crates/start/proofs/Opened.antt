@@ -16,8 +16,9 @@ use Rattle.agent_rules.specs.Message.{Message, sentTo}
 use Rattle.agent_rules.specs.Agent.{Agent, unusedAgent}
 use Rattle.protocol.specs.Network.{Network as Network′, emptyNetwork, posted, withStep, begun, startAgent, startChannel, start}
 use Rattle.network.specs.Abstract.{problemOf, channelOf, networkOf}
-use Rattle.network.proofs.Zeros.{zeros}
-use Rattle.start.specs.Started.{emptyAgent, emptyRail, railOf}
+use Rattle.network.specs.Empty.{emptyRecord}
+use Rattle.network.proofs.Zeros.{record-empty}
+use Rattle.start.specs.Started.{unbegun}
 use Rattle.start.proofs.Posting.{Silent}
 
 -- the first m agents have begun
@@ -51,27 +52,22 @@ waits-channel p m i j e = rw (e, openedChannel)
 
 -- ---- nobody has begun
 
--- the record of a refused start is the empty network
-pub rail-empty : networkOf emptyRail ≡ emptyNetwork
-unfolding emptyRail emptyAgent
-rail-empty = zeros emptyRail refl refl refl refl refl refl
-
-pub none-opened : (p : Problem) → networkOf (railOf (p .count) (p .domains) (p .bans)) ≡ opened p 0
-unfolding railOf networkOf channelOf problemOf emptyNetwork opened allTo
+pub none-opened : (p : Problem) → networkOf (unbegun (p .count) (p .domains) (p .bans)) ≡ opened p 0
+unfolding unbegun networkOf channelOf problemOf emptyNetwork opened allTo
 none-opened p = λ k. record {
   problem = p;
-  verdict = ap (λ (w : Network′). w .verdict) rail-empty k;
+  verdict = ap (λ (w : Network′). w .verdict) record-empty k;
   agents =
-      (ap (λ (w : Network′). w .agents) rail-empty ∙ sym (fun-ext (λ i. waits-agent p 0 i (not-within 0 i (λ l h. omega arith))))) k;
+      (ap (λ (w : Network′). w .agents) record-empty ∙ sym (fun-ext (λ i. waits-agent p 0 i (not-within 0 i (λ l h. omega arith))))) k;
   channel =
-      (ap (λ (w : Network′). w .channel) rail-empty
+      (ap (λ (w : Network′). w .channel) record-empty
       ∙ sym (fun-ext (λ i. fun-ext (λ j. waits-channel p 0 i j (not-within 0 i (λ l h. omega arith)))))) k;
 }
 
 -- the start of the empty problem, in which there is nobody
 pub nobody-starts : start emptyProblem ≡ emptyNetwork
-unfolding emptyProblem noBans maxAgents maxPairs railOf emptyRail
-nobody-starts = sym (all-opened emptyProblem) ∙ sym (none-opened emptyProblem) ∙ rail-empty
+unfolding emptyProblem noBans maxAgents maxPairs unbegun emptyRecord
+nobody-starts = sym (all-opened emptyProblem) ∙ sym (none-opened emptyProblem) ∙ record-empty
 
 -- ---- one more
 

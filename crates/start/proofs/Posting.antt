@@ -6,6 +6,7 @@ use lib.ListN.{set}
 use Rattle.agent_rules.specs.Message.{Post}
 use Rattle.protocol.specs.Network.{Network as Network′, posted}
 use Rattle.network.specs.declared.Network.{Network}
+use Rattle.network_laws.proofs.Changes.{counted}
 
 -- what agent i sends goes to the ends of its channels
 unfoldable pub withPosts : Network′ → ℕ → List Post → Network′
@@ -23,14 +24,4 @@ Silent w i = (j : ℕ) → w .channel i j ≡ []
 
 -- the network with this row of counts
 abbrev pub withRow : Network → ℕ → ℕ → Network
-withRow o k row =
-    record {
-      count = o .count;
-      domains = o .domains;
-      bans = o .bans;
-      verdict = o .verdict;
-      agents = o .agents;
-      heads = o .heads;
-      counts = set (o .counts) k row;
-      places = o .places;
-    }
+withRow o k row = counted o (set (o .counts) k row)

@@ -17,8 +17,9 @@ use Rattle.network.specs.declared.Network.{Network}
 use Rattle.network.specs.Abstract.{isChannel, channelAt, ring, channelOf, problemOf, networkOf}
 use Rattle.network.proofs.Numbering.{ends}
 use Rattle.network.proofs.Zeros.{zero-row}
+use Rattle.network_laws.proofs.Rings.{ring-same}
+use Rattle.network_laws.proofs.Changes.{row-here, row-elsewhere}
 use Rattle.start.proofs.News.{sent-none, sent-one}
-use Rattle.start.proofs.Rows.{row-here, row-elsewhere, ring-same}
 use Rattle.start.proofs.Posting.{withPosts, Silent, withRow}
 use Rattle.start.proofs.Telling.{withPlaces, Telling}
 

@@ -11,9 +11,10 @@ use Rattle.agent.specs.declared.Agent.{Agent}
 use Rattle.agent.specs.Entries.{BeginsAs}
 use Rattle.packed.specs.Packed.{members}
 use Rattle.network.specs.declared.Network.{Network}
-use Rattle.network.specs.Abstract.{isChannel, channelOf, networkOf}
+use Rattle.network.specs.Abstract.{isChannel, noPlace, channelOf, networkOf}
+use Rattle.network.specs.Empty.{emptyAgent, emptyRecord}
 use Rattle.network.proofs.Numbering.{to-channel}
-use Rattle.start.specs.Started.{emptyAgent, emptyPlace, emptyRail, railOf}
+use Rattle.start.specs.Started.{unbegun}
 use Rattle.start.proofs.Posting.{Silent, withRow}
 use Rattle.start.proofs.Telling.{Telling}
 use Rattle.start.proofs.Told.{all-told}
@@ -28,15 +29,15 @@ pub record Opening (p : Problem) (m : ℕ) (r : Network) : Type 0 where
   pub places : length (r .places) ≡ 1056
 
 -- nobody has begun
-pub none-begun : (p : Problem) (r : Network) → r ≡ railOf (p .count) (p .domains) (p .bans) → Opening p 0 r
-unfolding railOf emptyRail
+pub none-begun : (p : Problem) (r : Network) → r ≡ unbegun (p .count) (p .domains) (p .bans) → Opening p 0 r
+unfolding unbegun emptyRecord
 none-begun p r e =
     record {
       network = ap networkOf e ∙ none-opened p;
       heads = ap (λ (n : Network). n .heads) e;
       agents = ap (λ (n : Network). length (n .agents)) e ∙ length-replicate 12 emptyAgent;
       counts = ap (λ (n : Network). length (n .counts)) e ∙ length-replicate {A = ℕ} 12 0;
-      places = ap (λ (n : Network). length (n .places)) e ∙ length-replicate 1056 emptyPlace;
+      places = ap (λ (n : Network). length (n .places)) e ∙ length-replicate 1056 noPlace;
     }
 
 -- an agent below is at the other end of a channel

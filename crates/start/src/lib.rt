@@ -5,7 +5,7 @@ ghost use Rattle.problem.specs.Problem.{Problem as Problem′, linked};
 ghost use Rattle.protocol.specs.Network.{startSheet};
 ghost use Rattle.packed.specs.Packed.{members};
 ghost use Rattle.network.specs.Abstract.{networkOf};
-ghost use Rattle.start.specs.Started.{railOf, StartsAs};
+ghost use Rattle.start.specs.Started.{unbegun, StartsAs};
 use agent::Agent;
 use agent::Lhs;
 use agent::Message;
@@ -60,8 +60,8 @@ fn informs(bans: &[u64; 66], i: u8) -> u16
 // ---- the start
 
 // The network of a problem, in which nobody has begun. All else is zero, and every place holds the same message.
-fn rail_of(n: u8, domains: [u8; 12], bans: [u64; 66]) -> Network
-    ensures { λ r. ⌜ r ≡ railOf n domains bans ⌝ }
+fn unbegun(n: u8, domains: [u8; 12], bans: [u64; 66]) -> Network
+    ensures { λ r. ⌜ r ≡ unbegun n domains bans ⌝ }
 {
     let nobody = Agent {
         value: 0,
@@ -98,7 +98,7 @@ pub fn start(sheet: &[u8]) -> Started
     let n = p.count;
     let domains = p.domains;
     let bans = p.bans;
-    let mut r = rail_of(n, domains, bans);
+    let mut r = unbegun(n, domains, bans);
     let mut i: u8 = 0;
     while i < n {
         let at = i as usize;

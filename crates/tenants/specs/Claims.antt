@@ -10,7 +10,7 @@ use Rattle.protocol.specs.Delivery.{deliver}
 use Rattle.theorems.specs.Calls.{Call, leftByAll}
 use Rattle.tenants.specs.Tenants.{Alike, handedIn, postsIn, SameRest}
 
--- "Its record and all it sends are then equal"
+-- "it ends with the same record on both and has sent the same, in the same order"
 pub record SameDeeds (j : ℕ) (w v : Network) (calls others : List Call) : Type 0 where
   pub agent : leftByAll calls w .agents j ≡ leftByAll others v .agents j
   pub sent : postsIn j calls w ≡ postsIn j others v

@@ -5,14 +5,13 @@ use mathlib.Core.Path.{_≡_}
 use mathlib.Core.Bool.{Bool, true, false, _&&_}
 use mathlib.Core.List.{List, [], _∷_, _++_}
 use lib.Dec.{eqb}
-use Rattle.base.specs.Finite.{allTo, gather}
+use Rattle.base.specs.Finite.{at, allTo, gather}
 use Rattle.problem.specs.Problem.{maxAgents, maxDomain, domain, banned}
 use Rattle.problem.specs.Cases.{ban, sameBool}
 use Rattle.agent_rules.specs.Message.{Info, Back, Post}
 use Rattle.agent_rules.specs.Agent.{Agent, unusedAgent}
-use Rattle.agent_rules.specs.Receiving.{quiet}
 use Rattle.agent_rules.specs.Cases.{agent, post, sameAgent, sameMessage, samePosts}
-use Rattle.protocol.specs.Network.{Network, withStep, startSheet}
+use Rattle.protocol.specs.Network.{Network, withAgents, startSheet}
 use Rattle.protocol.specs.Shape.{inShape}
 use Rattle.protocol.specs.Delivery.{answerNumber, deliver}
 use Rattle.protocol.specs.Nights.{sheet, sheet5, sheetShared, empty}
@@ -100,7 +99,7 @@ turns = gather 7 1 (λ k. Deliver 2 3 ∷ Deliver 3 2 ∷ [])
 
 -- agent 4 without a value, and no verdict
 unfoldable pub forged : Network → Network
-forged w = withStep w 4 (quiet unusedAgent [])
+forged w = withAgents w (at (w .agents) 4 unusedAgent)
 
 unfoldable pub nights : List Pair
 nights =
@@ -126,7 +125,7 @@ nights =
     (reached sheetDoomed (Deliver 3 4 ∷ Deliver 4 3 ∷ []))
     (record { shape = true; verdict = false; room = true })
     7
-    -- room: "Line 2 to 4 now holds eight. Delivery 1 to 2: refusal 10." On the first network agent 4 has been handed one of them.
+    -- room: "Line 2 to 4 now holds eight, and a delivery 1 to 2 is refused with 10." On the first network agent 4 has been handed one of them.
     ∷ Differs
     (reached sheetFull (turns ++ Deliver 2 4 ∷ []))
     (reached sheetFull turns)

@@ -1,5 +1,5 @@
 -- Two networks (rails) as one agent can tell them apart: what they have alike, what a list of calls hands the agent, what it sends in it, and what
--- else decides whether a delivery to it is accepted. Document 02, 'Two tenants on one rail'.
+-- else decides whether a delivery to it is accepted. docs/RULES.md, 'Two tenants on one rail'.
 use Prim.Native.Nat.{ℕ, _-_, _≤_}
 use mathlib.Core.Path.{_≡_}
 use mathlib.Core.Logic.{_⊎_}
@@ -25,7 +25,7 @@ Naming j i k = (i ≡ j) ⊎ (k ≡ j)
 abbrev pub NamingAbove : ℕ → ℕ → ℕ → Type 0
 NamingAbove j i k = k ≡ j
 
--- "alike in one scanner's own record, its slot count and the bans that name it"
+-- "alike in one scanner: its own record, its slot count and the bans that name it"
 pub record Alike (Names : ℕ → ℕ → ℕ → Type 0) (j : ℕ) (w v : Network) : Type 0 where
   pub agent : w .agents j ≡ v .agents j
   pub domain : domain (w .problem) j ≡ domain (v .problem) j
@@ -54,7 +54,7 @@ unfoldable pub handedTo : ℕ → List Line → Network → List Handed
 handedTo j [] w = []
 handedTo j (l ∷ ls) w = handedNow j l w ++ handedTo j ls (attemptOf l w .network)
 
--- "all it sends"
+-- "has sent the same, in the same order"
 unfoldable pub postsNow : ℕ → Line → Network → List Post
 postsNow j l w = elim (eqb j (l .to)) [ true ↦ attemptOf l w .sent | false ↦ [] ]
 
@@ -75,7 +75,7 @@ postsIn j calls w = postsBy j (triedByAll calls w) w
 unfoldable pub roomOn : Network → ℕ → ℕ → ℕ
 roomOn w j y = capacity - length (w .channel j y)
 
--- "three things beyond the message and what is alike: the shape of the rest, a verdict reached elsewhere, and room on its outgoing lines"
+-- "three things: the shape of the rail, a verdict, and room on the receiver's outgoing lines"
 pub record SameRest (j : ℕ) (w v : Network) : Type 0 where
   pub shape : inShape w ≡ inShape v
   pub verdict : w .verdict ≡ v .verdict

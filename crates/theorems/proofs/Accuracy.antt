@@ -11,7 +11,7 @@ use Rattle.base.proofs.Tests.{test, to-within}
 use Rattle.problem.specs.Problem.{Problem, domain, owns, banned, inRange, Obeys}
 use Rattle.problem.proofs.Range.{ranged, banned-linked, banned-inside}
 use Rattle.agent_rules.specs.Message.{Assignment, known}
-use Rattle.agent_facts.specs.Messages.{seen}
+use Rattle.agent_rules.specs.Sorts.{seen}
 use Rattle.protocol.specs.Network.{Network, selfOf, bansOf, start}
 use Rattle.protocol.specs.Run.{Line}
 use Rattle.theorems.specs.Calls.{replay}

@@ -18,7 +18,7 @@ use Rattle.base.proofs.Counting.{misses, misses-most, misses-le, misses-lt}
 use Rattle.problem.specs.Problem.{Problem, domain}
 use Rattle.agent_rules.specs.Message.{Assignment, Message, Info, Back, AddLink}
 use Rattle.agent_rules.specs.Agent.{Agent}
-use Rattle.agent_facts.specs.Messages.{IsInfo, IsBack, Not, Refuses}
+use Rattle.agent_rules.specs.Sorts.{IsInfo, IsBack, Not, Refuses}
 use Rattle.agent_facts.specs.Facts.{quietView, Why}
 use Rattle.protocol.specs.Network.{Network, selfOf, bansOf}
 use Rattle.protocol.specs.Run.{Line}

@@ -12,8 +12,8 @@ use Rattle.base.proofs.Tests.{test}
 use Rattle.base.proofs.Lists.{All, Any, any-right, any-all}
 use Rattle.problem.specs.Problem.{Problem}
 use Rattle.agent_rules.specs.Message.{Assignment, known, Message, Info, Back, AddLink}
-use Rattle.agent_facts.specs.Messages.{Not, Refuses}
-use Rattle.agent_facts.proofs.Assignments.{unknown}
+use Rattle.agent_rules.specs.Sorts.{Not, Refuses}
+use Rattle.agent_rules.proofs.Assignments.{unknown}
 use Rattle.protocol.specs.Network.{Network}
 use Rattle.protocol.specs.Run.{Line}
 use Rattle.theorems.proofs.Moves.{Waits}

@@ -15,8 +15,8 @@ use Rattle.problem.specs.Problem.{Problem, inRange, Obeys}
 use Rattle.problem.proofs.Range.{ranged}
 use Rattle.agent_rules.specs.Message.{Assignment, known, Message, Info, Back, AddLink, sentTo}
 use Rattle.agent_rules.specs.Agent.{Bans, Agent, Step}
-use Rattle.agent_facts.specs.Messages.{IsInfo, IsAddLink, Not, Refuses, seen}
-use Rattle.agent_facts.proofs.Messages.{addlink-not-info, back-not-info, seen-tells}
+use Rattle.agent_rules.specs.Sorts.{IsInfo, IsAddLink, Not, Refuses, seen}
+use Rattle.agent_rules.proofs.Messages.{addlink-not-info, back-not-info, seen-tells}
 use Rattle.agent_facts.specs.Facts.{Requests, Good, busyView, quietView, TellsSender, Why, Sends}
 use Rattle.protocol.specs.Network.{Network, selfOf, bansOf}
 use Rattle.protocol.specs.Run.{Line}

@@ -12,7 +12,7 @@ use Rattle.base.proofs.Tests.{test}
 use Rattle.base.proofs.Lists.{All, All-map, Any, any-all}
 use Rattle.problem.specs.Problem.{Problem}
 use Rattle.agent_rules.specs.Message.{Assignment, Message, Info, Back, AddLink}
-use Rattle.agent_facts.specs.Messages.{IsAddLink, Refuses, afterOne, seen}
+use Rattle.agent_rules.specs.Sorts.{IsAddLink, Refuses, afterOne, seen}
 use Rattle.protocol.specs.Network.{Network}
 use Rattle.protocol.specs.Run.{Line, isLine}
 use Rattle.theorems.specs.Calls.{replay}

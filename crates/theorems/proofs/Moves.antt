@@ -8,7 +8,7 @@ use Rattle.base.proofs.Lists.{All, Any}
 use Rattle.problem.specs.Problem.{Problem, linked, Obeys}
 use Rattle.agent_rules.specs.Message.{Assignment, known, Message, Info, Back, AddLink}
 use Rattle.agent_rules.specs.Agent.{Agent, Step}
-use Rattle.agent_facts.specs.Messages.{IsAddLink, Refuses, seen}
+use Rattle.agent_rules.specs.Sorts.{IsAddLink, Refuses, seen}
 use Rattle.agent_facts.specs.Facts.{Excludes, Good, Facts}
 use Rattle.protocol.specs.Network.{Network, selfOf, bansOf}
 use Rattle.protocol.specs.Delivery.{Accepted, Delivery}

@@ -13,8 +13,8 @@ use Rattle.protocol.specs.Network.{Network, selfOf, bansOf, withStep, withChann
 use Rattle.protocol.specs.Delivery.{Accepted, isAccepted, rejecting, numbersGood, deliver}
 use Rattle.protocol.specs.Run.{Line}
 use Rattle.theorems.specs.Calls.{attemptOf}
-use Rattle.agent_facts.proofs.Agent.{agent-facts}
 use Rattle.theorems.proofs.Moves.{Move, Waits, Invariant, Next, stays, moves, stops}
+use Rattle.shape_laws.proofs.Wall.{agent-facts}
 use Rattle.shape_laws.proofs.Outcome.{Outcome, refused, accepted, outcome, numbers}
 use Rattle.shape_laws.proofs.Handing.{handing}
 use Rattle.theorems.proofs.Setting.{setting}

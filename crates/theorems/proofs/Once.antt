@@ -11,9 +11,9 @@ use Rattle.problem.specs.Problem.{Problem, linked}
 use Rattle.problem.proofs.Range.{Ranged}
 use Rattle.agent_rules.specs.Message.{Message, Info, Back, AddLink, sentTo}
 use Rattle.agent_rules.specs.Agent.{Agent, Step}
-use Rattle.agent_facts.specs.Messages.{IsAddLink, Not, OneLink}
+use Rattle.agent_rules.specs.Sorts.{IsAddLink, Not, OneLink}
+use Rattle.agent_rules.proofs.Messages.{one-put, one-new, one-tail}
 use Rattle.agent_facts.specs.Facts.{Requests, Asks}
-use Rattle.agent_facts.proofs.Messages.{one-put, one-new, one-tail}
 use Rattle.protocol.specs.Network.{Network, start}
 use Rattle.protocol.specs.Delivery.{rejecting, deliver}
 use Rattle.protocol.specs.Run.{Line}

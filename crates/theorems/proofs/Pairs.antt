@@ -7,8 +7,8 @@ use mathlib.Core.Bool.{Bool, true}
 use Prim.Native.Nat.{ℕ}
 use Rattle.base.proofs.Lists.{Any, any-left, any-right}
 use Rattle.agent_rules.specs.Message.{Message}
-use Rattle.agent_facts.specs.Messages.{IsAddLink, Refuses, seen}
-use Rattle.agent_facts.proofs.Messages.{seen-append, seen-fixed}
+use Rattle.agent_rules.specs.Sorts.{IsAddLink, Refuses, seen}
+use Rattle.agent_rules.proofs.Messages.{seen-append, seen-fixed}
 use Rattle.theorems.proofs.Moves.{UpToDate, Linked}
 
 -- ---- the listener

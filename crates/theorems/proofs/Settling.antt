@@ -13,7 +13,7 @@ use Rattle.base.proofs.Search.{at-same, at-other}
 use Rattle.base.proofs.Lists.{All, All-map, any-all}
 use Rattle.problem.specs.Problem.{Problem}
 use Rattle.agent_rules.specs.Message.{Assignment, known, Message, Info, Back, AddLink}
-use Rattle.agent_facts.specs.Messages.{Refuses}
+use Rattle.agent_rules.specs.Sorts.{Refuses}
 use Rattle.agent_facts.specs.Facts.{busyView}
 use Rattle.protocol.specs.Network.{Network}
 use Rattle.protocol.specs.Run.{Line}

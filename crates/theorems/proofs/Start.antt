@@ -7,9 +7,9 @@ use Rattle.base.proofs.Tests.{test, no-some, within-true}
 use Rattle.base.proofs.Lists.{All}
 use Rattle.problem.specs.Problem.{Problem, linked, inRange, Obeys}
 use Rattle.problem.proofs.Range.{Ranged, ranged, linked-inside}
-use Rattle.agent_facts.specs.Messages.{seen, afterOne}
+use Rattle.agent_rules.specs.Sorts.{seen, afterOne}
+use Rattle.agent_rules.proofs.Assignments.{unknown}
 use Rattle.agent_facts.specs.Facts.{Good}
-use Rattle.agent_facts.proofs.Assignments.{unknown}
 use Rattle.protocol.specs.Network.{selfOf, bansOf, begun, startAgent, startChannel, start}
 use Rattle.shape_laws.proofs.Start.{
   begins,

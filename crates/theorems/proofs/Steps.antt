@@ -9,7 +9,7 @@ use Rattle.base.proofs.Lists.{All, All-map}
 use Rattle.problem.specs.Problem.{Problem, Obeys}
 use Rattle.agent_rules.specs.Message.{Message, Info, Back, AddLink, sentTo}
 use Rattle.agent_rules.specs.Agent.{Agent, Step}
-use Rattle.agent_facts.specs.Messages.{Tells, afterOne}
+use Rattle.agent_rules.specs.Sorts.{Tells, afterOne}
 use Rattle.agent_facts.specs.Facts.{quietView, busyView, TellsSender, Quiet, Busy}
 use Rattle.protocol.specs.Network.{Network, selfOf, bansOf}
 use Rattle.protocol.specs.Run.{Line}

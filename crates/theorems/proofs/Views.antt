@@ -13,10 +13,10 @@ use Rattle.base.proofs.Tests.{test}
 use Rattle.base.proofs.Lists.{All, All-append, Any}
 use Rattle.problem.specs.Problem.{Problem}
 use Rattle.agent_rules.specs.Message.{Assignment, Message, Info, Back, AddLink}
-use Rattle.agent_facts.specs.Messages.{Refuses, afterOne, seen}
+use Rattle.agent_rules.specs.Sorts.{Refuses, afterOne, seen}
+use Rattle.agent_rules.proofs.Assignments.{unknown}
 use Rattle.agent_facts.specs.Facts.{quietView, busyView, Names}
 use Rattle.protocol.specs.Run.{Line, isLine}
-use Rattle.agent_facts.proofs.Assignments.{unknown}
 use Rattle.theorems.proofs.Steps.{view-sender, view-other, view-listened}
 use Rattle.theorems.proofs.Windows.{chose, Act, receiver, viewThen, sentIn}
 

@@ -1,5 +1,4 @@
--- Lists of calls, what they try, and the full rounds marked off in it. Document 01, 'Rounds and the run', second paragraph: "The list of
--- demand 3 ..".
+-- Lists of calls, what they try, and the full rounds marked off in it. docs/RULES.md, 'Rounds and the run', second paragraph: "A list of calls ..".
 use Prim.Native.Nat.{ℕ, _+_, _≤_}
 use mathlib.Core.Path.{_≡_}
 use mathlib.Core.Bool.{Bool, true, false, _&&_}
@@ -34,7 +33,7 @@ unfoldable pub answersOf : List Round → List Answer
 answersOf [] = []
 answersOf (r ∷ rs) = map answerOf (r .tried) ++ answersOf rs
 
--- "A run stands in it as the deliveries it tries, in its order."
+-- "A run stands in the list for the deliveries that it tries, in its order."
 unfoldable pub triedBy : Call → Network → List Line
 triedBy (Deliver i j) w = record { from = i; to = j } ∷ []
 triedBy (Run k) w = triesOf (run k w .rounds)
@@ -49,7 +48,7 @@ unfoldable pub madeBy : Call → Network → ℕ
 madeBy (Deliver i j) w = 0
 madeBy (Run k) w = run k w .made
 
--- "each call taking the rail the one before left"
+-- "each call takes the rail that the one before left"
 unfoldable pub leftByAll : List Call → Network → Network
 leftByAll [] w = w
 leftByAll (c ∷ cs) w = leftByAll cs (leftBy c w)
@@ -93,8 +92,8 @@ unfoldable pub sentOn : ℕ → ℕ → List Line → Network → List Message
 sentOn i j [] w = []
 sentOn i j (l ∷ ls) w = sentNow i j l w ++ sentOn i j ls (attemptOf l w .network)
 
--- "What waits on a line at some place in the list is what the rules above send on it at the start and at the deliveries accepted so far,
--- less the accepted deliveries of that line."
+-- "What waits on a line at some place of the list is what these rules send on it at the start and at the deliveries accepted so far, less the
+-- accepted deliveries of that line."
 unfoldable pub waitsAfter : Problem → List Line → ℕ → ℕ → List Message
 waitsAfter p before i j =
     drop (acceptedOn i j before (start p)) (start p .channel i j ++ sentOn i j before (start p))

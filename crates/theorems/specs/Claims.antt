@@ -6,7 +6,7 @@ use mathlib.Core.List.{List, [], map}
 use Rattle.base.specs.Lists.{All}
 use Rattle.problem.specs.Problem.{Problem, largestDomain, inRange, Obeys}
 use Rattle.problem.specs.Sheet.{Valid, decode}
-use Rattle.agent_facts.specs.Messages.{IsAddLink, Not, OneLink}
+use Rattle.agent_rules.specs.Sorts.{IsAddLink, Not, OneLink}
 use Rattle.protocol.specs.Network.{Network, start}
 use Rattle.protocol.specs.Shape.{inShape}
 use Rattle.protocol.specs.Delivery.{deliver}
@@ -52,7 +52,8 @@ RoundBound p =
     (calls : List Call) (marking : List Stretch) → linesOf marking ≡ triedByAll calls (start p) → AllFull p [] marking
     → markedIn marking ≤ mostRounds p
 
--- Demand 3: "the full ones of all runs in a list are one such way": a marking of all that the list tries, with as many rounds as its runs return
+-- Demand 3: "the full rounds of all runs in a list are one way to mark them off": a marking of all that the list tries, with as many rounds as its
+-- runs return
 -- together.
 pub record RunsMarked (p : Problem) (calls : List Call) : Type 0 where
   pub marking : List Stretch
@@ -67,7 +68,7 @@ RunsMark p = (calls : List Call) → RunsMarked p calls
 abbrev pub RunBound : Problem → Type 0
 RunBound p = (calls : List Call) → madeByAll calls (start p) ≤ mostRounds p
 
--- Demand 3: "Each run .. returns exactly how many of these were full": a run's own rounds cut up what it tries; it counts a round exactly if it
+-- Demand 3: "each run .. returns exactly how many of its rounds were full": a run's own rounds cut up what it tries; it counts a round exactly if it
 -- is full at its place in the list, and returns how many it counts.
 pub record RunCounts (p : Problem) (calls : List Call) (k : ℕ) : Type 0 where
   pub cuts : linesOf (map roundStretch (run k (leftByAll calls (start p)) .rounds)) ≡ triesOf (run k (leftByAll calls (start p)) .rounds)

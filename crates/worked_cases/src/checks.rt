@@ -9,7 +9,7 @@ use crate::kinds::START;
 use crate::kinds::TAKEN;
 use crate::lines::Numbers;
 use crate::lines::small;
-use crate::rails::same_rail;
+use crate::networks::same_network;
 use crate::sheets::Sheet;
 use network::Network;
 use packed::digit;
@@ -20,7 +20,7 @@ use words::printing::put_ending;
 
 // What a line finds: a number, whether all else is as the line says, and the rail after it.
 pub struct Found {
-    pub rail: Network,
+    pub network: Network,
     pub number: u64,
     pub right: bool,
 }
@@ -39,19 +39,19 @@ fn start_on(bytes: &[u8], n: usize) -> Started {
 fn started(s: Sheet) -> Found {
     let bytes = s.bytes;
     let out = start_on(&bytes, s.length);
-    let rail = out.network;
+    let network = out.network;
     let number = out.number;
     if number == 0 {
         return Found {
-            rail,
+            network,
             number: 0,
             right: true,
         };
     }
     Found {
-        rail,
+        network,
         number: number as u64,
-        right: same_rail(rail, network::empty()),
+        right: same_network(network, network::empty()),
     }
 }
 
@@ -87,22 +87,22 @@ fn allowed(n: Numbers) -> u64 {
     if n.count == 1 { 100000 } else { n.values[1] }
 }
 
-fn ran(rail: Network, n: Numbers, line: &[u8]) -> Found {
-    let out = run::run(rail, allowed(n));
+fn ran(network: Network, n: Numbers, line: &[u8]) -> Found {
+    let out = run::run(network, allowed(n));
     let after = out.network;
     let ending = out.ending;
     Found {
-        rail: after,
+        network: after,
         number: out.rounds,
         right: ended(ending, line),
     }
 }
 
-fn delivered(rail: Network, n: Numbers) -> Found {
-    let out = run::deliver(rail, small(n, 0), small(n, 1));
+fn delivered(network: Network, n: Numbers) -> Found {
+    let out = run::deliver(network, small(n, 0), small(n, 1));
     let after = out.network;
     Found {
-        rail: after,
+        network: after,
         number: out.number as u64,
         right: true,
     }
@@ -111,10 +111,10 @@ fn delivered(rail: Network, n: Numbers) -> Found {
 // ---- looking
 
 // Scanner k + 1 has the slot that the line gives, or there is no such scanner and asking is refused.
-fn slot_right(rail: Network, n: Numbers, k: usize) -> bool
+fn value_right(network: Network, n: Numbers, k: usize) -> bool
     requires { ⌜ k < 12 ⌝ }
 {
-    let a = network::value(rail, k as u8 + 1);
+    let a = network::value(network, k as u8 + 1);
     if k < n.count {
         return a.number == 0 && a.value as u64 == n.values[k];
     }
@@ -122,9 +122,9 @@ fn slot_right(rail: Network, n: Numbers, k: usize) -> bool
 }
 
 // The first scanner whose slot is not right, and 0 where all are.
-fn first_wrong(rail: Network, n: Numbers) -> u64 {
+fn first_wrong(network: Network, n: Numbers) -> u64 {
     for k in 0..12 {
-        if !slot_right(rail, n, k) {
+        if !value_right(network, n, k) {
             return k as u64 + 1;
         }
     }
@@ -132,7 +132,7 @@ fn first_wrong(rail: Network, n: Numbers) -> u64 {
 }
 
 // How many messages wait on the line between two scanners; none where there is no such line.
-fn held(rail: Network, from: u8, to: u8) -> u64 {
+fn held(network: Network, from: u8, to: u8) -> u64 {
     if from == 0 {
         return 0;
     }
@@ -148,19 +148,19 @@ fn held(rail: Network, from: u8, to: u8) -> u64 {
     if from == to {
         return 0;
     }
-    digit(rail.counts[from as usize - 1], to) as u64
+    digit(network.counts[from as usize - 1], to) as u64
 }
 
 // How many messages wait on the line that a line of the text names.
-fn waiting(rail: Network, n: Numbers) -> u64 {
-    held(rail, small(n, 0), small(n, 1))
+fn waiting(network: Network, n: Numbers) -> u64 {
+    held(network, small(n, 0), small(n, 1))
 }
 
-fn looked(rail: Network, kept: Network, kind: usize, n: Numbers) -> u64 {
+fn looked(network: Network, kept: Network, kind: usize, n: Numbers) -> u64 {
     match kind {
-        TAKEN => first_wrong(rail, n),
-        LINE => waiting(rail, n),
-        SAME => same_rail(rail, kept) as u64,
+        TAKEN => first_wrong(network, n),
+        LINE => waiting(network, n),
+        SAME => same_network(network, kept) as u64,
         _ => 0,
     }
 }
@@ -169,7 +169,7 @@ fn looked(rail: Network, kept: Network, kind: usize, n: Numbers) -> u64 {
 
 // What a line finds. A line that checks nothing leaves the rail as it is.
 pub fn tried(
-    rail: Network,
+    network: Network,
     kept: Network,
     s: Sheet,
     kind: usize,
@@ -179,11 +179,11 @@ pub fn tried(
     match kind {
         START => started(s),
         REFUSED => started(s),
-        RUN => ran(rail, n, line),
-        DELIVER => delivered(rail, n),
+        RUN => ran(network, n, line),
+        DELIVER => delivered(network, n),
         _ => Found {
-            rail,
-            number: looked(rail, kept, kind, n),
+            network,
+            number: looked(network, kept, kind, n),
             right: true,
         },
     }

@@ -1,4 +1,4 @@
-// Plays worked cases: standard input has them as text, a check a line, with what document 01 says must come of it. Each check that fails is printed
+// Plays worked cases: standard input has them as text, a check a line, with what must come of it by docs/RULES.md. Each check that fails is printed
 // with what came instead; at the end stands how many of each kind were made.
 //
 //   case TITLE             a new case, which its title names
@@ -20,7 +20,7 @@
 mod checks;
 mod kinds;
 mod lines;
-mod rails;
+mod networks;
 mod sheets;
 
 use checks::expected;
@@ -90,27 +90,27 @@ fn titled(kind: usize, line: &[u8]) {
     }
 }
 
-fn kept_after(rail: Network, kept: Network, kind: usize) -> Network {
-    if kind == KEEP { rail } else { kept }
+fn kept_after(network: Network, kept: Network, kind: usize) -> Network {
+    if kind == KEEP { network } else { kept }
 }
 
 // What lies on the desk: the sheet and the rail of the case under hand, the rail that is kept beside, and the tally.
 struct Desk {
     sheet: Sheet,
-    rail: Network,
+    network: Network,
     kept: Network,
     tally: Tally,
 }
 
 // The desk after a line.
 fn followed(d: Desk, line: &[u8]) -> Desk {
-    let rail = d.rail;
+    let network = d.network;
     let kept = d.kept;
     let n = numbers_in(line);
     let kind = kind_of(line, n.count);
     titled(kind, line);
     let sheet = built(d.sheet, kind, n, line);
-    let found = tried(rail, kept, sheet, kind, n, line);
+    let found = tried(network, kept, sheet, kind, n, line);
     let tally = judged(
         d.tally,
         kind,
@@ -119,11 +119,11 @@ fn followed(d: Desk, line: &[u8]) -> Desk {
         found.number,
         found.right,
     );
-    let after = found.rail;
+    let after = found.network;
     Desk {
         sheet,
-        rail: after,
-        kept: kept_after(rail, kept, kind),
+        network: after,
+        kept: kept_after(network, kept, kind),
         tally,
     }
 }
@@ -131,7 +131,7 @@ fn followed(d: Desk, line: &[u8]) -> Desk {
 fn play(text: &[u8]) -> Tally {
     let mut d = Desk {
         sheet: blank(),
-        rail: network::empty(),
+        network: network::empty(),
         kept: network::empty(),
         tally: Tally { of: [0u64; 9] },
     };

@@ -55,7 +55,7 @@ fn with_word(s: Sheet, at: usize, word: usize) -> Sheet {
 }
 
 // The header for these slot counts, with no record.
-fn with_slots(n: Numbers) -> Sheet {
+fn with_domains(n: Numbers) -> Sheet {
     let mut s = with_byte(with_byte(blank(), (n.count % 256) as u8), 1);
     s = with_zeros(s, 6);
     for i in 0..12 {
@@ -126,7 +126,7 @@ fn with_hex(s: Sheet, line: &[u8]) -> Sheet {
 pub fn built(s: Sheet, kind: usize, n: Numbers, line: &[u8]) -> Sheet {
     match kind {
         CASE => blank(),
-        SLOTS => with_slots(n),
+        SLOTS => with_domains(n),
         BAN => with_ban(s, small(n, 0), small(n, 1), small(n, 2), small(n, 3)),
         EACH => with_bans(
             s,

@@ -14,8 +14,9 @@ use Rattle.packed.specs.Packed.{members}
 use Rattle.agent.specs.Abstract.{messageOf, selfOf as ownOf}
 use Rattle.agent.specs.Entries.{BeginsAs}
 use Rattle.network.specs.Abstract.{isChannel, channelAt, placeOf}
+use Rattle.network.specs.Empty.{emptyRecord}
 use Rattle.sheet.specs.Abstract.{problemOf, outcomeOf}
-use Rattle.start.specs.Started.{emptyRail, railOf}
+use Rattle.start.specs.Started.{unbegun}
 use Rattle.start.proofs.Telling.{Telling, telling-begins, telling-goes}
 use Rattle.start.proofs.Beginning.{begun-by, informs-below}
 use Rattle.start.proofs.Turns.{Opening, none-begun, told-channel, one-more}
@@ -42,11 +43,11 @@ abbrev μ-loop : tie.MeasureT-loop
 decode-requires : tie.Need-decode-requires Inv-loop2 μ-loop2 Inv-loop μ-loop
 decode-requires c κs = search needs
 
-rail-of-requires : tie.Need-rail-of-requires Inv-loop2 μ-loop2 Inv-loop μ-loop
-rail-of-requires c κs = search needs
+unbegun-requires : tie.Need-unbegun-requires Inv-loop2 μ-loop2 Inv-loop μ-loop
+unbegun-requires c κs = search needs
 
 loop-holds : tie.Need-loop-holds Inv-loop2 μ-loop2 Inv-loop μ-loop
-loop-holds c = (omega arith, none-begun (problem _ _ _) _ (c .rail-of .ensures), λ _. refl)
+loop-holds c = (omega arith, none-begun (problem _ _ _) _ (c .unbegun .ensures), λ _. refl)
 
 cast-at : tie.Need-cast-at Inv-loop2 μ-loop2 Inv-loop μ-loop
 cast-at c = search needs
@@ -176,7 +177,7 @@ loop-again c =
     )
 
 returns : tie.Need-returns Inv-loop2 μ-loop2 Inv-loop μ-loop
-unfolding problemOf outcomeOf railOf emptyRail emptyProblem noBans maxAgents maxPairs
+unfolding problemOf outcomeOf unbegun emptyRecord emptyProblem noBans maxAgents maxPairs
 returns c =
     let d = c .before .before .before .before .before .before .decode in
     let p = problemOf (d .result .problem) in
@@ -188,8 +189,8 @@ returns c =
       refused = λ n.
           let q = refused-empty _ (outcomeOf (d .result)) (d .ensures .0) n in
           h .inv .2 (e ∙ ap (λ (x : Problem). x .count) q)
-          ∙ c .before .before .rail-of .ensures
-          ∙ ap (λ (x : Problem). railOf (x .count) (x .domains) (x .bans)) q;
+          ∙ c .before .before .unbegun .ensures
+          ∙ ap (λ (x : Problem). unbegun (x .count) (x .domains) (x .bans)) q;
     }
 
 pub start-spec : {M : Type 1} → statement M
@@ -201,7 +202,7 @@ start-spec =
     Inv-loop
     μ-loop
     decode-requires
-    rail-of-requires
+    unbegun-requires
     loop-holds
     cast-at
     add-i

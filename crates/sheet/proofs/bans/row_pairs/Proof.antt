@@ -5,7 +5,7 @@ use native.Mathlib.Omega.{arith}
 use borrow.Author.Needs.{needs}
 use Rattle.base.proofs.Tests.{within-true}
 use Rattle.problem.specs.Sheet.{byteAt, editionIn}
-use Rattle.sheet.proofs.Records.{good-record, slots-owned, gap-row, slot-row}
+use Rattle.sheet.proofs.Records.{good-record, values-owned, gap-row, value-row}
 use Rattle.sheet.proofs.bans.row_pairs.Statement.{statement}
 use Rattle.sheet.proofs.bans.row_pairs.Tie as tie
 
@@ -87,14 +87,14 @@ one-pair-requires : tie.Need-one-pair-requires
 unfolding byteAt editionIn
 one-pair-requires c κs =
     let f = good-record _ _ (c .before .before .before .before .before .pre) in
-    let o = slots-owned _ _ f (c .before .before .if1 .left) in
+    let o = values-owned _ _ f (c .before .before .if1 .left) in
     let v = within-true _ _ (o .0) in
     let w = within-true _ _ (o .1) in
     (v .0, omega (arith, f .lowers), w .0, omega (arith, f .highers))
 
 returns-2 : tie.Need-returns-2
 unfolding byteAt editionIn
-returns-2 c = slot-row _ (c .before .before .before .before .before .before .args .r) _ (c .before .before .before .before .before .before .pre) (c .before .before .before .if1 .left) (c .one-pair .ensures)
+returns-2 c = value-row _ (c .before .before .before .before .before .before .args .r) _ (c .before .before .before .before .before .before .pre) (c .before .before .before .if1 .left) (c .one-pair .ensures)
 
 pub row-pairs-spec : {M : Type 1} → statement M
 row-pairs-spec =
