@@ -1,5 +1,7 @@
 //! The network (rail): agents, channels, start, delivery, run, asking a value.
 
+use std::ops::ControlFlow;
+
 use crate::agent::{Agent, Step};
 use crate::assignment::{AgentSet, Assignment, MAX_AGENTS};
 use crate::channel::{Channels, Full, Message, Packed};
@@ -88,13 +90,14 @@ impl Iterator for Senders {
     }
 }
 
-/// Why a round was cut.
-enum Cut {
-    /// The verdict fell; full where all that waited at the round's start was delivered.
-    Verdict {
-        full: bool,
-    },
-    Refused(Rejection),
+/// What a round has come to.
+struct Round {
+    /// Nothing that waited at its start was left.
+    full: bool,
+    /// Something was delivered.
+    moved: bool,
+    /// A link was asked for again (9).
+    faulty: bool,
 }
 
 impl Network {
@@ -229,57 +232,71 @@ impl Network {
                 break Word::Open;
             }
             left -= 1;
-            match self.round(&mut senders) {
-                Ok(()) => made += 1,
-                Err(Cut::Verdict { full }) => {
-                    made += u64::from(full);
-                    break Word::None;
-                }
-                Err(Cut::Refused(Rejection::Linked)) => break Word::Faulty,
-                Err(Cut::Refused(_)) => break Word::Jammed,
+            let round = self.round(&mut senders);
+            made += u64::from(round.full);
+            if round.faulty {
+                break Word::Faulty;
+            }
+            if !round.moved {
+                break Word::Jammed;
             }
         };
         Run { word, rounds: made }
     }
 
     /// One round: the channels by sender, then receiver, upward; of each as many messages as
-    /// it held when the round began.
-    fn round(&mut self, senders: &mut Senders) -> Result<(), Cut> {
+    /// it held when the round began. It stops at a verdict and at a 9.
+    fn round(&mut self, senders: &mut Senders) -> Round {
         let visited = *senders;
         let mut quotas = [0; MAX_AGENTS];
         for from in visited {
             quotas[from] = self.nodes[from].out.counts;
         }
+        let mut round = Round { full: true, moved: false, faulty: false };
         for from in visited {
-            match self.deliver_from(from, quotas[from], senders) {
-                Ok(()) => (),
-                Err(Cut::Verdict { full }) => {
-                    let last = quotas[from + 1..].iter().all(|&quota| quota == 0);
-                    return Err(Cut::Verdict { full: full && last });
-                }
-                refused => return refused,
+            if self.deliver_from(from, quotas[from], senders, &mut round).is_break() {
+                round.full &= quotas[from + 1..].iter().all(|&quota| quota == 0);
+                break;
             }
         }
-        Ok(())
+        round
     }
 
     /// One sender's part of a round: as many messages of each of its channels as the digits of
-    /// `quota` say.
+    /// `quota` say. A channel that is refused with 10 is passed over for the rest of the round.
     #[inline(never)]
-    fn deliver_from(&mut self, from: usize, mut quota: u64, senders: &mut Senders) -> Result<(), Cut> {
+    fn deliver_from(
+        &mut self,
+        from: usize,
+        mut quota: u64,
+        senders: &mut Senders,
+        round: &mut Round,
+    ) -> ControlFlow<()> {
         while quota != 0 {
             let at = quota.trailing_zeros() & !3;
             let to = at as usize / 4;
             quota -= 1 << at;
             match self.deliver_waiting(from, to) {
-                Ok(Step::Settled) => (),
-                Ok(Step::Verdict) => return Err(Cut::Verdict { full: quota == 0 }),
-                Err(rejection) => return Err(Cut::Refused(rejection)),
+                Ok(step) => {
+                    round.moved = true;
+                    if step == Step::Verdict {
+                        round.full &= quota == 0;
+                        return ControlFlow::Break(());
+                    }
+                    senders.put(to, self.nodes[to].out.counts != 0);
+                }
+                Err(Rejection::Room) => {
+                    round.full = false;
+                    quota &= !(15 << at);
+                }
+                Err(_) => {
+                    (round.full, round.faulty) = (false, true);
+                    return ControlFlow::Break(());
+                }
             }
-            senders.put(to, self.nodes[to].out.counts != 0);
         }
         senders.put(from, self.nodes[from].out.counts != 0);
-        Ok(())
+        ControlFlow::Continue(())
     }
 
     /// Delivers the head of a channel that is not empty, on a network in shape with no

@@ -50,3 +50,46 @@ fn dock_prints() {
     sheet[36] = 1;
     assert_eq!(dock(&sheet), "sheet refused 4\n");
 }
+
+/// A line without room is passed over for the rest of a round; `jammed` is said where a whole
+/// round delivered nothing.
+#[test]
+fn dock_passes_over_full_lines() {
+    // Other lines free the place.
+    let plan =
+        [(1, 2, 1, 1), (1, 3, 1, 1), (1, 3, 2, 1), (1, 3, 3, 1), (2, 3, 1, 2), (2, 4, 1, 1), (3, 4, 2, 2)];
+    let found =
+        "verdict plan\nrounds 10\nscanner 1 slot 4\nscanner 2 slot 1\nscanner 3 slot 1\nscanner 4 slot 2\n";
+    assert_eq!(dock(&encode(&[4, 1, 2, 2], Rows::Slots(&plan))), found);
+    let none = [
+        (1, 4, 1, 2),
+        (2, 4, 1, 2),
+        (2, 4, 2, 2),
+        (3, 4, 1, 1),
+        (3, 4, 2, 1),
+        (3, 4, 2, 2),
+        (3, 5, 1, 1),
+        (3, 5, 2, 1),
+        (4, 5, 1, 1),
+        (4, 5, 1, 2),
+        (4, 5, 2, 1),
+        (4, 5, 2, 2),
+    ];
+    assert_eq!(dock(&encode(&[2, 2, 2, 2, 2], Rows::Slots(&none))), "verdict none\nrounds 15\n");
+    // Each round one line stays full and something is delivered all the same.
+    let spins =
+        [(1, 4, 1, 1), (1, 4, 2, 1), (1, 4, 3, 1), (2, 4, 1, 2), (3, 4, 1, 2), (3, 5, 1, 2), (4, 5, 2, 1)];
+    assert_eq!(dock(&encode(&[4, 1, 1, 2, 2], Rows::Slots(&spins))), "verdict open\nrounds 6\n");
+    let stuck = [
+        (1, 4, 1, 1),
+        (1, 4, 2, 1),
+        (1, 4, 3, 1),
+        (1, 4, 4, 2),
+        (2, 5, 1, 1),
+        (3, 4, 1, 2),
+        (3, 6, 1, 1),
+        (4, 5, 2, 2),
+        (4, 6, 2, 2),
+    ];
+    assert_eq!(dock(&encode(&[4, 1, 1, 2, 2, 2], Rows::Slots(&stuck))), "verdict jammed\nrounds 8\n");
+}

@@ -18,7 +18,7 @@ unfoldable pub countIf : {A : Type 0} → (A → Bool) → List A → ℕ
 countIf p [] = 0
 countIf p (x ∷ xs) = cond (p x) 1 0 + countIf p xs
 
-count-append : {A : Type 0} (p : A → Bool) (xs ys : List A) → countIf p (xs ++ ys) ≡ countIf p xs + countIf p ys
+pub count-append : {A : Type 0} (p : A → Bool) (xs ys : List A) → countIf p (xs ++ ys) ≡ countIf p xs + countIf p ys
 unfolding countIf
 count-append p [] ys = omega arith
 count-append p (x ∷ xs) ys = omega (arith, count-append p xs ys)

@@ -1,13 +1,25 @@
 -- All and some of a list, and the test of each element.
-use mathlib.Core.Path.{_≡_, refl, ap}
-use mathlib.Core.Bool.{Bool, true}
+use mathlib.Core.Path.{_≡_, refl, sym, ap, subst}
+use mathlib.Core.Bool.{Bool, true, _||_, or-false, or-assoc}
 use mathlib.Core.Logic.{_⊎_, inl, inr}
-use mathlib.Core.List.{List, [], _∷_, _++_, append-nil, append-assoc}
+use mathlib.Core.List.{
+  List,
+  [],
+  _∷_,
+  _++_,
+  append-nil,
+  append-assoc,
+  head-eq-of-cons-eq,
+  tail-eq-of-cons-eq,
+  cons-ne-nil,
+  concat-ne-nil,
+  append-ne-nil-of-right-ne-nil,
+}
 use Prim.Native.Nat.{ℕ, zero, suc, _+_, _≤_, _<_}
 use native.Mathlib.Nat.{add-zero, add-suc, suc-add}
 use native.Mathlib.Omega.{arith}
 use lib.ListN.{length, length-append}
-use Rattle.base.specs.Finite.{every, gather}
+use Rattle.base.specs.Finite.{every, any, gather}
 use Rattle.base.proofs.Tests.{both, to-both}
 pub use Rattle.base.specs.Lists.{All, Any}
 
@@ -63,6 +75,13 @@ unfolding every
 to-every p [] h = refl
 to-every p (x ∷ xs) h = to-both (p x) (every p xs) (h .0) (to-every p xs (h .1))
 
+-- ---- some element passes
+
+pub any-snoc : {A : Type 0} (p : A → Bool) (l : List A) (x : A) → any p (l ++ (x ∷ [])) ≡ any p l || p x
+unfolding any
+any-snoc p [] x = or-false (p x)
+any-snoc p (y ∷ l) x = rw (any-snoc p l x) (sym (or-assoc (p y) (any p l) (p x)))
+
 pub gather-all : {A : Type 0} (P : A → Type 0) (f : ℕ → List A) (m k : ℕ) → ((j : ℕ) → k ≤ j → j < k + m → All P (f j))
     → All P (gather m k f)
 unfolding gather
@@ -83,3 +102,19 @@ pub gather-length : {A : Type 0} (m k : ℕ) (f : ℕ → List A) → ((j : ℕ)
 unfolding gather
 gather-length zero k f h = omega arith
 gather-length (suc m) k f h = rw length-append (omega (arith, h k, gather-length m (suc k) f h))
+
+-- ---- the last element
+
+pub snoc-eq : {A : Type 0} (xs ys : List A) (x y : A) → xs ++ (x ∷ []) ≡ ys ++ (y ∷ []) → (xs ≡ ys) × (x ≡ y)
+snoc-eq [] [] x y e = (refl, head-eq-of-cons-eq e)
+snoc-eq [] (b ∷ ys) x y e = absurd (concat-ne-nil y ys (sym (tail-eq-of-cons-eq e)))
+snoc-eq (a ∷ xs) [] x y e = absurd (concat-ne-nil x xs (tail-eq-of-cons-eq e))
+snoc-eq (a ∷ xs) (b ∷ ys) x y e =
+    let q = snoc-eq xs ys x y (tail-eq-of-cons-eq e) in (rw (head-eq-of-cons-eq e, q .0), q .1)
+
+-- what holds of all but the last holds of one that has another behind it
+pub All-before : {A : Type 0} (P : A → Type 0) (xs ys : List A) (x y z : A) (zs : List A) → All P xs → xs ++ (x ∷ []) ≡ ys ++ (y ∷ z ∷ zs) → P y
+All-before P [] [] x y z zs h e = absurd (cons-ne-nil z zs (sym (tail-eq-of-cons-eq e)))
+All-before P [] (b ∷ ys) x y z zs h e = absurd (append-ne-nil-of-right-ne-nil ys (cons-ne-nil y (z ∷ zs)) (sym (tail-eq-of-cons-eq e)))
+All-before P (a ∷ xs) [] x y z zs h e = subst P (head-eq-of-cons-eq e) (h .0)
+All-before P (a ∷ xs) (b ∷ ys) x y z zs h e = All-before P xs ys x y z zs (h .1) (tail-eq-of-cons-eq e)

@@ -1,6 +1,6 @@
 -- Finite search, and maps on numbers. Nothing here knows of agents.
 use Prim.Native.Nat.{ℕ, zero, suc}
-use mathlib.Core.Bool.{Bool, true, false, _&&_}
+use mathlib.Core.Bool.{Bool, true, false, _&&_, _||_}
 use mathlib.Core.Option.{Option, none, some}
 use mathlib.Core.List.{List, [], _∷_, _++_}
 use lib.Dec.{eqb, ltb, leb}
@@ -42,6 +42,11 @@ each (suc m) f a = f (suc m) (each m f a)
 unfoldable pub every {ℓ} : {A : Type ℓ} → (A → Bool) → List A → Bool
 every p [] = true
 every p (x ∷ xs) = p x && every p xs
+
+-- some element passes
+unfoldable pub any {ℓ} : {A : Type ℓ} → (A → Bool) → List A → Bool
+any p [] = false
+any p (x ∷ xs) = p x || any p xs
 
 -- f k ++ f (k + 1) ++ .., for the m numbers from k on
 unfoldable pub gather {ℓ} : {A : Type ℓ} → ℕ → ℕ → (ℕ → List A) → List A

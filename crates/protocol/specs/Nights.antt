@@ -1,10 +1,11 @@
--- The worked nights of docs/RULES.md that are marked P, and six more: scripts of calls and of what must be seen between them.
+-- The worked nights of docs/RULES.md that are marked P, and nine more: scripts of calls and of what must be seen between them.
 use Prim.Native.Nat.{ℕ, zero, suc}
 use mathlib.Core.Path.{_≡_}
 use mathlib.Core.Bool.{Bool, true, false, _&&_}
 use mathlib.Core.List.{List, [], _∷_, _++_}
-use lib.ListN.{length}
+use lib.ListN.{length, replicate}
 use lib.Dec.{eqb}
+use Rattle.base.specs.Finite.{gather}
 use Rattle.problem.specs.Problem.{noBans}
 use Rattle.problem.specs.Row.{Row}
 use Rattle.problem.specs.Writing.{written}
@@ -12,9 +13,10 @@ use Rattle.problem.specs.Cases.{ban, gaps, minus, sameNumbers}
 use Rattle.agent_rules.specs.Message.{Assignment, Message, Info, Back, AddLink}
 use Rattle.agent_rules.specs.Agent.{Agent}
 use Rattle.agent_rules.specs.Cases.{values, agent, sameAgent, sameMessage}
-use Rattle.protocol.specs.Network.{Network, startSheet}
+use Rattle.protocol.specs.Network.{Network, withChannel, startSheet}
+use Rattle.protocol.specs.Shape.{inShape}
 use Rattle.protocol.specs.Delivery.{answerNumber, deliver, askValue}
-use Rattle.protocol.specs.Run.{Ending, None, Plan, Open, endingWord, Ran, run}
+use Rattle.protocol.specs.Run.{Try, Ending, None, Plan, Jammed, Open, endingWord, Round, Ran, run}
 
 -- ---- sheets, as bytes
 
@@ -46,6 +48,7 @@ pub data Scene : Type 0 where
   Waiting : ℕ → ℕ → List Message → Scene  -- a line holds exactly these, head first
   Values : List ℕ → Scene  -- asked, agents 1, 2, .. give these values, and number 0
   Holds : ℕ → Agent → Scene  -- an agent has this record
+  Tries : List ℕ → Scene  -- a run with one round would try these lines, and be answered with these numbers
 
 unfoldable pub asked : ℕ → List ℕ → Network → Bool
 asked i [] w = true
@@ -53,6 +56,18 @@ asked i (v ∷ vs) w = eqb (answerNumber (askValue w i .answer)) 0 && eqb (askVa
 
 unfoldable pub ranAs : Ending → ℕ → Ran → Bool
 ranAs e made r = sameNumbers (endingWord (r .ending)) (endingWord e) && eqb (r .made) made
+
+-- one try: the line and the number
+abbrev pub tried : ℕ → ℕ → ℕ → List ℕ
+tried i j number = i ∷ j ∷ number ∷ []
+
+unfoldable pub triesIn : List Try → List ℕ
+triesIn [] = []
+triesIn (t ∷ ts) = tried (t .line .from) (t .line .to) (answerNumber (t .answer)) ++ triesIn ts
+
+unfoldable pub triesOf : List Round → List ℕ
+triesOf [] = []
+triesOf (r ∷ rs) = triesIn (r .tried) ++ triesOf rs
 
 -- a script holds from a network on
 unfoldable pub holdsFrom : List Scene → Network → Bool
@@ -63,16 +78,19 @@ holdsFrom (Delivers i j number ∷ cs) w =
 holdsFrom (Waiting i j ms ∷ cs) w = sameMessages (w .channel i j) ms && holdsFrom cs w
 holdsFrom (Values vs ∷ cs) w = asked 1 vs w && holdsFrom cs w
 holdsFrom (Holds i a ∷ cs) w = sameAgent (w .agents i) a && holdsFrom cs w
+holdsFrom (Tries ts ∷ cs) w = sameNumbers (triesOf (run 1 w .rounds)) ts && holdsFrom cs w
 
 -- ---- nights
 
 pub data Night : Type 0 where
   Played : List ℕ → List Scene → Night  -- the start for this sheet gives 0, and the script holds from there
   SameStart : List ℕ → List ℕ → Night  -- the starts for two sheets are the same
+  Forged : Network → List Scene → Night  -- the network is in shape, and the script holds from there
 
 abbrev pub NightHolds : Night → Type 0
 NightHolds (Played s script) = (eqb (startSheet s .number) 0 && holdsFrom script (startSheet s .network)) ≡ true
 NightHolds (SameStart s t) = startSheet s ≡ startSheet t
+NightHolds (Forged w script) = (inShape w && holdsFrom script w) ≡ true
 
 abbrev pub AllHold : List Night → Type 0
 AllHold [] = Unit {0}
@@ -137,6 +155,12 @@ told1 = Holds 2 (agent 1 (1 ∷ []) [] [] []) ∷ Waiting 2 1 (Back empty 1 ∷ 
 unfoldable pub told2 : List Scene
 told2 = Holds 2 (agent 1 (1 ∷ []) [] (2 ∷ []) []) ∷ Waiting 2 1 [] ∷ []
 
+-- P5's network at its start, with other messages: eight of agent 1's value on the line to 2, each of which 2 would answer with a refusal, and eight
+-- refusals of a value of agent 1 on the line back
+unfoldable pub crowded : ℕ → Network
+crowded v =
+    withChannel (withChannel (startSheet sheet5 .network) 1 2 (replicate 8 (Info 1))) 2 1 (replicate 8 (Back empty v))
+
 unfoldable pub nights : List Night
 nights =
     -- P1
@@ -175,4 +199,13 @@ nights =
     Delivers 1 3 0 ∷ Delivers 2 1 8 ∷ Delivers 1 2 0
     ∷ told1 ++ Delivers 1 4 0 ∷ Delivers 2 1 0 ∷ Delivers 1 4 0 ∷ Delivers 1 2 0
     ∷ told2)
+    -- The refusals are of the value that agent 1 has, so that 1 would answer with news: nothing can be delivered. Each line is tried once, and the round
+    -- that shows it is one of those allowed.
+    ∷ Forged (crowded 1) (Tries (tried 1 2 10 ++ tried 2 1 10) ∷ Runs 0 Open 0 ∷ Runs 1 Jammed 0 ∷ Runs 100000 Jammed 0 ∷ [])
+    -- They are of another value, and call for no answer: the first line is passed over, and the line behind it is delivered all the same. That round is not
+    -- full, and the run goes on: it makes three full rounds, of four that it uses.
+    ∷ Forged (crowded 2) (
+    Tries (tried 1 2 10 ++ gather 8 1 (λ k. tried 2 1 0))
+    ∷ Runs 1 Open 0 ∷ Waiting 1 2 (replicate 8 (Info 1)) ∷ Waiting 2 1 [] ∷ [])
+    ∷ Forged (crowded 2) (Runs 4 Plan 3 ∷ Values (2 ∷ 1 ∷ []) ∷ [])
     ∷ []

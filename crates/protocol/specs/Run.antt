@@ -5,7 +5,7 @@ use mathlib.Core.Option.{Option, none, some}
 use mathlib.Core.List.{List, [], _∷_, _++_}
 use lib.ListN.{length, replicate}
 use lib.Dec.{eqb, leb}
-use Rattle.base.specs.Finite.{allTo, isSome, gather}
+use Rattle.base.specs.Finite.{allTo, any, isSome, gather}
 use Rattle.agent_rules.specs.Message.{Message}
 use Rattle.protocol.specs.Network.{Network}
 use Rattle.protocol.specs.Shape.{inShape}
@@ -68,13 +68,27 @@ pub record Sweep : Type 0 where
 unfoldable pub beginRound : Network → Sweep
 beginRound w = record { network = w; delivered = 0; fault = none; tried = [] }
 
--- "It stops at a verdict, .. at the first refusal"
+-- "A verdict and a refusal 9 stop the run at once"
 unfoldable pub stopped : Sweep → Bool
 stopped s = s .network .verdict || isSome (s .fault)
 
-unfoldable pub faultOf : Answer → Option Rejection
-faultOf Accepted = none
-faultOf (Rejected r) = some r
+-- a 10
+unfoldable pub isNoRoom : Answer → Bool
+isNoRoom Accepted = false
+isNoRoom (Rejected r) = eqb (rejectionNumber r) (rejectionNumber NoRoom)
+
+-- the try was on that line, and met a 10
+unfoldable pub passedBy : Line → Try → Bool
+passedBy l t = isLine (l .from) (l .to) (t .line) && isNoRoom (t .answer)
+
+-- "A line that is refused with 10 is passed over for the rest of that round"
+unfoldable pub passedOver : Sweep → Line → Bool
+passedOver s l = any (passedBy l) (s .tried)
+
+-- the rejection that stops the run; a 10 does not
+unfoldable pub stopFor : Answer → Option Rejection
+stopFor Accepted = none
+stopFor (Rejected r) = elim (isNoRoom (Rejected r)) [ true ↦ none | false ↦ some r ]
 
 unfoldable pub counts : Answer → ℕ
 counts Accepted = 1
@@ -86,12 +100,16 @@ tally s l d =
     record {
       network = d .network;
       delivered = s .delivered + counts (d .answer);
-      fault = faultOf (d .answer);
+      fault = stopFor (d .answer);
       tried = s .tried ++ (record { line = l; answer = d .answer } ∷ []);
     }
 
+-- the visit does nothing
+unfoldable pub skipped : Sweep → Line → Bool
+skipped s l = stopped s || passedOver s l
+
 unfoldable pub attempt : Sweep → Line → Sweep
-attempt s l = elim (stopped s) [ true ↦ s | false ↦ tally s l (deliver (s .network) (l .from) (l .to)) ]
+attempt s l = elim (skipped s l) [ true ↦ s | false ↦ tally s l (deliver (s .network) (l .from) (l .to)) ]
 
 unfoldable pub sweep : Sweep → List Line → Sweep
 sweep s [] = s
@@ -100,7 +118,7 @@ sweep s (l ∷ ls) = sweep (attempt s l) ls
 unfoldable pub round : Network → Sweep
 round w = sweep (beginRound w) (visits w)
 
--- "The round in which it stops counts if all that waited at its start was delivered", as every other round does
+-- "The returned count holds only rounds that delivered all that waited at their start"
 unfoldable pub isFull : Network → Sweep → Bool
 isFull w s = eqb (s .delivered) (length (visits w))
 
@@ -110,7 +128,7 @@ isFull w s = eqb (s .delivered) (length (visits w))
 pub data Ending : Type 0 where
   None : Ending  -- "`none` for the verdict"
   Plan : Ending  -- "`plan` for nothing waiting"
-  Jammed : Ending  -- "`jammed` after a 10"
+  Jammed : Ending  -- "`jammed` where a whole round delivered nothing while something waits"
   Faulty : Ending  -- "`faulty` after a 9"
   Open : Ending  -- "else `open`"
   Broken : Ending  -- "The run refuses only with 5"
@@ -167,7 +185,15 @@ unfoldable pub oneIf : Bool → ℕ
 oneIf true = 1
 oneIf false = 0
 
--- Two figures: the rounds left that the run may use, and the full rounds made.
+-- the rejection that ends the run after a round: the one that stopped it, or a 10 "after a whole round that delivered nothing"
+unfoldable pub faultAfter : Sweep → Option Rejection
+faultAfter s =
+    elim (isSome (s .fault)) [
+      | true ↦ s .fault
+      | false ↦ elim (eqb (s .delivered) 0) [ true ↦ some NoRoom | false ↦ none ]
+    ]
+
+-- Two figures: the rounds left that the run may use, and the full rounds made. "Each visit of all lines uses one of the allowed rounds"
 unfoldable pub runFrom : ℕ → ℕ → List Round → Network → Ran
 runFrom zero made rounds w = finish w made rounds none
 runFrom (suc left) made rounds w =
@@ -177,8 +203,8 @@ runFrom (suc left) made rounds w =
           let s = round w in
           let made′ = made + oneIf (isFull w s) in
           let rounds′ = rounds ++ (record { tried = s .tried; full = isFull w s } ∷ []) in
-          elim (isSome (s .fault)) [
-            | true ↦ finish (s .network) made′ rounds′ (s .fault)
+          elim (isSome (faultAfter s)) [
+            | true ↦ finish (s .network) made′ rounds′ (faultAfter s)
             | false ↦ runFrom left made′ rounds′ (s .network)
           ]
     ]

@@ -1,6 +1,6 @@
 -- What the agents' views bar, kept in an array beside them for the agents of a set: worked out for one agent more, or one agent's changed.
-use Prim.Native.Nat.{ℕ, pred, _+_, _-_, _≤_}
-use mathlib.Core.Bool.{Bool, true, false, false≢true}
+use Prim.Native.Nat.{ℕ, pred, _-_, _≤_}
+use mathlib.Core.Bool.{Bool, true}
 use mathlib.Core.Path.{_≡_, sym, ap, _∙_}
 use mathlib.Core.Logic.{_≢_}
 use mathlib.Core.List.{List, []}

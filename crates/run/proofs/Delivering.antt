@@ -1,7 +1,7 @@
 -- The entries over the engine: what the work comes to for one delivery and for a run.
 use Prim.Native.Nat.{ℕ}
-use mathlib.Core.Bool.{Bool, true, false}
-use mathlib.Core.Path.{_≡_, refl, sym, ap, _∙_}
+use mathlib.Core.Bool.{true, false}
+use mathlib.Core.Path.{_≡_, refl, sym, _∙_}
 use mathlib.Core.Logic.{_≢_}
 use mathlib.Core.Option.{some}
 use mathlib.Core.List.{List, [], _∷_}
@@ -11,7 +11,6 @@ use Rattle.protocol.specs.Network.{Network as Network′, handed}
 use Rattle.protocol.specs.Shape.{inShape}
 use Rattle.protocol.specs.Delivery.{BadShape, rejectionNumber, Answer, Accepted, Rejected, answerNumber, Delivery, rejecting, numbersGood, asksAgain, fits, deliverHead, deliver}
 use Rattle.protocol.specs.Run.{
-  faultOf,
   Ending as Ending′,
   None as None′,
   Plan as Plan′,
@@ -29,7 +28,7 @@ use Rattle.network.specs.declared.Network.{Network}
 use Rattle.network.specs.Abstract.{networkOf}
 use Rattle.network_laws.proofs.Rejecting.{bad-shape, bad-numbers, stands, tries, asks, jams, goes}
 use Rattle.run.specs.declared.Answer.{Answer as Answered}
-use Rattle.run.specs.Working.{numberFor, isBroken, brokenBy, endsBy, Worked, stoppedWith, deliveredAs, ranAs, workBy}
+use Rattle.run.specs.Working.{numberFor, isBroken, brokenBy, endsBy, stoppedWith, faultOf, deliveredAs, ranAs, workBy}
 use Rattle.run.specs.Answers.{endingOf, WorksAs, DeliversAs, standing, RunsAs}
 
 -- ---- a rejected delivery changes nothing

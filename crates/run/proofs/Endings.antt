@@ -1,5 +1,4 @@
 -- How the network stands, by the number of the rejection that was met.
-use Prim.Native.Nat.{ℕ}
 use mathlib.Core.Bool.{Bool, true, false, false≢true}
 use mathlib.Core.Path.{_≡_, refl, sym}
 use mathlib.Core.Logic.{_≢_}
@@ -15,68 +14,81 @@ use Rattle.protocol.specs.Delivery.{
   NoRoom,
   rejectionNumber,
 }
-use Rattle.protocol.specs.Run.{Ending, None, Plan, Jammed, Faulty, Open, Broken, faultEnding, endingFor}
+use Rattle.protocol.specs.Run.{None, Plan, Jammed, Faulty, Open, Broken, faultEnding, endingFor}
 use Rattle.run.specs.Working.{numberFor, isBroken, brokenBy, endsBy}
 
-pub ends-broken : (v w : Bool) (f : Option Rejection) → numberFor f ≡ 5 → Broken ≡ endsBy v w f
+pub ends-broken : (k v w : Bool) (f : Option Rejection) → numberFor f ≡ 5 → Broken ≡ endsBy k v w f
 unfolding endsBy brokenBy isBroken numberFor rejectionNumber endingFor faultEnding
-ends-broken v w none e = absurd (omega arith)
-ends-broken v w (some BadShape) e = refl
-ends-broken v w (some BadNumbers) e = absurd (omega arith)
-ends-broken v w (some VerdictStands) e = absurd (omega arith)
-ends-broken v w (some EmptyChannel) e = absurd (omega arith)
-ends-broken v w (some AlreadyInformed) e = absurd (omega arith)
-ends-broken v w (some NoRoom) e = absurd (omega arith)
+ends-broken k v w none e = absurd (omega arith)
+ends-broken k v w (some BadShape) e = refl
+ends-broken k v w (some BadNumbers) e = absurd (omega arith)
+ends-broken k v w (some VerdictStands) e = absurd (omega arith)
+ends-broken k v w (some EmptyChannel) e = absurd (omega arith)
+ends-broken k v w (some AlreadyInformed) e = absurd (omega arith)
+ends-broken k v w (some NoRoom) e = absurd (omega arith)
 
-pub ends-none : (v w : Bool) (f : Option Rejection) → numberFor f ≢ 5 → v ≡ true → None ≡ endsBy v w f
+pub ends-none : (k v w : Bool) (f : Option Rejection) → numberFor f ≢ 5 → v ≡ true → None ≡ endsBy k v w f
 unfolding endsBy brokenBy isBroken numberFor rejectionNumber endingFor faultEnding
-ends-none v w none n e = rw e
-ends-none v w (some BadShape) n e = absurd (n refl)
-ends-none v w (some BadNumbers) n e = rw e
-ends-none v w (some VerdictStands) n e = rw e
-ends-none v w (some EmptyChannel) n e = rw e
-ends-none v w (some AlreadyInformed) n e = rw e
-ends-none v w (some NoRoom) n e = rw e
+ends-none k v w none n e = rw e
+ends-none k v w (some BadShape) n e = absurd (n refl)
+ends-none k v w (some BadNumbers) n e = rw e
+ends-none k v w (some VerdictStands) n e = rw e
+ends-none k v w (some EmptyChannel) n e = rw e
+ends-none k v w (some AlreadyInformed) n e = rw e
+ends-none k v w (some NoRoom) n e = rw e
 
-pub ends-plan : (v w : Bool) (f : Option Rejection) → numberFor f ≢ 5 → v ≡ false → w ≡ true → Plan ≡ endsBy v w f
+pub ends-plan : (k v w : Bool) (f : Option Rejection) → numberFor f ≢ 5 → v ≡ false → w ≡ true → Plan ≡ endsBy k v w f
 unfolding endsBy brokenBy isBroken numberFor rejectionNumber endingFor faultEnding
-ends-plan v w none n e d = rw (e, d)
-ends-plan v w (some BadShape) n e d = absurd (n refl)
-ends-plan v w (some BadNumbers) n e d = rw (e, d)
-ends-plan v w (some VerdictStands) n e d = rw (e, d)
-ends-plan v w (some EmptyChannel) n e d = rw (e, d)
-ends-plan v w (some AlreadyInformed) n e d = rw (e, d)
-ends-plan v w (some NoRoom) n e d = rw (e, d)
+ends-plan k v w none n e d = rw (e, d)
+ends-plan k v w (some BadShape) n e d = absurd (n refl)
+ends-plan k v w (some BadNumbers) n e d = rw (e, d)
+ends-plan k v w (some VerdictStands) n e d = rw (e, d)
+ends-plan k v w (some EmptyChannel) n e d = rw (e, d)
+ends-plan k v w (some AlreadyInformed) n e d = rw (e, d)
+ends-plan k v w (some NoRoom) n e d = rw (e, d)
 
-pub ends-faulty : (v w : Bool) (f : Option Rejection) → v ≡ false → w ≡ false → numberFor f ≡ 9 → Faulty ≡ endsBy v w f
+-- one delivery
+pub ends-once : (k v w : Bool) (f : Option Rejection) → numberFor f ≢ 5 → v ≡ false → w ≡ false → k ≡ true → Open ≡ endsBy k v w f
 unfolding endsBy brokenBy isBroken numberFor rejectionNumber endingFor faultEnding
-ends-faulty v w none e d z = absurd (omega arith)
-ends-faulty v w (some BadShape) e d z = absurd (omega arith)
-ends-faulty v w (some BadNumbers) e d z = absurd (omega arith)
-ends-faulty v w (some VerdictStands) e d z = absurd (omega arith)
-ends-faulty v w (some EmptyChannel) e d z = absurd (omega arith)
-ends-faulty v w (some AlreadyInformed) e d z = rw (e, d)
-ends-faulty v w (some NoRoom) e d z = absurd (omega arith)
+ends-once k v w none n e d o = rw (e, d, o)
+ends-once k v w (some BadShape) n e d o = absurd (n refl)
+ends-once k v w (some BadNumbers) n e d o = rw (e, d, o)
+ends-once k v w (some VerdictStands) n e d o = rw (e, d, o)
+ends-once k v w (some EmptyChannel) n e d o = rw (e, d, o)
+ends-once k v w (some AlreadyInformed) n e d o = rw (e, d, o)
+ends-once k v w (some NoRoom) n e d o = rw (e, d, o)
 
-pub ends-jammed : (v w : Bool) (f : Option Rejection) → v ≡ false → w ≡ false → numberFor f ≡ 10 → Jammed ≡ endsBy v w f
+-- a run
+pub ends-faulty : (k v w : Bool) (f : Option Rejection) → v ≡ false → w ≡ false → k ≡ false → numberFor f ≡ 9 → Faulty ≡ endsBy k v w f
 unfolding endsBy brokenBy isBroken numberFor rejectionNumber endingFor faultEnding
-ends-jammed v w none e d z = absurd (omega arith)
-ends-jammed v w (some BadShape) e d z = absurd (omega arith)
-ends-jammed v w (some BadNumbers) e d z = absurd (omega arith)
-ends-jammed v w (some VerdictStands) e d z = absurd (omega arith)
-ends-jammed v w (some EmptyChannel) e d z = absurd (omega arith)
-ends-jammed v w (some AlreadyInformed) e d z = absurd (omega arith)
-ends-jammed v w (some NoRoom) e d z = rw (e, d)
+ends-faulty k v w none e d o z = absurd (omega arith)
+ends-faulty k v w (some BadShape) e d o z = absurd (omega arith)
+ends-faulty k v w (some BadNumbers) e d o z = absurd (omega arith)
+ends-faulty k v w (some VerdictStands) e d o z = absurd (omega arith)
+ends-faulty k v w (some EmptyChannel) e d o z = absurd (omega arith)
+ends-faulty k v w (some AlreadyInformed) e d o z = rw (e, d, o)
+ends-faulty k v w (some NoRoom) e d o z = absurd (omega arith)
 
-pub ends-open : (v w : Bool) (f : Option Rejection) → numberFor f ≢ 5 → v ≡ false → w ≡ false → numberFor f ≢ 9 → numberFor f ≢ 10 → Open ≡ endsBy v w f
+pub ends-jammed : (k v w : Bool) (f : Option Rejection) → v ≡ false → w ≡ false → k ≡ false → numberFor f ≡ 10 → Jammed ≡ endsBy k v w f
 unfolding endsBy brokenBy isBroken numberFor rejectionNumber endingFor faultEnding
-ends-open v w none n e d p q = rw (e, d)
-ends-open v w (some BadShape) n e d p q = absurd (n refl)
-ends-open v w (some BadNumbers) n e d p q = rw (e, d)
-ends-open v w (some VerdictStands) n e d p q = rw (e, d)
-ends-open v w (some EmptyChannel) n e d p q = rw (e, d)
-ends-open v w (some AlreadyInformed) n e d p q = absurd (p refl)
-ends-open v w (some NoRoom) n e d p q = absurd (q refl)
+ends-jammed k v w none e d o z = absurd (omega arith)
+ends-jammed k v w (some BadShape) e d o z = absurd (omega arith)
+ends-jammed k v w (some BadNumbers) e d o z = absurd (omega arith)
+ends-jammed k v w (some VerdictStands) e d o z = absurd (omega arith)
+ends-jammed k v w (some EmptyChannel) e d o z = absurd (omega arith)
+ends-jammed k v w (some AlreadyInformed) e d o z = absurd (omega arith)
+ends-jammed k v w (some NoRoom) e d o z = rw (e, d, o)
+
+pub ends-open : (k v w : Bool) (f : Option Rejection) → numberFor f ≢ 5 → v ≡ false → w ≡ false → k ≡ false → numberFor f ≢ 9 → numberFor f ≢ 10
+    → Open ≡ endsBy k v w f
+unfolding endsBy brokenBy isBroken numberFor rejectionNumber endingFor faultEnding
+ends-open k v w none n e d o p q = rw (e, d, o)
+ends-open k v w (some BadShape) n e d o p q = absurd (n refl)
+ends-open k v w (some BadNumbers) n e d o p q = rw (e, d, o)
+ends-open k v w (some VerdictStands) n e d o p q = rw (e, d, o)
+ends-open k v w (some EmptyChannel) n e d o p q = rw (e, d, o)
+ends-open k v w (some AlreadyInformed) n e d o p q = absurd (p refl)
+ends-open k v w (some NoRoom) n e d o p q = absurd (q refl)
 
 -- 5 is the number of a broken shape alone
 pub broken-five : (f : Option Rejection) → brokenBy f ≡ true → numberFor f ≡ 5

@@ -2,18 +2,40 @@
 -- and all stay equal to the run.
 use Prim.Native.Nat.{ℕ, zero, suc, _+_}
 use mathlib.Core.Bool.{Bool, true, false, _||_, false≢true}
-use mathlib.Core.Path.{_≡_, refl, sym, _∙_}
+use mathlib.Core.Path.{_≡_, refl, sym, ap, _∙_}
 use mathlib.Core.Option.{Option, none, some}
 use mathlib.Core.List.{List, [], _∷_, _++_}
 use native.Mathlib.Omega.{arith}
 use lib.Dec.{eqb}
-use lib.ListN.{length}
+use lib.ListN.{length, replicate}
 use borrow.Author.Tests.{ne-eqb}
 use Rattle.base.specs.Finite.{isSome}
-use Rattle.base.proofs.Tests.{or-false-both}
+use Rattle.base.proofs.Tests.{or-left, or-right, or-false-both}
 use Rattle.protocol.specs.Network.{Network}
+use Rattle.protocol.specs.Shape.{inShape}
 use Rattle.protocol.specs.Delivery.{Rejection, deliver}
-use Rattle.protocol.specs.Run.{Line, idle, visits, Sweep, beginRound, stopped, tally, attempt, sweep, round, isFull, Round, Ran, finish, oneIf, runFrom}
+use Rattle.protocol.specs.Run.{
+  Line,
+  idle,
+  visits,
+  Sweep,
+  beginRound,
+  stopped,
+  passedOver,
+  tally,
+  skipped,
+  attempt,
+  sweep,
+  round,
+  isFull,
+  Round,
+  Ran,
+  finish,
+  oneIf,
+  faultAfter,
+  runFrom,
+}
+use Rattle.shape_laws.proofs.RunFaults.{Supplied, attempt-supplied}
 
 -- after a round with this fault
 unfoldable pub onward : Option Rejection → ℕ → ℕ → List Round → Network → Ran
@@ -26,7 +48,7 @@ recorded waited s = record { tried = s .tried; full = eqb (s .delivered) waited 
 -- after a round at whose start so many waited, with the rounds that are then recorded
 abbrev pub further : ℕ → ℕ → ℕ → (Sweep → List Round) → Sweep → Ran
 further left made waited after t =
-    onward (t .fault) left (made + oneIf (eqb (t .delivered) waited)) (after t) (t .network)
+    onward (faultAfter t) left (made + oneIf (eqb (t .delivered) waited)) (after t) (t .network)
 
 -- a verdict or a rejection stands, nothing waits, or no round is left
 pub stops : (f : Option Rejection) (left made : ℕ) (rounds : List Round) (w : Network)
@@ -59,10 +81,29 @@ goes-on none left k made rounds w e h =
     let q : w .verdict || idle w ≡ false = rw (c, b .1) in
     rw (e, q, runFrom)
 
-pub passes : (s : Sweep) (l : Line) → stopped s ≡ true → attempt s l ≡ s
-unfolding attempt
-passes s l e = rw (e, attempt)
+-- ---- one visit
 
-pub tries : (s : Sweep) (l : Line) → stopped s ≡ false → attempt s l ≡ tally s l (deliver (s .network) (l .from) (l .to))
-unfolding attempt
-tries s l e = rw (e, attempt)
+pub passes : (s : Sweep) (l : Line) → stopped s ≡ true → attempt s l ≡ s
+unfolding attempt skipped
+passes s l e = let k : skipped s l ≡ true = or-left (stopped s) (passedOver s l) e in rw (k, attempt)
+
+pub tries : (s : Sweep) (l : Line) → stopped s ≡ false → passedOver s l ≡ false → attempt s l ≡ tally s l (deliver (s .network) (l .from) (l .to))
+unfolding attempt skipped
+tries s l e o = let k : skipped s l ≡ false = rw (e, o) in rw (k, attempt)
+
+-- ---- the rest of a line that is passed over
+
+module _ (s : Sweep) (l : Line) (e : passedOver s l ≡ true) where
+  over : attempt s l ≡ s
+  unfolding attempt skipped
+  over = let k : skipped s l ≡ true = or-right (stopped s) (passedOver s l) e in rw (k, attempt)
+
+  pub sweep-over : (k : ℕ) (ls : List Line) → sweep s (replicate k l ++ ls) ≡ sweep s ls
+  unfolding sweep
+  sweep-over zero ls = refl
+  sweep-over (suc k) ls = ap (λ (t : Sweep). sweep t (replicate k l ++ ls)) over ∙ sweep-over k ls
+
+  pub supplied-over : (k : ℕ) (ls : List Line) → inShape (s .network) ≡ true → Supplied (replicate k l ++ ls) (s .network) → Supplied ls (s .network)
+  supplied-over zero ls h f = f
+  supplied-over (suc k) ls h f =
+      supplied-over k ls h (rw (ap (λ (t : Sweep). t .network) over) at (attempt-supplied s l (replicate k l ++ ls) h f))

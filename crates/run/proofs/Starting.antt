@@ -8,9 +8,9 @@ use mathlib.Core.Option.{Option, none, some}
 use mathlib.Core.List.{List, [], _∷_}
 use native.Mathlib.Omega.{arith}
 use lib.Dec.{eqb}
-use lib.ListN.{length, getD, replicate}
-use borrow.Author.Tests.{eqb-true, eq-eqb, ne-eqb}
-use Rattle.base.specs.Finite.{at, fromOne, within, isSome, gather}
+use lib.ListN.{length, replicate}
+use borrow.Author.Tests.{eqb-true, ne-eqb}
+use Rattle.base.specs.Finite.{at, fromOne, within, any, isSome}
 use Rattle.base.proofs.Arrays.{getD-same}
 use Rattle.base.proofs.Gathers.{gather-one, gather-none}
 use Rattle.base.proofs.Search.{at-same, at-other}
@@ -18,11 +18,10 @@ use Rattle.base.proofs.Tests.{test, to-within, both, to-both}
 use Rattle.problem.specs.Problem.{maxAgents}
 use Rattle.agent_rules.specs.Message.{Message as Message′, nobody}
 use Rattle.agent_rules.specs.Shape.{maxNamed}
-use Rattle.packed.specs.Packed.{assignment, members}
+use Rattle.packed.specs.Packed.{assignment}
 use Rattle.packed.proofs.Digits.{nobody-assigned}
 use Rattle.packed.proofs.Sets.{no-members}
 use Rattle.agent.specs.declared.Bars.{Bars}
-use Rattle.protocol.specs.Network.{Network as Network′}
 use Rattle.protocol.specs.Shape.{inShape}
 use Rattle.protocol.specs.Delivery.{
   Rejection,
@@ -31,29 +30,26 @@ use Rattle.protocol.specs.Delivery.{
   VerdictStands,
   EmptyChannel,
   rejectionNumber,
-  Rejected,
-  Delivery,
   rejecting,
   numbersGood,
   deliverHead,
   deliver,
 }
-use Rattle.protocol.specs.Run.{Line, Sweep, beginRound, stopped, faultOf, tally, attempt, sweep, oneIf, isLine, Round, runFrom}
+use Rattle.protocol.specs.Run.{stopped, passedOver, tally, sweep, oneIf, isLine, faultAfter}
 use Rattle.shape_laws.proofs.ShapeClauses.{shaped}
 use Rattle.base.proofs.Counting.{countIf}
-use Rattle.shape_laws.proofs.RunFaults.{Supplied}
 use Rattle.network.specs.declared.Network.{Network}
 use Rattle.network.specs.Abstract.{isChannel, rowOf, problemOf, networkOf}
 use Rattle.network_laws.specs.Held.{heldAt, Clean}
 use Rattle.network_laws.proofs.Changes.{FullArrays, counted, counted-sized, counted-channel, channel-held}
-use Rattle.network_laws.proofs.Handing.{numbers-line}
 use Rattle.network_laws.proofs.Rejecting.{bad-shape, bad-numbers, stands, tries as finds}
 use Rattle.run.specs.Lines.{line, cell, row, ahead}
-use Rattle.run.specs.Working.{numberFor, isBroken, brokenBy, testedBy, Worked, stoppedWith, deliveredAs, ranAs, workBy}
+use Rattle.run.specs.Working.{numberFor, isBroken, brokenBy, testedBy, Worked, stoppedWith, faultOf, deliveredAs, ranAs, workBy}
 use Rattle.run.proofs.Ahead.{ahead-none}
 use Rattle.run.proofs.Resuming.{onward, further, tries}
 use Rattle.run.proofs.Testing.{Good, Tested, is-bad, is-over, is-empty, is-found, tests}
 use Rattle.run.proofs.Endings.{broken-five}
+use Rattle.run.proofs.After.{after-met, after-one}
 use Rattle.run.proofs.Here.{sweepOf, stoppedAs, single, rounds, Live, Here}
 
 -- rows that hold what the counts hold, and nothing else
@@ -68,8 +64,8 @@ pub data Began (once : Bool) (i j : ℕ) (r o : Network) (n number from rest : �
       → number ≡ 0 → from ≡ r .count → rest ≡ 0 → Began once i j r o n number from rest
   refused : inShape (networkOf r) ≡ true → once ≡ true → (rows : List ℕ) → Rows (r .counts) rows → o ≡ counted r rows → n ≡ r .count
       → number ≡ testedBy (r .count) (r .verdict) rows i j → number ≢ 0 → from ≡ r .count → rest ≡ 0 → Began once i j r o n number from rest
-  found : inShape (networkOf r) ≡ true → once ≡ true → (rows : List ℕ) → Rows (r .counts) rows → o ≡ counted r rows → n ≡ r .count
-      → number ≡ testedBy (r .count) (r .verdict) rows i j → number ≡ 0 → from ≡ i
+  found : inShape (networkOf r) ≡ true → once ≡ true → (rows : List ℕ) → Rows (r .counts) rows → o ≡ counted r rows → n ≡ r .count → (k : ℕ)
+      → k ≡ testedBy (r .count) (r .verdict) rows i j → k ≡ 0 → number ≡ 10 → from ≡ i
       → assignment rest ≡ at (assignment 0) j (assignment 0 j + 1) → Began once i j r o n number from rest
 
 -- ---- clean rows
@@ -93,7 +89,7 @@ pub began-network : {once : Bool} {i j : ℕ} {r o : Network} {n number from res
 began-network (broken s e n k f z) = ap networkOf e
 began-network {r = r} (running s b rows h e n k f z) = ap networkOf e ∙ rows-network r rows h
 began-network {r = r} (refused s b rows h e n k d f z) = ap networkOf e ∙ rows-network r rows h
-began-network {r = r} (found s b rows h e n k d f z) = ap networkOf e ∙ rows-network r rows h
+began-network {r = r} (found s b rows h e n k d q m f z) = ap networkOf e ∙ rows-network r rows h
 
 pub began-untouched : {once : Bool} {i j : ℕ} {r o : Network} {n number from rest : ℕ} → Began once i j r o n number from rest → number ≡ 5 → o ≡ r
 began-untouched (broken s e n k f z) q = e
@@ -105,7 +101,7 @@ began-untouched {i = i} {j = j} {r = r} {o = o} {number = number} (refused s b r
     go (is-over g v a) = absurd (omega arith)
     go (is-empty g v x a) = absurd (omega arith)
     go (is-found g v x a) = absurd (omega arith)
-began-untouched (found s b rows h e n k d f z) q = absurd (omega arith)
+began-untouched (found s b rows h e n k d t m f z) q = absurd (omega arith)
 
 -- ---- no bars are worked out, and no line has a quota
 
@@ -133,7 +129,8 @@ module _ (once : Bool) (i j allowed : ℕ) (few : allowed ≤ 1000000) (bars : L
   done : (whole : Worked) (o : Network) (n number from rest : ℕ) (going : Bool) (f : Option Rejection) → FullArrays o → n ≤ 12 → from ≡ n → rest ≡ 0
       → number ≡ numberFor f → isSome f ≡ true → going ≡ false → (brokenBy f ≡ false → once ≡ true)
       → (brokenBy f ≡ false → Live o n (o .domains) (o .bans) bars 0) → whole ≡ stoppedWith (networkOf o) f
-      → Here once whole o number o n (o .domains) (o .bans) bars 0 (replicate 12 0) true allowed 0 number going from rest
+      → Here once whole o number o n (o .domains) (o .bans)
+      bars 0 (replicate 12 0) true allowed 0 number going from rest
   unfolding sweep countIf
   done whole o n number from rest going f z hi ef er e t g b live w =
       let none-ahead : ahead (replicate 12 0) n from rest ≡ [] = ahead-none (replicate 12 0) n from rest er (omega arith) in
@@ -144,7 +141,6 @@ module _ (once : Bool) (i j allowed : ℕ) (few : allowed ≤ 1000000) (bars : L
         high = omega arith;
         few = omega arith;
         fault = f;
-        numbered = e;
         goes = g ∙ ap not (sym (fault-stops (o .verdict)));
         live = live;
         untouched = λ q. (refl, e ∙ broken-five f q);
@@ -152,14 +148,19 @@ module _ (once : Bool) (i j allowed : ℕ) (few : allowed ≤ 1000000) (bars : L
         waited = 2;
         delivered = 0;
         tried = [];
+        numbered = e ∙ sym (ap numberFor met);
         most = rw none-ahead (omega arith);
         missing = rw none-ahead;
         supplied = rw none-ahead (record { lines = tt; enough = λ x y. omega arith });
+        fresh = rw none-ahead tt;
         end = stoppedAs;
         kind = single b refl (λ q. absurd (false≢true (sym g ∙ q))) refl (λ t. refl);
-        same = rw none-ahead w;
+        same = rw none-ahead (w ∙ ap (stoppedWith (networkOf o)) (sym met));
       }
     where
+      met : faultAfter (sweepOf o 0 f []) ≡ f
+      met = after-met (sweepOf o 0 f []) t
+
       or-true : (v : Bool) → v || true ≡ true
       or-true true = refl
       or-true false = refl
@@ -195,8 +196,9 @@ module _ (once : Bool) (i j allowed : ℕ) (few : allowed ≤ 1000000) (bars : L
 
     -- a run
     runs : (going : Bool) → going ≡ not (r .verdict) → once ≡ false
-        → Here once (workBy once i j allowed (networkOf o)) o 0 o (r .count) (o .domains) (o .bans) bars 0 (replicate 12 0) true allowed 0 0 going (r .count) 0
-    unfolding sweep countIf numberFor brokenBy isSome workBy onward oneIf
+        → Here once (workBy once i j allowed (networkOf o)) o 0 o (r .count) (o .domains) (o .bans)
+        bars 0 (replicate 12 0) true allowed 0 0 going (r .count) 0
+    unfolding sweep countIf numberFor brokenBy isSome workBy onward oneIf faultAfter
     runs going g e =
         let none-ahead : ahead (replicate 12 0) (r .count) (r .count) 0 ≡ [] = ahead-none (replicate 12 0) (r .count) (r .count) 0 refl (omega arith) in
         record {
@@ -205,18 +207,19 @@ module _ (once : Bool) (i j allowed : ℕ) (few : allowed ≤ 1000000) (bars : L
           high = omega arith;
           few = omega arith;
           fault = none;
-          numbered = refl;
           goes = g ∙ ap not (or-none (r .verdict));
           live = λ _. o-live;
           untouched = λ q. absurd (false≢true q);
           quiet = λ _. none-ahead;
-          waited = 1;
-          delivered = 0;
+          waited = 2;
+          delivered = 1;
           tried = [];
+          numbered = refl;
           most = rw none-ahead (omega arith);
           missing = rw none-ahead;
           supplied = rw none-ahead (record { lines = tt; enough = λ x y. omega arith });
-          end = λ t. ranAs (further allowed 0 1 (λ _. []) t);
+          fresh = rw none-ahead tt;
+          end = λ t. ranAs (further allowed 0 2 (λ _. []) t);
           kind = rounds e refl (λ _. []) (λ t. refl);
           same = rw (e, workBy, o-shape, none-ahead);
         }
@@ -228,7 +231,8 @@ module _ (once : Bool) (i j allowed : ℕ) (few : allowed ≤ 1000000) (bars : L
     -- a delivery that is rejected
     rejected : (x : Rejection) → isBroken x ≡ false → (number : ℕ) (going : Bool) → number ≡ rejectionNumber x → going ≡ false → once ≡ true
         → deliver (networkOf o) i j ≡ rejecting x (networkOf o)
-        → Here once (workBy once i j allowed (networkOf o)) o number o (r .count) (o .domains) (o .bans) bars 0 (replicate 12 0) true allowed 0 number going (r .count) 0
+        → Here once (workBy once i j allowed (networkOf o)) o number o (r .count) (o .domains) (o .bans)
+        bars 0 (replicate 12 0) true allowed 0 number going (r .count) 0
     unfolding numberFor brokenBy isSome workBy deliveredAs rejecting faultOf
     rejected x mild number going e g b d =
         done (workBy once i j allowed (networkOf o)) o (r .count) number (r .count) 0 going (some x) o-sized o-few refl refl e refl g (λ _. b) (λ _. o-live)
@@ -260,10 +264,11 @@ module _ (once : Bool) (i j allowed : ℕ) (few : allowed ≤ 1000000) (bars : L
     finds-nothing x v y = finds (networkOf o) i j o-shape (good-numbers x) (verdict-is false v) [] (nothing y)
 
     -- a delivery that has found a message
-    delivers : (number rest : ℕ) (going : Bool) → number ≡ 0 → going ≡ true → allowed ≡ 0 → once ≡ true → Good (r .count) i j → r .verdict ≡ false
+    delivers : (number rest : ℕ) (going : Bool) → number ≡ 10 → going ≡ true → allowed ≡ 0 → once ≡ true → Good (r .count) i j → r .verdict ≡ false
         → rowOf rows i j ≢ 0 → assignment rest ≡ at (assignment 0) j (assignment 0 j + 1)
-        → Here once (workBy once i j allowed (networkOf o)) o number o (r .count) (o .domains) (o .bans) bars 0 (replicate 12 0) true allowed 0 number going i rest
-    unfolding sweep countIf numberFor brokenBy isSome workBy deliveredAs isLine oneIf networkOf tally stopped
+        → Here once (workBy once i j allowed (networkOf o)) o number o (r .count) (o .domains) (o .bans)
+        bars 0 (replicate 12 0) true allowed 0 number going i rest
+    unfolding sweep countIf numberFor brokenBy isSome workBy deliveredAs isLine oneIf networkOf tally stopped passedOver any faultAfter rejectionNumber
     delivers number rest going e g a b good v some-held er =
         let one : ahead (replicate 12 0) (r .count) i rest ≡ line i j ∷ [] = one-ahead (r .count) i j rest (good .to-low) (omega (arith, good .to-high, o-few)) er in
         record {
@@ -272,7 +277,6 @@ module _ (once : Bool) (i j allowed : ℕ) (few : allowed ≤ 1000000) (bars : L
           high = good .from-high;
           few = omega arith;
           fault = none;
-          numbered = e;
           goes = g ∙ rw v;
           live = λ _. o-live;
           untouched = λ q. absurd (false≢true q);
@@ -280,12 +284,17 @@ module _ (once : Bool) (i j allowed : ℕ) (few : allowed ≤ 1000000) (bars : L
           waited = 2;
           delivered = 0;
           tried = [];
+          numbered = e;
           most = rw one (omega arith);
           missing = rw one;
           supplied = rw one (record { lines = (good-numbers good, tt); enough = λ x y. enough x y });
+          fresh = rw one (refl, tt);
           end = stoppedAs;
           kind = single (λ _. b) refl (λ _. a) refl (λ t. refl);
-          same = rw (b, workBy, one) (ap stoppedAs (sym (tries (sweepOf o 0 none []) (line i j) (rw v))));
+          same =
+              rw (b, workBy, one)
+              (ap (stoppedWith (deliver (networkOf o) i j .network)) (sym (after-one (networkOf o) [] (line i j) (deliver (networkOf o) i j)))
+              ∙ ap stoppedAs (sym (tries (sweepOf o 0 none []) (line i j) (rw v) refl)));
         }
       where
         waits : 1 ≤ length (networkOf o .channel i j)
@@ -302,7 +311,8 @@ module _ (once : Bool) (i j allowed : ℕ) (few : allowed ≤ 1000000) (bars : L
   -- the head of the loop
   abbrev Head : Network → ℕ → ℕ → ℕ → ℕ → Bool → Type 0
   Head o n number from rest going =
-      Here once (workBy once i j allowed (networkOf o)) o number o n (o .domains) (o .bans) bars 0 (replicate 12 0) true allowed 0 number going from rest
+      Here once (workBy once i j allowed (networkOf o)) o number o n (o .domains) (o .bans)
+      bars 0 (replicate 12 0) true allowed 0 number going from rest
 
   begins-broken : (r : Network) (going : Bool) → FullArrays r → inShape (networkOf r) ≡ false → going ≡ false → Head r 0 5 0 0 going
   unfolding numberFor brokenBy isBroken isSome workBy deliveredAs rejecting faultOf rejectionNumber
@@ -313,29 +323,31 @@ module _ (once : Bool) (i j allowed : ℕ) (few : allowed ≤ 1000000) (bars : L
 
   module _ (r : Network) (z : FullArrays r) (clean : List ℕ) (h : Rows (r .counts) clean) (s : inShape (networkOf r) ≡ true) (number : ℕ) (going : Bool)
       (b : once ≡ true) where
-    begins-refused : Tested (r .count) (r .verdict) clean i j number → number ≢ 0 → going ≡ false → Head (counted r clean) (r .count) number (r .count) 0 going
+    begins-refused : Tested (r .count) (r .verdict) clean i j number → number ≢ 0 → going ≡ (eqb number 0 || eqb number 10) && not (r .verdict)
+        → Head (counted r clean) (r .count) number (r .count) 0 going
     unfolding isBroken rejectionNumber
     begins-refused (is-bad x q) m g =
-        rejected r z clean h s BadNumbers refl number going q g b (bad-numbers (networkOf (counted r clean)) i j (o-shape r z clean h s) (numbers-bad r z clean h s x))
+        rejected r z clean h s BadNumbers refl number going q (rw q at g) b (bad-numbers (networkOf (counted r clean)) i j (o-shape r z clean h s) (numbers-bad r z clean h s x))
     begins-refused (is-over x v q) m g =
-        rejected r z clean h s VerdictStands refl number going q g b
+        rejected r z clean h s VerdictStands refl number going q (rw q at g) b
         (stands (networkOf (counted r clean)) i j (o-shape r z clean h s) (good-numbers r z clean h s x) (verdict-is r z clean h s true v))
-    begins-refused (is-empty x v y q) m g = rejected r z clean h s EmptyChannel refl number going q g b (finds-nothing r z clean h s x v y)
+    begins-refused (is-empty x v y q) m g = rejected r z clean h s EmptyChannel refl number going q (rw q at g) b (finds-nothing r z clean h s x v y)
     begins-refused (is-found x v y q) m g = absurd (m q)
 
-    begins-found : (rest : ℕ) → Tested (r .count) (r .verdict) clean i j number → number ≡ 0 → allowed ≡ 0 → going ≡ not (r .verdict)
+    begins-found : (k rest : ℕ) → Tested (r .count) (r .verdict) clean i j k → k ≡ 0 → number ≡ 10 → allowed ≡ 0 → going ≡ not (r .verdict)
         → assignment rest ≡ at (assignment 0) j (assignment 0 j + 1) → Head (counted r clean) (r .count) number i rest going
-    begins-found rest (is-bad x q) m a g e = absurd (omega arith)
-    begins-found rest (is-over x v q) m a g e = absurd (omega arith)
-    begins-found rest (is-empty x v y q) m a g e = absurd (omega arith)
-    begins-found rest (is-found x v y q) m a g e = delivers r z clean h s number rest going q (g ∙ rw v) a b x v y e
+    begins-found k rest (is-bad x q) m t a g e = absurd (omega arith)
+    begins-found k rest (is-over x v q) m t a g e = absurd (omega arith)
+    begins-found k rest (is-empty x v y q) m t a g e = absurd (omega arith)
+    begins-found k rest (is-found x v y q) m t a g e = delivers r z clean h s number rest going t (g ∙ rw v) a b x v y e
 
   pub begins : {r o : Network} {n number from rest : ℕ} (going : Bool) → Began once i j r o n number from rest → FullArrays r → (once ≡ true → allowed ≡ 0)
-      → going ≡ eqb number 0 && not (o .verdict)
-      → Here once (workBy once i j allowed (networkOf o)) o number o n (o .domains) (o .bans) bars 0 (replicate 12 0) true allowed 0 number going from rest
+      → going ≡ (eqb number 0 || eqb number 10) && not (o .verdict)
+      → Here once (workBy once i j allowed (networkOf o)) o number o n (o .domains) (o .bans)
+      bars 0 (replicate 12 0) true allowed 0 number going from rest
   begins {r} going (broken s e n k f d) z a g = rw (e, n, k, f, d) (begins-broken r going z s (rw k at g))
   begins {r} going (running s b clean h e n k f d) z a g = rw (e, n, k, f, d) (runs r z clean h s going (rw (k, e) at g) b)
   begins {r} {number = number} going (refused s b clean h e n k m f d) z a g =
-      rw (e, n, f, d) (begins-refused r z clean h s number going b (tests (r .count) (r .verdict) clean i j number k) m (rw (ne-eqb number 0 m) at g))
-  begins {r} {number = number} {rest = rest} going (found s b clean h e n k m f d) z a g =
-      rw (e, n, f) (begins-found r z clean h s number going b rest (tests (r .count) (r .verdict) clean i j number k) m (a b) (rw (m, e) at g) d)
+      rw (e, n, f, d) (begins-refused r z clean h s number going b (tests (r .count) (r .verdict) clean i j number k) m (rw e at g))
+  begins {r} {number = number} {rest = rest} going (found s b clean h e n k t q m f d) z a g =
+      rw (e, n, f) (begins-found r z clean h s number going b k rest (tests (r .count) (r .verdict) clean i j k t) q m (a b) (rw (m, e) at g) d)

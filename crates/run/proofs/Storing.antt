@@ -1,6 +1,6 @@
 -- The engine's loop that stores what the receiver sends: at its head the posts are stored as far as they are not left (`Posting`), and it goes on as long as
--- no line was full. Then the delivery is made, or rejected.
-use Prim.Native.Nat.{ℕ, pred, _+_, _-_, _*_, _%_, _≤_, _<_}
+-- there is room. Then the delivery is made, or rejected.
+use Prim.Native.Nat.{ℕ, _+_, _-_, _*_, _%_, _≤_, _<_}
 use mathlib.Core.Bool.{Bool, true, false, not, _&&_, false≢true}
 use mathlib.Core.Path.{_≡_, refl, sym, ap, _∙_}
 use mathlib.Core.List.{List, [], _∷_}
@@ -8,46 +8,41 @@ use native.Mathlib.Omega.{arith}
 use lib.ListN.{length, set, length-set}
 use lib.Seq.{getD-set-other}
 use Rattle.base.specs.Finite.{at}
-use Rattle.base.proofs.Search.{at-same, at-other}
+use Rattle.base.proofs.Search.{at-other}
 use Rattle.base.proofs.Tests.{test, eq-test}
-use Rattle.problem.specs.Problem.{pairsBefore}
 use Rattle.agent_rules.specs.Message.{Post as Post′}
 use Rattle.packed.specs.Packed.{assignment}
-use Rattle.agent.specs.declared.Bars.{Bars}
 use Rattle.agent.specs.declared.Post.{Post}
 use Rattle.agent.specs.declared.Posts.{Posts}
 use Rattle.agent.specs.declared.Step.{Step}
-use Rattle.agent.specs.Abstract.{postOf, messageOf}
+use Rattle.agent.specs.Abstract.{postOf}
 use Rattle.agent.specs.Posting.{postsLeft, tailOf, Ready}
 use Rattle.protocol.specs.Run.{oneIf}
 use Rattle.network.specs.declared.Network.{Network}
-use Rattle.network.specs.Abstract.{isChannel, channelAt, placeOf, rowOf, networkOf}
+use Rattle.network.specs.Abstract.{isChannel, placeOf, rowOf}
 use Rattle.network.proofs.Numbering.{Ends, ends}
 use Rattle.network_laws.specs.Held.{heldAt, rowFits, Clean}
-use Rattle.network_laws.proofs.Changes.{FullArrays, wordAt, placed, rowed, arrived, arrived-sized, counted-sized, Taken, row-is, row-same, row-other}
+use Rattle.network_laws.proofs.Changes.{FullArrays, wordAt, placed, row-is, row-same, row-other}
 use Rattle.network_laws.proofs.Handing.{Found, found-ends}
-use Rattle.network_laws.proofs.Posting.{Posting, Turn, post-line, post-ends, post-full, post-put}
+use Rattle.network_laws.proofs.Posting.{Posting, Turn, post-line, post-full, post-put}
 
-pub record Storing (o₀ : Network) (j : ℕ) (step : Step) (backs : List ℕ) (number₀ : ℕ) (missed₀ : Bool) (o : Network) (number : ℕ) (missed going : Bool)
-    (posts : Posts) (now : ℕ) : Type 0 where
+pub record Storing (o₀ : Network) (j : ℕ) (step : Step) (backs : List ℕ) (o : Network) (posts : Posts) (now : ℕ) (room : Bool) : Type 0 where
   pub posting : Posting o₀ j (postsLeft (step .posts) (step .backs)) (postsLeft posts backs) o now
   pub ready : Ready posts backs
-  pub goes : going ≡ true → (number ≡ number₀) × (missed ≡ missed₀)
-  pub stops : going ≡ false → (number ≡ 10) × (missed ≡ true) × (rowFits (heldAt (o₀ .counts) j) (postsLeft (step .posts) (step .backs)) ≡ false)
+  pub stops : room ≡ false → rowFits (heldAt (o₀ .counts) j) (postsLeft (step .posts) (step .backs)) ≡ false
 
 -- so many turns are left
 abbrev pub turns : Posts → List ℕ → Bool → ℕ
-turns posts backs going = 2 * length (postsLeft posts backs) + oneIf going
+turns posts backs room = 2 * length (postsLeft posts backs) + oneIf room
 
-pub storing-starts : (o : Network) (j : ℕ) (step : Step) (number : ℕ) (missed going : Bool) (now : ℕ)
-    → Posting o j (postsLeft (step .posts) (step .backs)) (postsLeft (step .posts) (step .backs)) o now → Ready (step .posts) (step .backs) → going ≡ true
-    → Storing o j step (step .backs) number missed o number missed going (step .posts) now
-storing-starts o j step number missed going now p r g =
-    record { posting = p; ready = r; goes = λ _. (refl, refl); stops = λ z. absurd (false≢true (sym z ∙ g)) }
+pub storing-starts : (o : Network) (j : ℕ) (step : Step) (now : ℕ)
+    → Posting o j (postsLeft (step .posts) (step .backs)) (postsLeft (step .posts) (step .backs)) o now → Ready (step .posts) (step .backs)
+    → Storing o j step (step .backs) o (step .posts) now true
+storing-starts o j step now p r = record { posting = p; ready = r; stops = λ z. absurd (false≢true (sym z)) }
 
 -- one turn
-module _ {o₀ : Network} {j : ℕ} {step : Step} {backs : List ℕ} {number₀ : ℕ} {missed₀ : Bool} {o : Network} {number : ℕ} {missed going : Bool} {posts : Posts} {now : ℕ}
-    (h : Storing o₀ j step backs number₀ missed₀ o number missed going posts now) (p : Post)
+module _ {o₀ : Network} {j : ℕ} {step : Step} {backs : List ℕ} {o : Network} {posts : Posts} {now : ℕ} {room : Bool}
+    (h : Storing o₀ j step backs o posts now room) (p : Post)
     (e : postsLeft posts backs ≡ postOf p ∷ tailOf (postsLeft posts backs)) where
   pub turn-line : isChannel j (p .to) ≡ true
   unfolding postOf
@@ -57,16 +52,15 @@ module _ {o₀ : Network} {j : ℕ} {step : Step} {backs : List ℕ} {number₀ 
   turn-ends = ends j (p .to) turn-line
 
   -- the post is stored
-  pub turn-stores : going ≡ true → {c g t x now′ : ℕ} → Turn j (wordAt (o₀ .heads) j) now (p .to) c g t x now′ → t < 8 → (rest : Posts)
+  pub turn-stores : {c g t x now′ : ℕ} → Turn j (wordAt (o₀ .heads) j) now (p .to) c g t x now′ → t < 8 → (rest : Posts)
       → Ready rest backs × (postsLeft rest backs ≡ tailOf (postsLeft posts backs))
-      → Storing o₀ j step backs number₀ missed₀ (placed o x (record { message = p .message })) number missed going rest now′
+      → Storing o₀ j step backs (placed o x (record { message = p .message })) rest now′ room
   unfolding postOf placeOf
-  turn-stores g {x = x} {now′ = now′} t l rest r =
+  turn-stores {x = x} {now′ = now′} t l rest r =
       record {
         posting =
             rw (r .1) (post-put (h .posting) (postOf p) (tailOf (postsLeft posts backs)) e t l (record { message = p .message }) refl);
         ready = r .0;
-        goes = h .goes;
         stops = h .stops;
       }
 
@@ -74,25 +68,24 @@ module _ {o₀ : Network} {j : ℕ} {step : Step} {backs : List ℕ} {number₀ 
   turn-less {rest} g r = let a = ap length e in let b = ap length (r .1) in omega arith
 
   -- its line is full
-  pub turn-full : (t : ℕ) → t ≡ assignment now (p .to) → 8 ≤ t → Storing o₀ j step backs number₀ missed₀ o 10 true false posts now
+  pub turn-full : (t : ℕ) → t ≡ assignment now (p .to) → 8 ≤ t → Storing o₀ j step backs o posts now false
   unfolding postOf
   turn-full t d l =
       record {
         posting = h .posting;
         ready = h .ready;
-        goes = λ z. absurd (false≢true z);
-        stops = λ _. (refl, refl, post-full (h .posting) (postOf p) (tailOf (postsLeft posts backs)) e t d l);
+        stops = λ _. post-full (h .posting) (postOf p) (tailOf (postsLeft posts backs)) e t d l;
       }
 
-pub full-less : (posts : Posts) (backs : List ℕ) (going : Bool) → going ≡ true → turns posts backs false < turns posts backs going
+pub full-less : (posts : Posts) (backs : List ℕ) (room : Bool) → room ≡ true → turns posts backs false < turns posts backs room
 unfolding oneIf
-full-less posts backs going g = rw g (omega arith)
+full-less posts backs room r = rw r (omega arith)
 
 -- none is left
-pub no-posts : (posts : Posts) (backs : List ℕ) (empty going : Bool) → (empty ≡ true → (l : List ℕ) → Ready posts l → postsLeft posts l ≡ [])
-    → not empty && going ≡ false → going ≡ true → Ready posts backs → postsLeft posts backs ≡ []
-no-posts posts backs true going f e g r = f refl backs r
-no-posts posts backs false going f e g r = absurd (false≢true (sym e ∙ g))
+pub no-posts : (posts : Posts) (backs : List ℕ) (empty room : Bool) → (empty ≡ true → (l : List ℕ) → Ready posts l → postsLeft posts l ≡ [])
+    → not empty && room ≡ false → room ≡ true → Ready posts backs → postsLeft posts backs ≡ []
+no-posts posts backs true room f e g r = f refl backs r
+no-posts posts backs false room f e g r = absurd (false≢true (sym e ∙ g))
 
 -- ---- the message taken off
 

@@ -41,7 +41,7 @@ pub record DeliversAs (r : Network) (d : Delivery) (answered : ℕ) (left : Netw
   pub number : answered ≡ answerNumber (d .answer)
   pub untouched : (answered ≡ 0 → ⊥) → left ≡ r
 
--- how a delivery leaves the network: the word that a run would stop with there
+-- how a delivery leaves the network: the word of a run there that may use no round, `none`, `plan` or `open`; no word where the shape is broken
 unfoldable pub standing : Delivery → Ending′
 standing d = deliveredAs d .ending
 

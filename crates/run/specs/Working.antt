@@ -1,5 +1,5 @@
 -- What the engine works out, as one record for a delivery and for a run.
-use Prim.Native.Nat.{ℕ, zero, suc, pred}
+use Prim.Native.Nat.{ℕ}
 use mathlib.Core.Bool.{Bool, true, false, not, _&&_}
 use mathlib.Core.Option.{Option, none, some}
 use mathlib.Core.List.{List, []}
@@ -16,11 +16,13 @@ use Rattle.protocol.specs.Delivery.{
   AlreadyInformed,
   NoRoom,
   rejectionNumber,
-  answerNumber,
+  Answer,
+  Accepted,
+  Rejected,
   Delivery,
   deliver,
 }
-use Rattle.protocol.specs.Run.{idle, Sweep, faultOf, Ending, None, Plan, Broken, endingNumber, endingFor, Ran, runFrom}
+use Rattle.protocol.specs.Run.{idle, Ending, None, Plan, Open, Broken, endingNumber, endingFor, Ran, runFrom}
 use Rattle.network.specs.Abstract.{rowOf}
 
 -- the number of a rejection that was met, 0 for none
@@ -41,12 +43,16 @@ unfoldable pub brokenBy : Option Rejection → Bool
 brokenBy none = false
 brokenBy (some r) = isBroken r
 
--- how a network stands: a broken shape comes first, then the verdict, then nothing waiting, then the rejection that was met
-unfoldable pub endsBy : Bool → Bool → Option Rejection → Ending
-endsBy verdict idle f =
+-- how a network stands: a broken shape comes first, then the verdict, then nothing waiting, then what stopped a run; nothing stops a single delivery
+unfoldable pub endsBy : Bool → Bool → Bool → Option Rejection → Ending
+endsBy once verdict idle f =
     elim (brokenBy f) [
       | true ↦ Broken
-      | false ↦ elim verdict [ true ↦ None | false ↦ elim idle [ true ↦ Plan | false ↦ endingFor f ] ]
+      | false ↦
+          elim verdict [
+            | true ↦ None
+            | false ↦ elim idle [ true ↦ Plan | false ↦ elim once [ true ↦ Open | false ↦ endingFor f ] ]
+          ]
     ]
 
 -- the first of 6, 7 and 8 that a delivery meets, by the rows of counts; 0 for none
@@ -68,7 +74,12 @@ pub record Worked : Type 0 where
 -- the work that ends here with this rejection, or none, and no round made
 unfoldable pub stoppedWith : Network → Option Rejection → Worked
 stoppedWith w f =
-    record { network = w; made = 0; number = numberFor f; ending = endsBy (w .verdict) (idle w) f }
+    record { network = w; made = 0; number = numberFor f; ending = endsBy true (w .verdict) (idle w) f }
+
+-- the rejection that a delivery meets
+unfoldable pub faultOf : Answer → Option Rejection
+faultOf Accepted = none
+faultOf (Rejected r) = some r
 
 -- a delivery
 unfoldable pub deliveredAs : Delivery → Worked

@@ -27,8 +27,8 @@ use packed::one_more;
 use packed::with_digit;
 
 // The network is one local, changed where it stands. With `once`, the head of the line between two agents is delivered, and that is all; else rounds are
-// made. Rounds left and full rounds made are two figures; a round is full if nothing that waited when it began was missed. After a verdict or a rejection
-// the rest of the round is passed over.
+// made. Rounds left and full rounds made are two figures; a round is full if nothing that waited when it began was missed. A line that meets a 10 is passed
+// over for the rest of the round, and after a verdict or a 9 all lines are. A round in which nothing was delivered ends the work, with 10.
 pub fn work(r: Network, once: bool, sender: u8, receiver: u8, allowed: u64) -> Answer
     requires { ⌜ allowed ≤ 1000000 ⌝ }
     requires { ⌜ (once ≡ true → allowed ≡ 0) ⌝ }
@@ -36,7 +36,7 @@ pub fn work(r: Network, once: bool, sender: u8, receiver: u8, allowed: u64) -> A
     ensures { λ a. ⌜ (a .number ≡ 5 → a .network ≡ r) ⌝ }
 {
     let mut o = r;
-    // the agents, none where the shape is broken; the rejection that is given or was met
+    // the agents, none where the shape is broken; the rejection that the work ends with as it stands, 10 as long as a round has delivered nothing
     let mut n: u8 = 0;
     let mut number: u8 = 5;
     // the sender whose lines are visited, and those of them yet to be visited, a digit for each receiver
@@ -54,6 +54,7 @@ pub fn work(r: Network, once: bool, sender: u8, receiver: u8, allowed: u64) -> A
             if number == 0 {
                 from = sender;
                 rest = one_more(0, receiver);
+                number = 10;
             }
         }
     }
@@ -68,8 +69,8 @@ pub fn work(r: Network, once: bool, sender: u8, receiver: u8, allowed: u64) -> A
     let mut missed = true;
     let mut left = allowed;
     let mut made: u64 = 0;
-    // no verdict and no rejection stands
-    let mut going = (number == 0) & !o.verdict;
+    // no verdict stands, and no rejection but 10
+    let mut going = ((number == 0) | (number == 10)) & !o.verdict;
     loop {
         let visit = next_visit(from, rest, &quota, n);
         from = visit.from;
@@ -110,7 +111,8 @@ pub fn work(r: Network, once: bool, sender: u8, receiver: u8, allowed: u64) -> A
             let backs = step.backs;
             let ends = o.heads[at];
             let mut now = o.counts[at];
-            while !posts.is_empty() & going {
+            let mut room = true;
+            while !posts.is_empty() & room {
                 let p = posts.first(&backs);
                 let message = p.message;
                 let waiting = digit(now, p.to);
@@ -121,12 +123,10 @@ pub fn work(r: Network, once: bool, sender: u8, receiver: u8, allowed: u64) -> A
                     now = one_more(now, p.to);
                     posts = posts.rest();
                 } else {
-                    number = 10;
-                    going = false;
-                    missed = true;
+                    room = false;
                 }
             }
-            if going {
+            if room {
                 o.counts[at] = now;
                 o.heads[row] = with_digit(heads, to, (head + 1) % 8);
                 o.counts[row] = one_less(o.counts[row], to);
@@ -136,6 +136,10 @@ pub fn work(r: Network, once: bool, sender: u8, receiver: u8, allowed: u64) -> A
                 bars[at] = barred;
                 o.verdict = step.verdict;
                 going = !step.verdict;
+                number = 0;
+            } else {
+                rest = with_digit(rest, to, 0);
+                missed = true;
             }
         } else {
             if !missed {
@@ -143,8 +147,8 @@ pub fn work(r: Network, once: bool, sender: u8, receiver: u8, allowed: u64) -> A
             }
             let held = o.counts;
             let waits = waits(held, n);
-            if !going | !waits | (left == 0) {
-                let ending = ending_at(o.verdict, waits, number);
+            if o.verdict | (number != 0) | !waits | (left == 0) {
+                let ending = ending_at(once, o.verdict, waits, number);
                 if !once & (number != 5) {
                     number = 0;
                 }
@@ -158,6 +162,7 @@ pub fn work(r: Network, once: bool, sender: u8, receiver: u8, allowed: u64) -> A
             left -= 1;
             quota = held;
             missed = false;
+            number = 10;
             from = 0;
         }
     }

@@ -94,9 +94,9 @@ pub fn waits(counts: [u64; 12], n: u8) -> bool
     false
 }
 
-// How the network stands: a broken shape comes first, then the verdict, then nothing waiting, then the rejection that was met.
-pub fn ending_at(verdict: bool, waits: bool, number: u8) -> Ending
-    ensures { λ e. ⌜ ((f : Option Rejection) → number ≡ numberFor f → endingOf e ≡ endsBy verdict (not waits) f) ⌝ }
+// How the network stands: a broken shape comes first, then the verdict, then nothing waiting, then what stopped a run.
+pub fn ending_at(once: bool, verdict: bool, waits: bool, number: u8) -> Ending
+    ensures { λ e. ⌜ ((f : Option Rejection) → number ≡ numberFor f → endingOf e ≡ endsBy once verdict (not waits) f) ⌝ }
 {
     if number == 5 {
         return Ending::Broken;
@@ -106,6 +106,9 @@ pub fn ending_at(verdict: bool, waits: bool, number: u8) -> Ending
     }
     if !waits {
         return Ending::Plan;
+    }
+    if once {
+        return Ending::Open;
     }
     if number == 9 {
         return Ending::Faulty;

@@ -8,5 +8,6 @@ pub mod Start
 pub mod StartShape
 pub mod Runs
 pub mod Shape
+pub mod Passing
 pub mod Visits
 pub mod RunFaults

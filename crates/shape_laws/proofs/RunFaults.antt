@@ -1,5 +1,5 @@
--- Inside a run on a network in shape no try is rejected with 5 to 8: a round tries each line as often as it held a message when the round
--- began, and a channel loses a message only to a try of its own line, so every try finds one.
+-- Inside a run on a network in shape no try is rejected with 5 to 8, and nothing but a 9 stops a round: a round tries each line at most as often as it held a
+-- message when the round began, and a channel loses a message only to a try of its own line, so every try finds one.
 use mathlib.Core.Path.{_≡_, refl, sym, _∙_}
 use mathlib.Core.Logic.{_⊎_, inl, inr}
 use mathlib.Core.List.{List, [], _∷_}
@@ -12,14 +12,30 @@ use lib.Dec.{eqb}
 use borrow.Author.Tests.{eqb-true}
 use Rattle.base.specs.Finite.{at}
 use Rattle.base.proofs.Tests.{test, no-some, to-within, or-false-both, to-both}
-use Rattle.base.proofs.Lists.{All, All-map, gather-all}
+use Rattle.base.proofs.Lists.{All, All-map, All-append, gather-all}
 use Rattle.base.proofs.Counting.{countIf}
 use Rattle.agent_rules.specs.Message.{Message, Info, Back, AddLink, sentTo}
 use Rattle.agent_rules.specs.Agent.{Step}
 use Rattle.protocol.specs.Network.{Network, withStep, withChannel, handed}
 use Rattle.protocol.specs.Shape.{inShape}
-use Rattle.protocol.specs.Delivery.{Rejection, BadShape, BadNumbers, VerdictStands, EmptyChannel, AlreadyInformed, NoRoom, Accepted, Rejected, Delivery, rejecting, numbersGood, deliver}
-use Rattle.protocol.specs.Run.{Line, Sweep, beginRound, stopped, faultOf, tally, attempt, sweep, round, visits, isLine}
+use Rattle.protocol.specs.Delivery.{
+  Rejection,
+  BadShape,
+  BadNumbers,
+  VerdictStands,
+  EmptyChannel,
+  AlreadyInformed,
+  NoRoom,
+  rejectionNumber,
+  Answer,
+  Accepted,
+  Rejected,
+  Delivery,
+  rejecting,
+  numbersGood,
+  deliver,
+}
+use Rattle.protocol.specs.Run.{Line, Sweep, beginRound, stopped, isNoRoom, stopFor, tally, skipped, attempt, sweep, round, visits, isLine}
 use Rattle.shape_laws.proofs.Handing.{Handing, OnChannel, hit, put, rest, on-channel, handing}
 use Rattle.shape_laws.proofs.Outcome.{Outcome, refused, accepted, outcome, numbers}
 use Rattle.shape_laws.proofs.ShapeClauses.{MessageShaped, Shaped, shaped}
@@ -102,33 +118,53 @@ supplied-next l ls w d (taken m others h a e) s =
 
 -- ---- along a round
 
+-- the rejection that stops a round
 abbrev pub MayFault : Option Rejection → Type 0
-MayFault o = (r : Rejection) → o ≡ some r → RunFault r
+MayFault o = (r : Rejection) → o ≡ some r → r ≡ AlreadyInformed
 
-running : (s : Sweep) → stopped s ≡ false → s .network .verdict ≡ false
-unfolding stopped
-running s e = or-false-both (s .network .verdict) _ e .0
+-- what a try of a round is answered
+abbrev pub MayMeet : Answer → Type 0
+MayMeet Accepted = Unit {0}
+MayMeet (Rejected r) = RunFault r
+
+pub running : (s : Sweep) (l : Line) → skipped s l ≡ false → s .network .verdict ≡ false
+unfolding skipped stopped
+running s l e = or-false-both (s .network .verdict) _ (or-false-both (stopped s) _ e .0) .0
 
 pub attempt-supplied : (s : Sweep) (l : Line) (ls : List Line) → inShape (s .network) ≡ true → Supplied (l ∷ ls) (s .network)
     → Supplied ls (attempt s l .network)
 unfolding attempt tally
 attempt-supplied s l ls h f =
-    test (stopped s)
+    test (skipped s l)
     (λ e. rw (e, attempt) (supplied-tail l ls (s .network) f))
-    (λ e. rw (e, attempt) (supplied-next l ls (s .network) _ (next-tried l ls (s .network) h (running s e) f) f))
+    (λ e. rw (e, attempt) (supplied-next l ls (s .network) _ (next-tried l ls (s .network) h (running s l e) f) f))
 
-tried-fault : (w : Network) (i j : ℕ) (d : Delivery) → Tried w i j d → MayFault (faultOf (d .answer))
-unfolding faultOf
-tried-fault w i j d (turned r f a e) = rw a (λ t q. let is : r ≡ t = cc in rw (← is) f)
+tried-fault : (w : Network) (i j : ℕ) (d : Delivery) → Tried w i j d → MayFault (stopFor (d .answer))
+unfolding stopFor isNoRoom rejectionNumber
+tried-fault w i j d (turned r (inl f) a e) = rw (a, f) (λ t q. let is : AlreadyInformed ≡ t = cc in sym is)
+tried-fault w i j d (turned r (inr f) a e) = rw (a, f) (λ t q. no-some q)
 tried-fault w i j d (taken m others h a e) = rw a (λ t q. no-some q)
+
+tried-meets : (w : Network) (i j : ℕ) (d : Delivery) → Tried w i j d → MayMeet (d .answer)
+tried-meets w i j d (turned r f a e) = rw a f
+tried-meets w i j d (taken m others h a e) = rw a tt
 
 pub attempt-faults : (s : Sweep) (l : Line) (ls : List Line) → inShape (s .network) ≡ true → Supplied (l ∷ ls) (s .network)
     → MayFault (s .fault) → MayFault (attempt s l .fault)
 unfolding attempt tally
 attempt-faults s l ls h f m =
-    test (stopped s)
+    test (skipped s l)
     (λ e. rw (e, attempt) m)
-    (λ e. rw (e, attempt) (tried-fault (s .network) (l .from) (l .to) _ (next-tried l ls (s .network) h (running s e) f)))
+    (λ e. rw (e, attempt) (tried-fault (s .network) (l .from) (l .to) _ (next-tried l ls (s .network) h (running s l e) f)))
+
+attempt-meets : (s : Sweep) (l : Line) (ls : List Line) → inShape (s .network) ≡ true → Supplied (l ∷ ls) (s .network)
+    → All (λ t. MayMeet (t .answer)) (s .tried) → All (λ t. MayMeet (t .answer)) (attempt s l .tried)
+unfolding attempt tally
+attempt-meets s l ls h f m =
+    test (skipped s l)
+    (λ e. rw (e, attempt) m)
+    (λ e. rw (e, attempt) (All-append _ (s .tried) _ m
+    (tried-meets (s .network) (l .from) (l .to) _ (next-tried l ls (s .network) h (running s l e) f), tt)))
 
 pub sweep-faults : (s : Sweep) (ls : List Line) → inShape (s .network) ≡ true → Supplied ls (s .network) → MayFault (s .fault)
     → MayFault (sweep s ls .fault)
@@ -136,6 +172,13 @@ unfolding sweep
 sweep-faults s [] h f m = m
 sweep-faults s (l ∷ ls) h f m =
     sweep-faults (attempt s l) ls (attempt-keeps s l h) (attempt-supplied s l ls h f) (attempt-faults s l ls h f m)
+
+sweep-meets : (s : Sweep) (ls : List Line) → inShape (s .network) ≡ true → Supplied ls (s .network) → All (λ t. MayMeet (t .answer)) (s .tried)
+    → All (λ t. MayMeet (t .answer)) (sweep s ls .tried)
+unfolding sweep
+sweep-meets s [] h f m = m
+sweep-meets s (l ∷ ls) h f m =
+    sweep-meets (attempt s l) ls (attempt-keeps s l h) (attempt-supplied s l ls h f) (attempt-meets s l ls h f m)
 
 -- ---- the visits of a round
 
@@ -152,7 +195,7 @@ own-empty w S i lo hi = empty (w .channel i i) (S .channels i i lo (omega (arith
     empty [] h = refl
     empty (m ∷ ms) h = absurd (never m (h .0))
 
-replicate-all : (P : Line → Type 0) (n : ℕ) (l : Line) → (1 ≤ n → P l) → All P (replicate n l)
+pub replicate-all : (P : Line → Type 0) (n : ℕ) (l : Line) → (1 ≤ n → P l) → All P (replicate n l)
 replicate-all P zero l f = tt
 replicate-all P (suc n) l f = (f (omega arith), replicate-all P n l (λ _. f (omega arith)))
 
@@ -173,7 +216,12 @@ visits-lines w S =
 pub visits-supplied : (w : Network) → inShape w ≡ true → Supplied (visits w) w
 visits-supplied w h = record { lines = visits-lines w (shaped w h); enough = visits-most w }
 
--- the fault of a round is AlreadyInformed or NoRoom
+-- what stops a round is AlreadyInformed
 pub run-faults : (w : Network) → inShape w ≡ true → MayFault (round w .fault)
 unfolding round beginRound
 run-faults w h = sweep-faults (beginRound w) (visits w) h (visits-supplied w h) (λ r e. no-some e)
+
+-- every try of a round is accepted, or rejected with AlreadyInformed or NoRoom
+pub run-meets : (w : Network) → inShape w ≡ true → All (λ t. MayMeet (t .answer)) (round w .tried)
+unfolding round beginRound
+run-meets w h = sweep-meets (beginRound w) (visits w) h (visits-supplied w h) tt

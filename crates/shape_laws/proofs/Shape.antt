@@ -6,7 +6,7 @@ use Prim.Native.Nat.{ℕ}
 use Rattle.base.proofs.Tests.{test}
 use Rattle.protocol.specs.Network.{Network}
 use Rattle.protocol.specs.Shape.{inShape}
-use Rattle.protocol.specs.Run.{Line, Sweep, beginRound, stopped, tally, attempt, sweep, round, visits, run}
+use Rattle.protocol.specs.Run.{Line, Sweep, beginRound, tally, skipped, attempt, sweep, round, visits, run}
 use Rattle.shape_laws.proofs.Runs.{kept-by-rounds}
 pub use Rattle.shape_laws.proofs.DeliverShape.{deliver-keeps}
 pub use Rattle.shape_laws.proofs.StartShape.{start-in-shape}
@@ -14,7 +14,7 @@ pub use Rattle.shape_laws.proofs.StartShape.{start-in-shape}
 pub attempt-keeps : (s : Sweep) (l : Line) → inShape (s .network) ≡ true → inShape (attempt s l .network) ≡ true
 unfolding attempt tally
 attempt-keeps s l h =
-    test (stopped s) (λ e. rw (e, attempt) h) (λ e. rw (e, attempt) (deliver-keeps (s .network) (l .from) (l .to) h))
+    test (skipped s l) (λ e. rw (e, attempt) h) (λ e. rw (e, attempt) (deliver-keeps (s .network) (l .from) (l .to) h))
 
 pub sweep-keeps : (s : Sweep) (ls : List Line) → inShape (s .network) ≡ true → inShape (sweep s ls .network) ≡ true
 unfolding sweep

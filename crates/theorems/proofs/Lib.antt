@@ -21,9 +21,11 @@ pub mod Counting
 pub mod RoundBound
 pub mod Waiting
 pub mod Swept
+pub mod Standing
 pub mod Replay
 pub mod Visits
 pub mod Markings
 pub mod RunRounds
 pub mod CallMarking
+pub mod Jams
 pub mod Theorems

@@ -5,18 +5,18 @@ use mathlib.Core.Bool.{true, false}
 use mathlib.Core.List.{List, [], _∷_, _++_, map, map-append, append-nil, append-assoc}
 use Prim.Native.Nat.{ℕ, _+_}
 use native.Mathlib.Omega.{arith}
-use Rattle.base.proofs.Counting.{countIf, sublist-whole, sublist-full}
+use Rattle.base.proofs.Counting.{sublist-whole, sublist-full}
 use Rattle.problem.specs.Problem.{Problem, inRange}
 use Rattle.protocol.specs.Network.{Network, start}
 use Rattle.protocol.specs.Run.{Line, idle, round, Round, oneIf, run, isLine}
-use Rattle.theorems.specs.Calls.{lineOf, triesOf, triedByAll, replay, acceptedOn, Stretch, linesOf, markedIn, ExactlyFull, roundStretch}
+use Rattle.theorems.specs.Calls.{lineOf, triesOf, triedByAll, replay, Stretch, linesOf, markedIn, ExactlyFull, roundStretch}
 use Rattle.theorems.specs.Claims.{RunsCount, EveryProblem}
 use Rattle.theorems.proofs.Moves.{Invariant}
 use Rattle.theorems.proofs.Rounds.{Full}
 use Rattle.theorems.proofs.Reached.{reached}
-use Rattle.theorems.proofs.Tries.{replay-append, acceptedIn, accepted-count}
+use Rattle.theorems.proofs.Tries.{replay-append}
 use Rattle.shape_laws.proofs.Runs.{roundOf, kept-by-rounds}
-use Rattle.theorems.proofs.Swept.{round-swept, counts-if, counts-only-if}
+use Rattle.theorems.proofs.Swept.{round-swept, accepted-on, counts-if, counts-only-if}
 use Rattle.theorems.proofs.Replay.{FollowsRounds, rounds-none, rounds-more, calls-replay}
 use Rattle.shape_laws.proofs.Lines.{is-line}
 use Rattle.shape_laws.proofs.Visits.{visits-most}
@@ -24,11 +24,6 @@ use Rattle.theorems.proofs.Visits.{visits-all, busy-waits}
 use Rattle.theorems.proofs.Markings.{marked-append, from-full, to-full}
 
 -- ---- one round
-
-accepted-on : (w : Network) (i j : ℕ)
-    → acceptedOn i j (map lineOf (roundOf w .tried)) w ≡ countIf (isLine i j) (acceptedIn (roundOf w .tried))
-unfolding roundOf
-accepted-on w i j = accepted-count i j (round w .tried) w (round-swept w .follows .sees)
 
 counted-full : (p : Problem) (w : Network) → Invariant p w → idle w ≡ false → roundOf w .full ≡ true
     → Full (map lineOf (roundOf w .tried)) w

@@ -2,16 +2,25 @@
 use mathlib.Core.Path.{_≡_, refl, sym, _∙_, subst}
 use mathlib.Core.Bool.{true}
 use mathlib.Core.List.{List, [], _∷_, _++_, map, map-append, append-nil, append-assoc}
+use Prim.Native.Nat.{ℕ}
 use lib.ListN.{length, length-append}
 use borrow.Author.Tests.{eqb-true, eq-eqb}
 use Rattle.base.proofs.Tests.{test}
-use Rattle.base.proofs.Counting.{Sublist, empty, kept, omitted, sublist-append}
+use Rattle.base.proofs.Counting.{countIf, Sublist, empty, kept, omitted, sublist-append}
 use Rattle.protocol.specs.Network.{Network}
 use Rattle.protocol.specs.Delivery.{Answer, Accepted, Rejected, isAccepted, deliver}
-use Rattle.protocol.specs.Run.{Line, Try, visits, Sweep, beginRound, stopped, counts, tally, attempt, sweep, round, isFull}
+use Rattle.protocol.specs.Run.{Line, isLine, Try, visits, Sweep, beginRound, counts, tally, skipped, attempt, sweep, round, isFull}
 use Rattle.shape_laws.proofs.Runs.{roundOf}
-use Rattle.theorems.specs.Calls.{lineOf, answerOf, attemptOf}
-use Rattle.theorems.proofs.Tries.{Follows, follows-none, follows-one, follows-append, acceptedIn, accepted-append}
+use Rattle.theorems.specs.Calls.{lineOf, answerOf, attemptOf, acceptedOn}
+use Rattle.theorems.proofs.Tries.{
+  Follows,
+  follows-none,
+  follows-one,
+  follows-append,
+  acceptedIn,
+  accepted-append,
+  accepted-count,
+}
 
 -- ---- a round
 
@@ -31,7 +40,7 @@ one-more l (Rejected r) = (refl, omitted empty)
 swept-attempt : (w : Network) (ls : List Line) (s : Sweep) (l : Line) → Swept w ls s → Swept w (ls ++ (l ∷ [])) (attempt s l)
 unfolding attempt tally lineOf answerOf attemptOf
 swept-attempt w ls s l S =
-    test (stopped s)
+    test (skipped s l)
     (λ h. rw (h, attempt) (record {
       follows = S .follows;
       delivered = S .delivered;
@@ -58,6 +67,12 @@ pub round-swept : (w : Network) → Swept w (visits w) (round w)
 unfolding round beginRound acceptedIn
 round-swept w =
     swept w [] (visits w) (beginRound w) (record { follows = follows-none w; delivered = refl; within = empty })
+
+-- the accepted deliveries of one line
+pub accepted-on : (w : Network) (i j : ℕ)
+    → acceptedOn i j (map lineOf (roundOf w .tried)) w ≡ countIf (isLine i j) (acceptedIn (roundOf w .tried))
+unfolding roundOf
+accepted-on w i j = accepted-count i j (round w .tried) w (round-swept w .follows .sees)
 
 -- ---- whether it counts
 

@@ -24,6 +24,9 @@ use Rattle.theorems.specs.Claims.{
   Replay,
   DeliverKeeps,
   RunKeeps,
+  JammedExactly,
+  NoneAfterNothing,
+  RoundsUsed,
   EveryProblem,
   EverySheet,
 }
@@ -36,6 +39,7 @@ use Rattle.theorems.proofs.Markings.{marking-rounds}
 use Rattle.theorems.proofs.RoundBound.{round-bound-lines}
 use Rattle.theorems.proofs.RunRounds.{run-counts}
 use Rattle.theorems.proofs.CallMarking.{marking, marking-lines, marking-full, marking-made}
+use Rattle.theorems.proofs.Jams.{jammed-exactly as jammed, none-after-nothing as none-after, rounds-used as used}
 
 -- Demand 2: a network reached with nothing waiting and no verdict breaks no ban.
 pub sound-at-rest : EveryProblem SoundAtRest
@@ -128,3 +132,17 @@ run-keeps = ran
 
 pub replays : Replay
 replays = run-replays
+
+-- ---- the word of a run, on every network
+
+-- `jammed` is said exactly when a whole round delivered nothing while something waits,
+pub jammed-exactly : JammedExactly
+jammed-exactly = jammed
+
+-- .. and at once,
+pub none-after-nothing : NoneAfterNothing
+none-after-nothing = none-after
+
+-- and `open` only with all rounds used.
+pub rounds-used : RoundsUsed
+rounds-used = used

@@ -2,14 +2,17 @@
 use Prim.Native.Nat.{ℕ, _+_, _≤_}
 use mathlib.Core.Path.{_≡_}
 use mathlib.Core.Bool.{Bool, true, false, _&&_}
+use mathlib.Core.Logic.{_⊎_}
 use mathlib.Core.List.{List, [], _∷_, _++_, map}
 use lib.ListN.{length, drop}
 use lib.Dec.{eqb}
+use Rattle.base.specs.Finite.{any}
+use Rattle.base.specs.Lists.{All}
 use Rattle.problem.specs.Problem.{Problem}
 use Rattle.agent_rules.specs.Message.{Message, sentTo}
 use Rattle.protocol.specs.Network.{Network, start}
-use Rattle.protocol.specs.Delivery.{Answer, isAccepted, Delivery, deliver}
-use Rattle.protocol.specs.Run.{Line, isLine, Try, Round, oneIf, run}
+use Rattle.protocol.specs.Delivery.{Answer, isAccepted, Delivery, numbersGood, deliver}
+use Rattle.protocol.specs.Run.{Line, isLine, Try, passedBy, Round, oneIf, run}
 
 -- ---- calls
 
@@ -135,3 +138,19 @@ ExactlyFull p before (s ∷ ss) =
 -- a run's own rounds: "those in which it visits the lines"
 unfoldable pub roundStretch : Round → Stretch
 roundStretch r = record { lines = map lineOf (r .tried); marked = r .full }
+
+-- ---- a run's round that stood still
+
+-- In a round from w the line from i to j was visited until all that it held when the round began was delivered, or until it was refused with 10.
+abbrev pub VisitedThrough : Network → Round → ℕ → ℕ → Type 0
+VisitedThrough w r i j =
+    (length (w .channel i j) ≤ acceptedOn i j (map lineOf (r .tried)) w)
+    ⊎ (any (passedBy (record { from = i; to = j })) (r .tried) ≡ true)
+
+-- the round was whole: every line was
+abbrev pub Whole : Network → Round → Type 0
+Whole w r = (i j : ℕ) → numbersGood w i j ≡ true → VisitedThrough w r i j
+
+-- it delivered nothing
+abbrev pub DeliveredNothing : Round → Type 0
+DeliveredNothing r = All (λ t. isAccepted (t .answer) ≡ false) (r .tried)

@@ -2,7 +2,8 @@
 use Prim.Native.Nat.{ℕ, _+_, _*_, _^_, _≤_}
 use mathlib.Core.Path.{_≡_}
 use mathlib.Core.Bool.{true, false}
-use mathlib.Core.List.{List, [], map}
+use mathlib.Core.List.{List, [], _∷_, _++_, map}
+use lib.ListN.{length}
 use Rattle.base.specs.Lists.{All}
 use Rattle.problem.specs.Problem.{Problem, largestDomain, inRange, Obeys}
 use Rattle.problem.specs.Sheet.{Valid, decode}
@@ -10,7 +11,7 @@ use Rattle.agent_rules.specs.Sorts.{IsAddLink, Not, OneLink}
 use Rattle.protocol.specs.Network.{Network, start}
 use Rattle.protocol.specs.Shape.{inShape}
 use Rattle.protocol.specs.Delivery.{deliver}
-use Rattle.protocol.specs.Run.{idle, run}
+use Rattle.protocol.specs.Run.{idle, Round, Jammed, Open, allowed, run}
 use Rattle.theorems.specs.Calls.{
   Call,
   triesOf,
@@ -26,6 +27,8 @@ use Rattle.theorems.specs.Calls.{
   AllFull,
   ExactlyFull,
   roundStretch,
+  Whole,
+  DeliveredNothing,
 }
 
 -- 16 × n × (d + 2)^n
@@ -103,6 +106,37 @@ DeliverKeeps = (w : Network) (i j : ℕ) → inShape w ≡ true → inShape (del
 
 abbrev pub RunKeeps : Type 0
 RunKeeps = (k : ℕ) (w : Network) → inShape w ≡ true → inShape (run k w .network) ≡ true
+
+-- ---- the word of a run, on every network, forged ones too
+
+-- The last round that a run made was whole, it delivered nothing, and something waits.
+pub record StoodStill (k : ℕ) (w : Network) : Type 0 where
+  pub before : List Round
+  pub last : Round
+  pub rounds : run k w .rounds ≡ before ++ (last ∷ [])
+  pub whole : Whole (replay (triesOf before) w) last
+  pub nothing : DeliveredNothing last
+  pub waits : idle (run k w .network) ≡ false
+
+-- "`jammed` where a whole round delivered nothing while something waits"
+abbrev pub JammedExactly : Type 0
+JammedExactly =
+    (k : ℕ) (w : Network) → (run k w .ending ≡ Jammed → StoodStill k w) × (StoodStill k w → run k w .ending ≡ Jammed)
+
+-- .. and at once: no round comes after one that delivered nothing.
+abbrev pub NoneAfterNothing : Type 0
+NoneAfterNothing =
+    (k : ℕ) (w : Network) (before : List Round) (r next : Round) (others : List Round)
+    → run k w .rounds ≡ before ++ (r ∷ next ∷ others) → DeliveredNothing r → ⊥
+
+-- "Each visit of all lines uses one of the allowed rounds": a run makes no more rounds than it may use, full or not, and one that ends `open` has
+-- used them all.
+pub record UsesRounds (k : ℕ) (w : Network) : Type 0 where
+  pub most : length (run k w .rounds) ≤ allowed k
+  pub all : run k w .ending ≡ Open → length (run k w .rounds) ≡ allowed k
+
+abbrev pub RoundsUsed : Type 0
+RoundsUsed = (k : ℕ) (w : Network) → UsesRounds k w
 
 -- ---- for which problems
 

@@ -1,15 +1,15 @@
 -- From one sender to the next that has some, the visits ahead stay; then the first of them is taken.
 use Prim.Native.Nat.{_-_, _≤_, _<_}
-use mathlib.Core.Bool.{true, false, false≢true, _&&_}
+use mathlib.Core.Bool.{false≢true}
 use mathlib.Core.Path.{_≡_, refl, sym, _∙_}
 use native.Mathlib.Omega.{arith}
-use lib.Dec.{eqb, ltb}
+use lib.Dec.{eqb}
 use borrow.Author.Needs.{needs}
 use borrow.Author.Tests.{eqb-true, ltb-true, eq-eqb, ltb-false}
 use Rattle.base.proofs.Tests.{both}
 use Rattle.packed.proofs.Known.{known-true}
 use Rattle.run.specs.Lines.{ahead}
-use Rattle.run.proofs.Ahead.{ahead-next, ahead-down, ahead-none}
+use Rattle.run.proofs.Ahead.{ahead-next, visit-lowest, ahead-down, ahead-none}
 use Rattle.run.proofs.lines.next_visit.Statement.{statement}
 use Rattle.run.proofs.lines.next_visit.Tie as tie
 
@@ -57,6 +57,7 @@ returns c =
       over = λ _. v .1 ∙ ahead-none _ _ _ _ (c .if1 .taken) (ltb-false _ _ (rw (eq-eqb (c .before .before .loop .rest) 0 (c .if1 .taken)) at (c .before .loop-test .left)));
       empty = λ _. refl;
       some = λ e. absurd (false≢true (sym e));
+      least = λ e. absurd (false≢true (sym e));
     }
 
 first-digit-requires : tie.Need-first-digit-requires Inv-loop μ-loop
@@ -75,6 +76,7 @@ returns-2 c =
       over = λ e. absurd (false≢true e);
       empty = λ e. absurd (false≢true e);
       some = λ _. v .1 ∙ ahead-next _ _ _ _ _ _ (c .before .first-digit .ensures .0) (c .one-less .ensures .0);
+      least = λ _. visit-lowest _ _ _ (c .before .first-digit .ensures .0) (c .one-less .ensures .0);
     }
 
 pub next-visit-spec : {M : Type 1} → statement M
