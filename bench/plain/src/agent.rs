@@ -78,16 +78,40 @@ impl Agent {
         (self.banned[0] | self.banned[1]) >> v & LOWEST != 0
     }
 
-    /// The lowest-numbered agent whose known value bans the own value of bit `v`. Only where
+    /// Whom to blame for the own value of bit `v`: of the agents whose known value bans it, the
+    /// lowest-numbered one that some nogood names already, else the lowest-numbered. Only where
     /// there is one.
     #[inline(always)]
-    fn lowest_banning(&self, v: usize) -> usize {
+    fn blamed(&self, v: usize) -> usize {
         let low = self.banned[0] >> v & LOWEST;
-        if low != 0 {
-            low.trailing_zeros() as usize / 8
-        } else {
-            8 + (self.banned[1] >> v & LOWEST).trailing_zeros() as usize / 8
+        let high = self.banned[1] >> v & LOWEST;
+        let lowest =
+            if low != 0 { low.trailing_zeros() as usize / 8 } else { 8 + high.trailing_zeros() as usize / 8 };
+        // Nobody else: neither word has a mark beside that one.
+        if low & low.wrapping_sub(1) | high & high.wrapping_sub(u64::from(low == 0)) == 0 {
+            return lowest;
         }
+        let named = self.union();
+        for (mut marks, first) in [(low, 0), (high, 8)] {
+            while marks != 0 {
+                let agent = first + marks.trailing_zeros() as usize / 8;
+                if named.names(agent) {
+                    return agent;
+                }
+                marks &= marks - 1;
+            }
+        }
+        lowest
+    }
+
+    /// The nogoods joined.
+    #[inline(always)]
+    fn union(&self) -> Assignment {
+        let mut union = 0;
+        for (v, nogood) in self.nogoods.iter().enumerate() {
+            union |= if self.stored >> v & 1 != 0 { nogood.0 } else { 0 };
+        }
+        Assignment(union)
     }
 
     /// Sets the view of one agent, 0 for unknown.
@@ -192,10 +216,10 @@ impl Agent {
             // The values below the lowest free one; all where none is free.
             let tried = self.values & (free.wrapping_sub(1) & !free);
             let mut blaming = banned & tried;
-            self.stored |= blaming;
             while blaming != 0 {
                 let v = blaming.trailing_zeros() as usize & 7;
-                self.nogoods[v] = self.view.only(self.lowest_banning(v));
+                self.nogoods[v] = self.view.only(self.blamed(v));
+                self.stored |= 1 << v;
                 blaming &= blaming - 1;
             }
             if free != 0 {
@@ -203,11 +227,7 @@ impl Agent {
                 out.send::<CHECKED>(self.informs, Message::Info { value: self.value })?;
                 return Ok(Step::Settled);
             }
-            let mut union = 0;
-            for (v, nogood) in self.nogoods.iter().enumerate() {
-                union |= if self.values >> v & 1 != 0 { nogood.0 } else { 0 };
-            }
-            let union = Assignment(union);
+            let union = self.union();
             if union.is_empty() {
                 self.value = 0;
                 return Ok(Step::Verdict);

@@ -1,7 +1,7 @@
--- What a view bars, read off the bytes: whom to blame for an own value, and the bytes after a change of the view.
+-- What a view bars, read off the bytes: the lowest agent that bars an own value, and the bytes after a change of the view.
 use Prim.Native.Nat.{ℕ, pred, _*_, _-_, _^_, _≤_}
-use mathlib.Core.Path.{_≡_, _∙_}
-use mathlib.Core.Bool.{false, _&&_}
+use mathlib.Core.Path.{_≡_, refl, ap, _∙_}
+use mathlib.Core.Bool.{Bool, false, _&&_}
 use mathlib.Core.List.{List}
 use native.Mathlib.Nat.{zero-div}
 use native.Mathlib.Numerals.{sub-one}
@@ -16,7 +16,7 @@ use Rattle.base.proofs.Bits.{bit-of-zero, bit-field}
 use Rattle.problem.specs.Problem.{maxDomain, bitAt}
 use Rattle.agent_rules.specs.Message.{Assignment, known}
 use Rattle.agent_rules.specs.Agent.{Bans, above}
-use Rattle.agent_rules.specs.Choosing.{bars, blame}
+use Rattle.agent_rules.specs.Choosing.{bars}
 use Rattle.agent_rules.specs.Shape.{maxNamed}
 use Rattle.agent.specs.Abstract.{selfOf, byte, byteOf, bansIn}
 use Rattle.agent.specs.Entries.{OwnFits, ViewFits, Barring}
@@ -33,13 +33,22 @@ unfolding bars
 unnamed own bans view viewed w k low high over =
     test (known (view k)) (λ t. absurd (omega (arith, viewed k low high t .0))) (λ t. rw t)
 
-pub blamed : (own : Own) (bans : Bans) (view : Assignment) (b : Bars) → Barring bans view b → OwnFits own → ViewFits own view
-    → (w : ℕ) → 1 ≤ w → w ≤ maxDomain → lowest maxNamed 1 (λ k. bit (byteOf b k) (pred w)) ≡ blame (selfOf own) bans view w
-unfolding blame above maxNamed selfOf
-blamed own bans view b barring fits viewed w low high =
-    lowest-shorter 16 (pred (own .number)) 1 (λ k. bit (byteOf b k) (pred w)) (bars bans view w) (omega (arith, fits .last))
-    (λ k l h. barring k w l (omega (arith, fits .last)) low high)
-    (λ k l h. barring k w (omega arith) (omega arith) low high ∙ unnamed own bans view viewed w k (omega arith) (omega arith) (omega arith))
+-- the lowest agent that bars an own value, whatever else is asked of it
+pub lowest-barring : (own : Own) (bans : Bans) (view : Assignment) (b : Bars) → Barring bans view b → OwnFits own → ViewFits own view
+    → (w : ℕ) → 1 ≤ w → w ≤ maxDomain → (f : ℕ → Bool → Bool) → ((k : ℕ) → f k false ≡ false)
+    → lowest maxNamed 1 (λ k. f k (bit (byteOf b k) (pred w))) ≡ lowest (above (selfOf own)) 1 (λ k. f k (bars bans view w k))
+unfolding above maxNamed selfOf
+lowest-barring own bans view b barring fits viewed w low high f strict =
+    lowest-shorter 16 (pred (own .number)) 1 (λ k. f k (bit (byteOf b k) (pred w))) (λ k. f k (bars bans view w k)) (omega (arith, fits .last))
+    (λ k l h. ap (f k) (barring k w l (omega (arith, fits .last)) low high))
+    (λ k l h.
+    ap (f k) (barring k w (omega arith) (omega arith) low high ∙ unnamed own bans view viewed w k (omega arith) (omega arith) (omega arith))
+    ∙ strict k)
+
+pub first-barring : (own : Own) (bans : Bans) (view : Assignment) (b : Bars) → Barring bans view b → OwnFits own → ViewFits own view
+    → (w : ℕ) → 1 ≤ w → w ≤ maxDomain → lowest maxNamed 1 (λ k. bit (byteOf b k) (pred w)) ≡ lowest (above (selfOf own)) 1 (bars bans view w)
+first-barring own bans view b barring fits viewed w low high =
+    lowest-barring own bans view b barring fits viewed w low high (λ k t. t) (λ k. refl)
 
 -- ---- a changed view
 

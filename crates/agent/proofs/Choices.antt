@@ -54,12 +54,12 @@ choose-free m v s bans view nogoods e = rw (e, choose)
 module _ (own : Own) (view : Assignment) (b : Bars) (stored : ℕ) (nogoods : List ℕ) (new : Nogoods) (z : ℕ) (fits : OwnFits own)
     (r : Reasoned own view b z (nogoodsOf stored nogoods) new) (h : z < own .domain) (free : leftFree stored b (suc z) ≡ true) where
   no-reason : (bans : Bans) → Barring bans view b → reason (selfOf own) bans view new (suc z) ≡ none
-  unfolding reason
   no-reason bans barring =
-      rw (r .later (suc z) (omega arith))
-      (isSome-false (reason (selfOf own) bans view (nogoodsOf stored nogoods) (suc z))
+      isSome-false (reason (selfOf own) bans view new (suc z))
       (not-true _
-      (sym (left-free own bans view b stored nogoods fits (r .coherent .viewed) barring (suc z) (omega arith) (omega (arith, fits .few))) ∙ free)))
+      (sym (left-free own bans view b stored nogoods new fits (r .coherent .viewed) barring (suc z) (omega arith) (omega (arith, fits .few))
+      (r .later (suc z) (omega arith)))
+      ∙ free))
 
   pub chose-some : Chose own view b (nogoodsOf stored nogoods) (z + 1) new
   unfolding valueOf

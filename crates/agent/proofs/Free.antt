@@ -1,7 +1,7 @@
 -- The values that stored reasons and bytes leave free, as the code's mask has them and as the rule does.
 use Prim.Native.Nat.{ℕ, zero, suc, pred, _+_, _-_, _/_, _^_, _<_, _≤_}
-use mathlib.Core.Path.{_≡_, refl}
-use mathlib.Core.Bool.{not, _||_}
+use mathlib.Core.Path.{_≡_, refl, sym}
+use mathlib.Core.Bool.{Bool, not, _&&_, _||_}
 use mathlib.Core.Option.{Option, none, some}
 use mathlib.Core.List.{List}
 use native.Mathlib.Nat.{not-suc-le-zero, lt-of-le-of-lt}
@@ -12,11 +12,13 @@ use Rattle.base.specs.Bits.{bit}
 use Rattle.base.specs.Finite.{isSome, lowest, fromOne}
 use Rattle.base.proofs.Bits.{bit-or, bit-and}
 use Rattle.base.proofs.Peeling.{bit-shr}
-use Rattle.base.proofs.Tests.{test}
+use Rattle.base.proofs.Tests.{test, opt, both}
+use Rattle.base.proofs.Search.{lowest-some, lowest-range}
+use Rattle.base.proofs.Searches.{isSome-passes}
 use Rattle.problem.specs.Problem.{maxDomain}
 use Rattle.agent_rules.specs.Message.{Assignment}
-use Rattle.agent_rules.specs.Agent.{Bans}
-use Rattle.agent_rules.specs.Choosing.{reason, reasonOf, blaming}
+use Rattle.agent_rules.specs.Agent.{Self, Bans, Nogoods, above}
+use Rattle.agent_rules.specs.Choosing.{bars, named, blame, reason, reasonOf, blaming}
 use Rattle.agent_rules.specs.Shape.{maxNamed}
 use Rattle.agent.specs.Abstract.{byteOf, nogoodAt, selfOf}
 use Rattle.agent.specs.Entries.{OwnFits, ViewFits, Barring}
@@ -24,7 +26,7 @@ use Rattle.packed.specs.Packed.{maskFrom}
 use Rattle.agent.specs.Parts.{nogoodsOf, leftFree}
 use Rattle.agent.specs.declared.Own.{Own}
 use Rattle.agent.specs.declared.Bars.{Bars}
-use Rattle.agent.proofs.Barrings.{blamed}
+use Rattle.agent.proofs.Barrings.{first-barring}
 use Rattle.packed.proofs.Bitwise.{bit-not, bit-ones}
 use Rattle.packed.proofs.Masks.{mask-is}
 use Rattle.agent.proofs.Records.{nogood-stored, nogood-none}
@@ -70,10 +72,24 @@ isSome-stored stored nogoods i =
     (λ e. rw (nogood-stored stored nogoods i e, e))
     (λ e. rw (nogood-none stored nogoods i e, e))
 
-pub left-free : (own : Own) (bans : Bans) (view : Assignment) (b : Bars) (stored : ℕ) (nogoods : List ℕ) → OwnFits own → ViewFits own view
-    → Barring bans view b → (v : ℕ) → 1 ≤ v → v ≤ 8
-    → leftFree stored b v ≡ not (isSome (reason (selfOf own) bans view (nogoodsOf stored nogoods) v))
+-- somebody is to blame exactly where somebody bars the value
+isSome-blame : (s : Self) (bans : Bans) (view : Assignment) (nogoods : Nogoods) (v : ℕ)
+    → isSome (blame s bans view nogoods v) ≡ isSome (lowest (above s) 1 (bars bans view v))
+unfolding blame isSome
+isSome-blame s bans view nogoods v =
+    let p : ℕ → Bool = λ k. bars bans view v k && named s nogoods k in
+    opt (lowest (above s) 1 p)
+    (λ e. rw (e, blame))
+    (λ k e.
+    let r = lowest-range (above s) 1 p k e in
+    rw (e, blame)
+    (sym (isSome-passes (above s) 1 (bars bans view v) k (r .0) (r .1) (both (bars bans view v k) (named s nogoods k) (lowest-some (above s) 1 p k e) .0))))
+
+-- the nogoods as they stand when the value is tried
+pub left-free : (own : Own) (bans : Bans) (view : Assignment) (b : Bars) (stored : ℕ) (words : List ℕ) (nogoods : Nogoods) → OwnFits own
+    → ViewFits own view → Barring bans view b → (v : ℕ) → 1 ≤ v → v ≤ 8 → nogoods v ≡ nogoodsOf stored words v
+    → leftFree stored b v ≡ not (isSome (reason (selfOf own) bans view nogoods v))
 unfolding leftFree reason nogoodsOf fromOne maxDomain
-left-free own bans view b stored nogoods fits viewed barring zero l h = absurd (not-suc-le-zero l)
-left-free own bans view b stored nogoods fits viewed barring (suc v) l h =
-    rw (isSome-reason, isSome-stored, isSome-blaming, ← blamed own bans view b barring fits viewed (suc v) l h)
+left-free own bans view b stored words nogoods fits viewed barring zero l h e = absurd (not-suc-le-zero l)
+left-free own bans view b stored words nogoods fits viewed barring (suc v) l h e =
+    rw (isSome-reason, e, isSome-stored, isSome-blaming, isSome-blame, ← first-barring own bans view b barring fits viewed (suc v) l h)

@@ -17,7 +17,7 @@ use Rattle.base.proofs.Search.{at-same, at-other, allTo-at, to-allTo}
 use Rattle.problem.specs.Problem.{maxDomain}
 use Rattle.agent_rules.specs.Message.{Assignment, known, Info as Info′}
 use Rattle.agent_rules.specs.Agent.{Self, Nogoods, above, agrees}
-use Rattle.agent_rules.specs.Choosing.{blame, after}
+use Rattle.agent_rules.specs.Choosing.{after}
 use Rattle.agent_rules.specs.Receiving.{agreeing, updated, conflicts, onInfo}
 use Rattle.agent_rules.specs.Shape.{maxNamed, anyValue}
 use Rattle.packed.specs.Packed.{assignment, members}
@@ -27,7 +27,7 @@ use Rattle.agent.specs.Parts.{barredAt, nogoodsOf, agentIn, Agreed, Cohe
 use Rattle.agent.specs.declared.Bars.{Bars}
 use Rattle.agent.specs.declared.Own.{Own}
 use Rattle.agent.specs.declared.State.{State}
-use Rattle.agent.proofs.Barrings.{blamed, seen as seen-bytes, barred-at-bits}
+use Rattle.agent.proofs.Barrings.{first-barring, seen as seen-bytes, barred-at-bits}
 use Rattle.agent.proofs.ToSet.{none-in, links-none, news-none}
 use Rattle.agent.proofs.Fits.{member-range, fits-sound}
 use Rattle.agent.proofs.Records.{nogoods-beyond}
@@ -142,12 +142,12 @@ module _ (own : Own) (words : List ℕ) (s : State) (nogoods : List ℕ) (from v
     pub takes-info : (chooses : Bool) → chooses ≡ isSome (lowest maxNamed 1 (λ k. bit (byteOf b k) (pred (s .value))))
         → Takes own (bansIn words) record { state = now; chooses = chooses; links = 0; told = 0 } nogoods
         (onInfo (selfOf own) (bansIn words) (agentIn s nogoods) from v)
-    unfolding conflicts blame agentOf assigned maxDomain
+    unfolding conflicts agentOf assigned maxDomain
     takes-info chooses e =
         record {
           taken =
               taken chooses
-              (e ∙ ap isSome (blamed own (bansIn words) (at (assignment (s .view)) from v) b barring (h .able .fits) (coherent .viewed) (s .value)
+              (e ∙ ap isSome (first-barring own (bansIn words) (at (assignment (s .view)) from v) b barring (h .able .fits) (coherent .viewed) (s .value)
               (valued .0) (valued .1)));
           sound = record { places = h .places; coherent = rw seen-now coherent; downward = sound .downward };
           barring = rw seen-now barring;

@@ -20,6 +20,7 @@ pub mod Spared
 pub mod Unions
 pub mod Views
 pub mod Free
+pub mod Blaming
 pub mod Reasons
 pub mod Choices
 pub mod Settling

@@ -1,12 +1,14 @@
 -- Packed words: one that is not 0 names somebody, and one that names nobody from some agent on is short.
 use Prim.Native.Nat.{ℕ, zero, suc, _*_, _/_, _%_, _^_, _≤_, _<_}
 use mathlib.Core.Bool.{true, false≢true}
-use mathlib.Core.Path.{_≡_, sym, ap, _∙_}
+use mathlib.Core.Path.{_≡_, refl, sym, ap, _∙_}
+use mathlib.Core.Logic.{_≢_}
+use mathlib.Core.Option.{Option, none, some}
 use native.Mathlib.Nat.{pow-suc}
 use native.Mathlib.Omega.{arith}
 use lib.Dec.{leb}
 use borrow.Author.Tests.{leb-true, leb-false}
-use Rattle.base.specs.Finite.{at, fromOne, highest}
+use Rattle.base.specs.Finite.{at, fromOne, highest, isSome}
 use Rattle.base.proofs.Tests.{test, eq-test, opt}
 use Rattle.base.proofs.Search.{highest-some, highest-none, at-same, at-other}
 use Rattle.agent_rules.specs.Message.{Assignment, known, nobody}
@@ -15,6 +17,23 @@ use Rattle.packed.specs.Packed.{digit, assignment, numberOf}
 use Rattle.packed.proofs.Known.{known-true, known-from}
 use Rattle.packed.proofs.Digits.{digit-zero, digit-suc, digit-above, assignment-above, nobody-assigned}
 use Rattle.packed.proofs.Wordwise.{short}
+
+-- ---- a number for one of them, 0 for none
+
+pub number-none : (o : Option ℕ) (k : ℕ) → k ≡ numberOf o → ((j : ℕ) → o ≡ some j → 1 ≤ j) → k ≡ 0 → o ≡ none
+unfolding numberOf
+number-none none k e f z = refl
+number-none (some j) k e f z = absurd (omega (arith, f j refl))
+
+pub number-some : (o : Option ℕ) (k : ℕ) → k ≡ numberOf o → k ≢ 0 → o ≡ some k
+unfolding numberOf
+number-some none k e n = absurd (n e)
+number-some (some j) k e n = rw e
+
+pub number-found : (o : Option ℕ) (k : ℕ) → k ≡ numberOf o → isSome o ≡ true → o ≡ some k
+unfolding numberOf isSome
+number-found none k e h = absurd (false≢true h)
+number-found (some j) k e h = rw e
 
 -- ---- somebody
 

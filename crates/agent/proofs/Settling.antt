@@ -23,6 +23,7 @@ use Rattle.agent.specs.Entries.{OwnFits}
 use Rattle.agent.specs.Parts.{Coherent, keeping}
 use Rattle.agent.specs.declared.Own.{Own}
 use Rattle.packed.proofs.Known.{known-true}
+use Rattle.agent.proofs.Named.{number-none, number-some}
 use Rattle.agent.proofs.Unions.{union-agreed}
 
 -- ---- one turn, once it is known what choosing comes to
@@ -121,16 +122,6 @@ highest-to m (suc n) p h f =
     (λ e. rw e)
     (λ e. rw (f (suc n) (omega (arith, e)) (omega arith), highest) (highest-to m n p (omega (arith, e)) (λ j l u. f j l (omega arith))))
 
--- a number for one of them, 0 for none
-whom-number : (m : ℕ) (p : ℕ → Bool) (k : ℕ) → k ≡ numberOf (highest m p) → k ≡ 0 → highest m p ≡ none
-unfolding numberOf
-whom-number m p k e z =
-    opt (highest m p) (λ n. n) (λ j f. absurd (let q : k ≡ j = rw f at e in omega (arith, highest-some m p j f .1)))
-
-whom-some : (m : ℕ) (p : ℕ → Bool) (k : ℕ) → k ≡ numberOf (highest m p) → k ≢ 0 → highest m p ≡ some k
-unfolding numberOf
-whom-some m p k e n = opt (highest m p) (λ f. absurd (n (rw f at e))) (λ j f. let z : k ≡ j = rw f at e in rw (f, z))
-
 module _ (own : Own) (fits : OwnFits own) (view : Assignment) (nogoods : Nogoods) (c : Coherent own view nogoods) where
   -- whom the union names is known in the view, and above
   pub named-above : (k : ℕ) → 1 ≤ k → k ≤ 16 → known (union (own .domain) nogoods k) ≡ true → (known (view k) ≡ true) × (k < own .number)
@@ -149,11 +140,11 @@ module _ (own : Own) (fits : OwnFits own) (view : Assignment) (nogoods : Nogoods
         (λ j l u. test (known (union (own .domain) nogoods j)) (λ t. absurd (omega (arith, named-above j (omega arith) u t .1))) (λ t. t)))
 
     pub refuses-nobody : k ≡ 0 → whom (selfOf own) nogoods ≡ none
-    refuses-nobody z = whom-number (above (selfOf own)) _ k whom-is z
+    refuses-nobody z = number-none _ k whom-is (λ j f. highest-some (above (selfOf own)) _ j f .1) z
 
     module _ (one : k ≢ 0) where
       pub refuses-one : whom (selfOf own) nogoods ≡ some k
-      refuses-one = whom-some (above (selfOf own)) _ k whom-is one
+      refuses-one = number-some _ k whom-is one
 
       -- the refused agent
       pub refused-known : (1 ≤ k) × (k < own .number) × (known (view k) ≡ true) × (known (union (own .domain) nogoods k) ≡ true)

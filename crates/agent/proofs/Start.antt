@@ -1,15 +1,16 @@
 -- The start: an agent that knows nothing takes the lowest value and tells those below.
 use Prim.Native.Nat.{ℕ, zero, suc, pred, _-_, _≤_}
 use mathlib.Core.Path.{_≡_, refl, ap, ap₂, _∙_, fun-ext}
-use mathlib.Core.Bool.{Bool}
+use mathlib.Core.Bool.{Bool, _&&_}
 use mathlib.Core.Option.{none, some}
 use mathlib.Core.List.{List}
 use native.Mathlib.Omega.{arith}
-use Rattle.base.specs.Finite.{fromOne, lowest}
+use Rattle.base.specs.Finite.{fromOne}
 use Rattle.base.proofs.Bits.{bit-of-zero}
+use Rattle.base.proofs.Searches.{lowest-empty}
 use Rattle.agent_rules.specs.Message.{Assignment, known, nobody}
 use Rattle.agent_rules.specs.Agent.{Self, Bans, Nogoods, noNogoods, unusedAgent, above}
-use Rattle.agent_rules.specs.Choosing.{bars, blame, blaming, reasonOf, reason, choose, choice, chosen, took, settle, checkView}
+use Rattle.agent_rules.specs.Choosing.{bars, named, blame, blaming, reasonOf, reason, choose, choice, chosen, took, settle, checkView}
 use Rattle.agent_rules.specs.Receiving.{fresh, begin}
 use Rattle.packed.specs.Packed.{members}
 use Rattle.agent.specs.Abstract.{assigned, nogoodAt, agentOf, selfOf}
@@ -21,14 +22,15 @@ use Rattle.agent.proofs.ToSet.{news-infos}
 
 -- ---- the rule
 
-nobody-lowest : (m k : ℕ) (bans : Bans) (v : ℕ) → lowest m k (bars bans nobody v) ≡ none
-unfolding lowest bars nobody known
-nobody-lowest zero k bans v = refl
-nobody-lowest (suc m) k bans v = nobody-lowest m (suc k) bans v
+blames-nobody : (s : Self) (bans : Bans) → blame s bans nobody noNogoods 1 ≡ none
+unfolding blame bars nobody known
+blames-nobody s bans =
+    let none-named = lowest-empty (above s) 1 (λ k. bars bans nobody 1 k && named s noNogoods k) (λ j l. refl) in
+    rw (none-named, blame) (lowest-empty (above s) 1 (bars bans nobody 1) (λ j l. refl))
 
 free-first : (s : Self) (bans : Bans) → reason s bans nobody noNogoods 1 ≡ none
-unfolding reason reasonOf blame blaming noNogoods
-free-first s bans = rw (nobody-lowest (above s) 1 bans 1)
+unfolding reason reasonOf blaming noNogoods
+free-first s bans = rw (blames-nobody s bans)
 
 takes-first : (m : ℕ) (s : Self) (bans : Bans) → choose (suc m) 1 s bans nobody noNogoods ≡ record { value = some 1; nogoods = noNogoods }
 unfolding choose

@@ -11,7 +11,7 @@ use Rattle.base.specs.Bits.{bit}
 use Rattle.problem.specs.Problem.{maxDomain}
 use Rattle.agent_rules.specs.Message.{Assignment, known, Message as Message′}
 use Rattle.agent_rules.specs.Agent.{Self, Bans, Nogoods, Agent as Agent′, Step as Step′, above}
-use Rattle.agent_rules.specs.Choosing.{choose, after, checkView}
+use Rattle.agent_rules.specs.Choosing.{blame, choose, after, checkView}
 use Rattle.agent_rules.specs.Receiving.{keepIf, quiet, matches, unheard}
 use Rattle.agent_rules.specs.Shape.{maxNamed, EachNamed, RecordFits, MessageFits, anyValue}
 use Rattle.packed.specs.Packed.{assignment, members}
@@ -101,16 +101,18 @@ leftFree stored b v = not (bit stored (pred v) || isSome (lowest maxNamed 1 (λ 
 abbrev pub Barred : ℕ → Bars → ℕ → Type 0
 Barred stored b m = (v : ℕ) → 1 ≤ v → v ≤ m → leftFree stored b v ≡ false
 
+-- own value w has agent k to blame
+abbrev pub Blames : Own → Bars → Nogoods → ℕ → ℕ → Type 0
+Blames own b nogoods w k =
+    (1 ≤ k) × (k ≤ maxNamed)
+    × ((bans : Bans) (view : Assignment) → Barring bans view b → ViewFits own view → blame (selfOf own) bans view nogoods w ≡ some k)
+
 -- the nogoods with the reasons of the values 1 to m: from there, choosing has only the values above m left to try
 pub record Reasoned (own : Own) (view : Assignment) (b : Bars) (m : ℕ) (old new : Nogoods) : Type 0 where
   pub coherent : Coherent own view new
   pub later : (v : ℕ) → m < v → new v ≡ old v
   pub goes-on : (bans : Bans) → Barring bans view b
       → choose (own .domain - m) (suc m) (selfOf own) bans view new ≡ choose (own .domain) 1 (selfOf own) bans view old
-
--- .. whoever's they are
-abbrev pub ReasonsGiven : Assignment → Bars → ℕ → Nogoods → Nogoods → Type 0
-ReasonsGiven view b m old new = (own : Own) → OwnFits own → m ≤ own .domain → Coherent own view old → Reasoned own view b m old new
 
 -- a value as an option, 0 for none
 unfoldable pub valueOf : ℕ → Option ℕ

@@ -1,10 +1,12 @@
 // What the bans and a view bar.
 ghost use mathlib.Core.Path.{_≡_};
+ghost use mathlib.Core.Bool.{_&&_};
 ghost use Prim.Native.Nat.{ℕ, pred, _+_, _*_, _-_, _≤_, _<_};
 ghost use Rattle.base.specs.Finite.{at, isSome, lowest};
 ghost use Rattle.base.specs.Bits.{bit};
+ghost use Rattle.agent_rules.specs.Message.{known};
 ghost use Rattle.agent_rules.specs.Shape.{maxNamed};
-ghost use Rattle.packed.specs.Packed.{numberOf};
+ghost use Rattle.packed.specs.Packed.{assignment, numberOf};
 ghost use Rattle.agent.specs.Abstract.{byteOf, assigned, bansIn};
 ghost use Rattle.agent.specs.Entries.{Able, ViewFits, Barring};
 ghost use Rattle.agent.specs.Parts.{barredAt};
@@ -86,6 +88,33 @@ impl Bars {
         let high = (self.high >> (w - 1)) & 0x0101_0101_0101_0101;
         if high != 0 {
             return u64::trailing_zeros(high) as u8 / 8 + 9;
+        }
+        0
+    }
+
+    // Agent k bars own value w.
+    fn by(self, k: u8, w: u8) -> bool
+        requires { ⌜ (1 ≤ k) × (k ≤ 16) × (1 ≤ w) × (w ≤ 8) ⌝ }
+        ensures { λ r. ⌜ r ≡ bit (byteOf self k) (pred w) ⌝ }
+    {
+        if k <= 8 {
+            return (self.low >> (8 * (k - 1) + (w - 1))) % 2 == 1;
+        }
+        (self.high >> (8 * (k - 9) + (w - 1))) % 2 == 1
+    }
+
+    // The lowest-numbered agent that bars own value w of those that a word names, 0 where none of them does.
+    pub(crate) fn first_of(self, named: u64, w: u8) -> u8
+        requires { ⌜ (1 ≤ w) × (w ≤ 8) ⌝ }
+        ensures { λ r. ⌜ r ≡ numberOf (lowest maxNamed 1 (λ k. bit (byteOf self k) (pred w) && known (assignment named k))) ⌝ }
+    {
+        let mut rest = named;
+        while rest != 0 {
+            let k = first_digit(rest);
+            if self.by(k, w) {
+                return k;
+            }
+            rest = with_digit(rest, k, 0);
         }
         0
     }

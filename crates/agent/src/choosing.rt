@@ -1,18 +1,21 @@
 // The rules 'Choosing' and 'Backing up'.
 ghost use mathlib.Core.Path.{_≡_};
-ghost use mathlib.Core.Bool.{not};
+ghost use mathlib.Core.Bool.{true, not};
 ghost use mathlib.Core.List.{List};
 ghost use Prim.Native.Nat.{ℕ, pred, _≤_};
 ghost use lib.ListN.{length, getD};
+ghost use Rattle.base.specs.Bits.{bit};
+ghost use Rattle.base.specs.Finite.{lowest, isSome};
 ghost use Rattle.agent_rules.specs.Agent.{Bans};
 ghost use Rattle.agent_rules.specs.Message.{known};
-ghost use Rattle.agent_rules.specs.Choosing.{union, after, checkView};
+ghost use Rattle.agent_rules.specs.Choosing.{lhsOf, union, after, checkView};
 ghost use Rattle.agent_rules.specs.Receiving.{quiet};
+ghost use Rattle.agent_rules.specs.Shape.{maxNamed};
 ghost use Rattle.packed.specs.Packed.{assignment, maskFrom};
-ghost use Rattle.agent.specs.Abstract.{selfOf};
+ghost use Rattle.agent.specs.Abstract.{byteOf, selfOf};
 ghost use Rattle.agent.specs.Posting.{linksTo, newsTo};
 ghost use Rattle.agent.specs.Entries.{OwnFits, Above, Below, Barring, StepsAs};
-ghost use Rattle.agent.specs.Parts.{nogoodsOf, agentIn, stepWith, Coherent, Sound, leftFree, Barred, ReasonsGiven, Chose, ended};
+ghost use Rattle.agent.specs.Parts.{nogoodsOf, agentIn, stepWith, Coherent, Sound, leftFree, Barred, Blames, Reasoned, Chose, ended};
 use crate::Bars;
 use crate::Own;
 use crate::Posts;
@@ -64,13 +67,55 @@ fn free(own: Own, bars: Bars, stored: u8) -> u8
     values & !(stored | bars.all())
 }
 
+// The left sides stored for own values, laid over each other: it names whom some stored reason names.
+fn naming(nogoods: &[u64; 8], domain: u8, stored: u8) -> u64
+    requires { ⌜ domain ≤ 8 ⌝ }
+    ensures { λ r. ⌜ ((k : ℕ) → known (assignment r k) ≡ isSome (lowest domain 1 (λ v. known (lhsOf (nogoodsOf stored (now (nogoods .entry)) v) k)))) ⌝ }
+{
+    let mut all: u64 = 0;
+    let mut i = domain;
+    while 0 < i {
+        i -= 1;
+        if (stored >> i) % 2 == 1 {
+            all = all | nogoods[i as usize];
+        }
+    }
+    all
+}
+
+// Whom to blame for own value w, which some agent bars: "the lowest-numbered one that some stored reason names already, and only if there is none the
+// lowest-numbered of all". The stored reasons are looked at where more than one agent bars it.
+fn blamed(nogoods: &[u64; 8], own: Own, bars: Bars, stored: u8, w: u8) -> u8
+    requires { ⌜ OwnFits own ⌝ }
+    requires { ⌜ (1 ≤ w) × (w ≤ 8) × (isSome (lowest maxNamed 1 (λ k. bit (byteOf bars k) (pred w))) ≡ true) ⌝ }
+    ensures { λ r. ⌜ Blames own bars (nogoodsOf stored (now (nogoods .entry))) w r ⌝ }
+{
+    let first = bars.first(w);
+    if bars.with(first, 0).bars(w) {
+        let k = bars.first_of(naming(nogoods, own.domain, stored), w);
+        if k != 0 {
+            return k;
+        }
+    }
+    first
+}
+
 // The own values 1 to `tried` are gone through upward, none of which is free: "A slot with a stored reason is skipped. A slot banned against a known slot
-// in the view gets the reason "that scanner has that slot", blaming the lowest-numbered such scanner." The left sides met, stored ones and given ones, are
-// joined on the way: after any number of values `whole` is the union of that many.
-fn give_reasons(nogoods: &mut [u64; 8], view: u64, bars: Bars, stored: u8, tried: u8) -> Tried
-    requires { ⌜ (length (now nogoods) ≡ 8) × (tried ≤ 8) × Barred stored bars tried ⌝ }
-    ensures { λ r. ⌜ (length (now (nogoods .exit)) ≡ 8) × ReasonsGiven (assignment view) bars tried (nogoodsOf stored (now (nogoods .entry))) (nogoodsOf (r .stored) (now (nogoods .exit))) ⌝ }
-    ensures { λ r. ⌜ ((own : Own) → OwnFits own → tried ≤ own .domain → Coherent own (assignment view) (nogoodsOf stored (now (nogoods .entry))) → assignment (r .whole) ≡ union tried (nogoodsOf (r .stored) (now (nogoods .exit)))) ⌝ }
+// in the view gets the reason "that scanner has that slot"", the reasons being read "as they stand when that slot is tried". The left sides met, stored ones
+// and given ones, are joined on the way: after any number of values `whole` is the union of that many.
+fn give_reasons(
+    nogoods: &mut [u64; 8],
+    own: Own,
+    view: u64,
+    bars: Bars,
+    stored: u8,
+    tried: u8,
+) -> Tried
+    requires { ⌜ OwnFits own ⌝ }
+    requires { ⌜ (length (now nogoods) ≡ 8) × (tried ≤ own .domain) × Barred stored bars tried ⌝ }
+    requires { ⌜ Coherent own (assignment view) (nogoodsOf stored (now nogoods)) ⌝ }
+    ensures { λ r. ⌜ (length (now (nogoods .exit)) ≡ 8) × Reasoned own (assignment view) bars tried (nogoodsOf stored (now (nogoods .entry))) (nogoodsOf (r .stored) (now (nogoods .exit))) ⌝ }
+    ensures { λ r. ⌜ assignment (r .whole) ≡ union tried (nogoodsOf (r .stored) (now (nogoods .exit))) ⌝ }
 {
     let mut reasoned = stored;
     let mut whole: u64 = 0;
@@ -78,7 +123,7 @@ fn give_reasons(nogoods: &mut [u64; 8], view: u64, bars: Bars, stored: u8, tried
     while i < tried {
         let mut lhs = nogoods[i as usize];
         if (stored >> i) % 2 == 0 {
-            let k = bars.first(i + 1);
+            let k = blamed(nogoods, own, bars, reasoned, i + 1);
             lhs = with_digit(0, k, digit(view, k));
             nogoods[i as usize] = lhs;
             reasoned = reasoned | (1u8 << i);
@@ -106,7 +151,7 @@ fn choose(nogoods: &mut [u64; 8], own: Own, view: u64, bars: Bars, stored: u8) -
         tried = u8::trailing_zeros(mask) as u8;
         value = tried + 1;
     }
-    let t = give_reasons(nogoods, view, bars, stored, tried);
+    let t = give_reasons(nogoods, own, view, bars, stored, tried);
     Choice {
         value: value,
         stored: t.stored,

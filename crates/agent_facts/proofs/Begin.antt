@@ -6,7 +6,7 @@ use Prim.Native.Nat.{ℕ, zero, suc, _≤_}
 use native.Mathlib.Omega.{arith}
 use Rattle.base.proofs.Tests.{opt, to-within}
 use Rattle.agent_rules.specs.Message.{nobody}
-use Rattle.agent_rules.specs.Agent.{Self, Bans, noNogoods, unusedAgent}
+use Rattle.agent_rules.specs.Agent.{Self, Bans, Nogoods, noNogoods, unusedAgent}
 use Rattle.agent_rules.specs.Choosing.{blame, blaming, reasonOf, reason, choose, choice, chosen, took, settle, checkView}
 use Rattle.agent_rules.specs.Receiving.{fresh, begin}
 use Rattle.agent_rules.proofs.Assignments.{unknown}
@@ -15,16 +15,17 @@ use Rattle.agent_facts.proofs.Posts.{gets-one, gets-none, infos-get}
 use Rattle.agent_facts.proofs.Walk.{blame-some}
 
 -- an unknown view bars nothing
-blame-nobody : (s : Self) (bans : Bans) (v : ℕ) → blame s bans nobody v ≡ none
+blame-nobody : (s : Self) (bans : Bans) (nogoods : Nogoods) (v : ℕ) → blame s bans nobody nogoods v ≡ none
 unfolding nobody
-blame-nobody s bans v = opt (blame s bans nobody v) (λ e. e) (λ k e. unknown (blame-some s bans nobody v k e .0))
+blame-nobody s bans nogoods v =
+    opt (blame s bans nobody nogoods v) (λ e. e) (λ k e. unknown (blame-some s bans nobody nogoods v k e .0))
 
 module _ (s : Self) (bans : Bans) (listens informs : ℕ → Bool) where
   choose-first : (d : ℕ) → 1 ≤ d → choose d 1 s bans nobody noNogoods ≡ record { value = some 1; nogoods = noNogoods }
   unfolding choose reason reasonOf blaming noNogoods
   choose-first zero l = absurd (omega arith)
   choose-first (suc d) l =
-      let free : reason s bans nobody noNogoods 1 ≡ none = rw (blame-nobody s bans 1) in rw (free, choose)
+      let free : reason s bans nobody noNogoods 1 ≡ none = rw (blame-nobody s bans noNogoods 1) in rw (free, choose)
 
   first-choice : 1 ≤ s .domain → choice s bans (fresh listens informs) ≡ record { value = some 1; nogoods = noNogoods }
   unfolding choice fresh unusedAgent

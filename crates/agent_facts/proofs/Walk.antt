@@ -2,7 +2,7 @@
 -- A stored nogood stays; a new one names a single agent, whose known value bars the own value.
 use mathlib.Core.Path.{_≡_, refl, sym, _∙_}
 use mathlib.Core.Logic.{_⊎_, inl, inr, ⊎-elim}
-use mathlib.Core.Bool.{true, false, false≢true}
+use mathlib.Core.Bool.{Bool, true, false, _&&_, false≢true}
 use mathlib.Core.Option.{Option, none, some}
 use Prim.Native.Nat.{ℕ, zero, suc, _+_, _≤_, _<_}
 use native.Mathlib.Omega.{arith}
@@ -11,7 +11,7 @@ use Rattle.base.proofs.Tests.{opt, no-some, isSome-false, isSome-true, both, to
 use Rattle.base.proofs.Search.{lowest-some, lowest-none, at-same, at-other}
 use Rattle.agent_rules.specs.Message.{Assignment, known}
 use Rattle.agent_rules.specs.Agent.{Self, Bans, Nogoods, above}
-use Rattle.agent_rules.specs.Choosing.{bars, blame, only, blaming, reasonOf, reason, Choice, choose}
+use Rattle.agent_rules.specs.Choosing.{bars, named, blame, only, blaming, reasonOf, reason, Choice, choose}
 use Rattle.agent_rules.specs.Receiving.{conflicts}
 use Rattle.agent_rules.proofs.Assignments.{to-above}
 use Rattle.agent_facts.specs.Facts.{Barred}
@@ -49,14 +49,29 @@ conflicts-false s bans view up v e k b =
 
 -- ---- whom to blame
 
-pub blame-some : (s : Self) (bans : Bans) (view : Assignment) (v k : ℕ) → blame s bans view v ≡ some k → Barred bans view v k
-unfolding blame
-blame-some s bans view v k e = bars-is bans view v k (lowest-some (above s) 1 (bars bans view v) k e)
+module _ (s : Self) (bans : Bans) (view : Assignment) (nogoods : Nogoods) (v : ℕ) where
+  -- who bars the value and is named already
+  known-bar : ℕ → Bool
+  known-bar k = bars bans view v k && named s nogoods k
 
--- where nobody is to blame, the value is not banned
-blame-none : (s : Self) (bans : Bans) (view : Assignment) (v : ℕ) → blame s bans view v ≡ none → conflicts s bans view v ≡ false
-unfolding blame conflicts isSome
-blame-none s bans view v e = rw e
+  pub blame-some : (k : ℕ) → blame s bans view nogoods v ≡ some k → Barred bans view v k
+  unfolding blame known-bar
+  blame-some k e =
+      bars-is bans view v k
+      (opt (lowest (above s) 1 known-bar)
+      (λ n. lowest-some (above s) 1 (bars bans view v) k (rw (n, blame) at e))
+      (λ j n.
+      let q : some j ≡ some k = rw (n, blame) at e in
+      let w : j ≡ k = cc in
+      rw (← w) (both (bars bans view v j) (named s nogoods j) (lowest-some (above s) 1 known-bar j n) .0)))
+
+  -- where nobody is to blame, the value is not banned
+  blame-none : blame s bans view nogoods v ≡ none → conflicts s bans view v ≡ false
+  unfolding blame conflicts isSome known-bar
+  blame-none e =
+      opt (lowest (above s) 1 known-bar)
+      (λ n. let q : lowest (above s) 1 (bars bans view v) ≡ none = rw (n, blame) at e in rw q)
+      (λ j n. no-some (sym (rw (n, blame) at e)))
 
 -- a value tried is free
 reason-none : (view : Assignment) (o : Option Assignment) (b : Option ℕ) → reasonOf o (blaming view b) ≡ none → (o ≡ none) × (b ≡ none)
@@ -91,11 +106,11 @@ walked s bans view zero v before =
 walked s bans view (suc m) v before =
     opt (reason s bans view before v)
     (λ e. rw (e, choose)
-    (let (n, b) = reason-none view (before v) (blame s bans view v) e in
+    (let (n, b) = reason-none view (before v) (blame s bans view before v) e in
     record {
       given = λ w lhs h. inl h;
       grows = λ w h. h;
-      taken = λ w h. let q : v ≡ w = cc in rw (← q) (omega arith, omega arith, n, blame-none s bans view v b);
+      taken = λ w h. let q : v ≡ w = cc in rw (← q) (omega arith, omega arith, n, blame-none s bans view before v b);
       full = λ h. no-some (sym h);
     }))
     (λ lhs e. rw (e, choose)
@@ -111,8 +126,8 @@ walked s bans view (suc m) v before =
               (λ u.
               let z : some l ≡ some lhs = rw (u, at-same) at q in
               rw u
-              (⊎-elim (λ o. inl o) (λ (k, b, o). inr (omega arith, omega arith, k, blame-some s bans view v k b, o))
-              (reason-some view (before v) (blame s bans view v) lhs (e ∙ z))))
+              (⊎-elim (λ o. inl o) (λ (k, b, o). inr (omega arith, omega arith, k, blame-some s bans view before v k b, o))
+              (reason-some view (before v) (blame s bans view before v) lhs (e ∙ z))))
               (λ u. inl (rw (at-other before v (some l) w u) at q)))
               (λ (low, high, k, b, o). inr (omega arith, omega arith, k, b, o))
               (W .given w lhs h);

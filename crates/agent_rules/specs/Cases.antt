@@ -157,11 +157,87 @@ stepCases =
       sent = post 4 (Info 2) ∷ [];
       verdict = false;
     }
-    -- The lowest-numbered is blamed: value 1 is banned by agents 1 and 2.
+    -- Nobody is named: the lowest-numbered is blamed. Value 1 is banned by agents 1 and 2.
     ∷ record {
       got = receive (self 3 2) (bansFrom (ownBan 1 1 1 ∷ ownBan 2 1 1 ∷ [])) (agent 1 (1 ∷ 2 ∷ []) [] (1 ∷ []) []) 2 (Info 1);
       agent = agent 2 (1 ∷ 2 ∷ []) [] (1 ∷ 1 ∷ []) (some (values (1 ∷ [])) ∷ []);
       sent = [];
+      verdict = false;
+    }
+    -- One agent bars a value: it is blamed, named or not. Agent 1 is named (value 3); agent 2 alone bars value 1, agent 1 alone value 2.
+    ∷ record {
+      got = receive (self 3 4) (bansFrom (ownBan 2 1 1 ∷ ownBan 1 1 2 ∷ []))
+          (agent 1 (1 ∷ 2 ∷ []) (4 ∷ []) (1 ∷ []) (none ∷ none ∷ some (values (1 ∷ [])) ∷ [])) 2 (Info 1);
+      agent =
+          agent 4 (1 ∷ 2 ∷ []) (4 ∷ []) (1 ∷ 1 ∷ [])
+          (some (values (0 ∷ 1 ∷ [])) ∷ some (values (1 ∷ [])) ∷ some (values (1 ∷ [])) ∷ []);
+      sent = post 4 (Info 4) ∷ [];
+      verdict = false;
+    }
+    -- Agents 1 and 2 bar value 2, and the higher one is named: by the reason of a lower value ..
+    ∷ record {
+      got = receive (self 3 4) (bansFrom (ownBan 1 1 2 ∷ ownBan 2 1 2 ∷ ownBan 1 1 3 ∷ []))
+          (agent 3 (1 ∷ 2 ∷ []) (4 ∷ []) (0 ∷ 1 ∷ []) (some (values (0 ∷ 1 ∷ [])) ∷ [])) 1 (Info 1);
+      agent =
+          agent 4 (1 ∷ 2 ∷ []) (4 ∷ []) (1 ∷ 1 ∷ [])
+          (some (values (0 ∷ 1 ∷ [])) ∷ some (values (0 ∷ 1 ∷ [])) ∷ some (values (1 ∷ [])) ∷ []);
+      sent = post 4 (Info 4) ∷ [];
+      verdict = false;
+    }
+    -- .. by that of a higher value alone (3); agent 3, whom the reason of value 1 names, does not bar it
+    ∷ record {
+      got = receive (self 4 4) (bansFrom (ownBan 3 1 1 ∷ ownBan 1 1 2 ∷ ownBan 2 1 2 ∷ []))
+          (agent 1 (1 ∷ 2 ∷ 3 ∷ []) (5 ∷ []) (1 ∷ 1 ∷ []) (none ∷ none ∷ some (values (0 ∷ 1 ∷ [])) ∷ [])) 3 (Info 1);
+      agent =
+          agent 4 (1 ∷ 2 ∷ 3 ∷ []) (5 ∷ []) (1 ∷ 1 ∷ 1 ∷ [])
+          (some (values (0 ∷ 0 ∷ 1 ∷ [])) ∷ some (values (0 ∷ 1 ∷ [])) ∷ some (values (0 ∷ 1 ∷ [])) ∷ []);
+      sent = post 5 (Info 4) ∷ [];
+      verdict = false;
+    }
+    -- .. by one given earlier in this walk alone
+    ∷ record {
+      got = receive (self 3 3) (bansFrom (ownBan 2 1 1 ∷ ownBan 1 1 2 ∷ ownBan 2 1 2 ∷ []))
+          (agent 1 (1 ∷ 2 ∷ []) (4 ∷ []) (1 ∷ []) []) 2 (Info 1);
+      agent = agent 3 (1 ∷ 2 ∷ []) (4 ∷ []) (1 ∷ 1 ∷ []) (some (values (0 ∷ 1 ∷ [])) ∷ some (values (0 ∷ 1 ∷ [])) ∷ []);
+      sent = post 4 (Info 3) ∷ [];
+      verdict = false;
+    }
+    -- .. by the one that this refusal has just stored
+    ∷ record {
+      got = receive (self 3 3) (bansFrom (ownBan 1 1 2 ∷ ownBan 2 1 2 ∷ []))
+          (agent 1 (1 ∷ 2 ∷ []) (4 ∷ []) (1 ∷ 1 ∷ []) []) 4 (Back (values (0 ∷ 1 ∷ [])) 1);
+      agent = agent 3 (1 ∷ 2 ∷ []) (4 ∷ []) (1 ∷ 1 ∷ []) (some (values (0 ∷ 1 ∷ [])) ∷ some (values (0 ∷ 1 ∷ [])) ∷ []);
+      sent = post 4 (Info 3) ∷ [];
+      verdict = false;
+    }
+    -- A reason that this very news drops (value 3's, naming agents 2 and 3) names nobody: of agents 1 and 2, who bar value 2, the lower is blamed.
+    ∷ record {
+      got = receive (self 4 3) (bansFrom (ownBan 3 2 1 ∷ ownBan 1 1 2 ∷ ownBan 2 1 2 ∷ []))
+          (agent 1 (1 ∷ 2 ∷ 3 ∷ []) (5 ∷ []) (1 ∷ 1 ∷ 1 ∷ []) (none ∷ none ∷ some (values (0 ∷ 1 ∷ 1 ∷ [])) ∷ [])) 3 (Info 2);
+      agent =
+          agent 3 (1 ∷ 2 ∷ 3 ∷ []) (5 ∷ []) (1 ∷ 1 ∷ 2 ∷ [])
+          (some (values (0 ∷ 0 ∷ 2 ∷ [])) ∷ some (values (1 ∷ [])) ∷ []);
+      sent = post 5 (Info 3) ∷ [];
+      verdict = false;
+    }
+    -- Each reason changes the next blame. Value 1: agent 3 alone. Value 2: of 2 and 3, agent 3 is named. So 2 is not, and of 1 and 2, for value 3, the lower
+    -- is blamed. Value 4: of 1, 2 and 3, agents 1 and 3 are named, 1 the lower.
+    ∷ record {
+      got = receive (self 4 5)
+          (bansFrom
+          (ownBan 3 1 1 ∷ ownBan 2 1 2 ∷ ownBan 3 1 2 ∷ ownBan 1 1 3 ∷ ownBan 2 1 3 ∷ ownBan 1 1 4 ∷ ownBan 2 1 4 ∷ ownBan 3 1 4 ∷ []))
+          (agent 1 (1 ∷ 2 ∷ 3 ∷ []) (5 ∷ []) (1 ∷ 1 ∷ []) []) 3 (Info 1);
+      agent =
+          agent 5 (1 ∷ 2 ∷ 3 ∷ []) (5 ∷ []) (1 ∷ 1 ∷ 1 ∷ [])
+          (some (values (0 ∷ 0 ∷ 1 ∷ [])) ∷ some (values (0 ∷ 0 ∷ 1 ∷ [])) ∷ some (values (1 ∷ [])) ∷ some (values (1 ∷ [])) ∷ []);
+      sent = post 5 (Info 5) ∷ [];
+      verdict = false;
+    }
+    -- Both values blame agent 2, so that nobody else is in the refusal; blamed for value 2, agent 1 would be.
+    ∷ record {
+      got = receive (self 3 2) (bansFrom (ownBan 2 1 1 ∷ ownBan 1 1 2 ∷ ownBan 2 1 2 ∷ [])) (agent 1 (1 ∷ 2 ∷ []) (4 ∷ []) (1 ∷ []) []) 2 (Info 1);
+      agent = agent 1 (1 ∷ 2 ∷ []) (4 ∷ []) (1 ∷ []) [];
+      sent = post 2 (Back (values []) 1) ∷ post 4 (Info 1) ∷ [];
       verdict = false;
     }
     -- Backing up: the highest-numbered is refused, forgotten, and the reasons naming it dropped; then a value is free again.

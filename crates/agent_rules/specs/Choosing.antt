@@ -3,7 +3,7 @@ use Prim.Native.Nat.{ℕ, zero, suc, _-_}
 use mathlib.Core.Bool.{Bool, true, false, _&&_, cond}
 use mathlib.Core.Option.{Option, none, some}
 use mathlib.Core.List.{List, [], _∷_, _++_}
-use Rattle.base.specs.Finite.{at, lowest, highest, gather}
+use Rattle.base.specs.Finite.{at, lowest, highest, gather, isSome}
 use Rattle.problem.specs.Problem.{maxAgents}
 use Rattle.agent_rules.specs.Message.{Assignment, known, nobody, Info, Back, Post}
 use Rattle.agent_rules.specs.Agent.{Self, Bans, Nogoods, Agent, Step, withValue, withView, withNogoods, above}
@@ -14,9 +14,22 @@ use Rattle.agent_rules.specs.Agent.{Self, Bans, Nogoods, Agent, Step, wi
 unfoldable pub bars : Bans → Assignment → ℕ → ℕ → Bool
 bars bans view v k = known (view k) && bans k (view k) v
 
--- "blaming the lowest-numbered such scanner"
-unfoldable pub blame : Self → Bans → Assignment → ℕ → Option ℕ
-blame s bans view v = lowest (above s) 1 (bars bans view v)
+-- the left side of a stored reason; where none is stored, nobody is named
+unfoldable pub lhsOf : Option Assignment → Assignment
+lhsOf none = nobody
+lhsOf (some lhs) = lhs
+
+-- some stored reason, of whichever own value, names agent k
+abbrev pub named : Self → Nogoods → ℕ → Bool
+named s nogoods k = isSome (lowest (s .domain) 1 (λ v. known (lhsOf (nogoods v) k)))
+
+-- "the lowest-numbered one that some stored reason names already, and only if there is none the lowest-numbered of all"
+unfoldable pub blame : Self → Bans → Assignment → Nogoods → ℕ → Option ℕ
+blame s bans view nogoods v =
+    elim (lowest (above s) 1 (λ k. bars bans view v k && named s nogoods k)) [
+      | some k ↦ some k
+      | none ↦ lowest (above s) 1 (bars bans view v)
+    ]
 
 -- "that scanner has that slot": the left side that names agent k alone, at value v
 unfoldable pub only : ℕ → ℕ → Assignment
@@ -33,7 +46,7 @@ reasonOf none barred = barred
 reasonOf (some lhs) barred = some lhs
 
 unfoldable pub reason : Self → Bans → Assignment → Nogoods → ℕ → Option Assignment
-reason s bans view nogoods v = reasonOf (nogoods v) (blaming view (blame s bans view v))
+reason s bans view nogoods v = reasonOf (nogoods v) (blaming view (blame s bans view nogoods v))
 
 -- ---- choosing
 
@@ -72,10 +85,6 @@ took s a v nogoods = record { agent = chosen a v nogoods; sent = infos s a v; ve
 -- both sides' agents
 unfoldable pub join : Assignment → Assignment → Assignment
 join l r k = cond (known (l k)) (l k) (r k)
-
-unfoldable pub lhsOf : Option Assignment → Assignment
-lhsOf none = nobody
-lhsOf (some lhs) = lhs
 
 -- "all left sides are joined": of values 1 to m
 unfoldable pub union : ℕ → Nogoods → Assignment

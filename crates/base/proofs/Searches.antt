@@ -39,6 +39,11 @@ lowest-shorter (suc m) (suc n) k p q h same over =
     (λ t. rw (here, t, lowest))
     (λ t. rw (here, t, lowest) rest)
 
+pub lowest-empty : (m k : ℕ) (p : ℕ → Bool) → ((j : ℕ) → k ≤ j → p j ≡ false) → lowest m k p ≡ none
+unfolding lowest
+lowest-empty zero k p f = refl
+lowest-empty (suc m) k p f = rw (f k (omega arith), lowest) (lowest-empty m (suc k) p (λ j l. f j (omega arith)))
+
 pub highest-is : (m : ℕ) (p : ℕ → Bool) (s : ℕ) → 1 ≤ s → s ≤ m → p s ≡ true → ((j : ℕ) → s < j → j ≤ m → p j ≡ false)
     → highest m p ≡ some s
 unfolding highest
@@ -60,6 +65,10 @@ pub isSome-passes : (m k : ℕ) (p : ℕ → Bool) (j : ℕ) → k ≤ j → j <
 unfolding isSome
 isSome-passes m k p j l h t =
     opt (lowest m k p) (λ e. absurd (false≢true (sym (lowest-none m k p e j l h) ∙ t))) (λ s e. rw e)
+
+pub isSome-first : (m k : ℕ) (p : ℕ → Bool) → isSome (lowest (suc m) k p) ≡ p k || isSome (lowest m (suc k) p)
+unfolding isSome lowest
+isSome-first m k p = test (p k) (λ t. rw (t, lowest)) (λ t. rw (t, lowest))
 
 -- the second n numbers laid over the first
 pub isSome-halves : (n k : ℕ) (p q : ℕ → Bool) → ((j : ℕ) → k ≤ j → j < k + n → q j ≡ p j || p (j + n))

@@ -1,12 +1,12 @@
 -- A packed word with one digit changed is the assignment changed at one agent, and the `|` of two that agree is their join.
 use Prim.Native.Nat.{ℕ, zero, suc, _+_, _*_, _-_, _/_, _%_, _^_, _<_, _≤_}
 use mathlib.Core.Path.{_≡_, refl, sym, fun-ext}
-use mathlib.Core.Bool.{true, cond}
+use mathlib.Core.Bool.{true, cond, _||_}
 use native.Mathlib.Nat.{mod-lt, one-le-pow, mul-suc, one-mul, not-suc-le-zero, pow-suc, pow-succ', div-one, zero-div, div-div-eq-div-mul, div-eq-of-lt, lt-of-lt-of-le, pow-le-pow-right}
 use native.Mathlib.Omega.{arith}
 use lib.Arith.{mod-mul}
 use lib.Dec.{leb}
-use lib.Bits.{bitOr, or-shr, or-mod, or-zero-r, or-self}
+use lib.Bits.{bitOr, or-shr, or-mod, or-zero-r, or-self, or-add-and, and-le-r}
 use lib.Pow.{pow-add, pow-pos, shl-exact}
 use borrow.Author.Tests.{leb-true, leb-false}
 use Rattle.base.specs.Finite.{at, fromOne}
@@ -18,7 +18,7 @@ use Rattle.agent_rules.specs.Message.{known, nobody}
 use Rattle.agent_rules.specs.Choosing.{join}
 use Rattle.agent_rules.specs.Shape.{maxNamed}
 use Rattle.packed.specs.Packed.{digit, assignment, Compatible}
-use Rattle.packed.proofs.Known.{known-suc}
+use Rattle.packed.proofs.Known.{known-suc, known-from}
 use Rattle.packed.proofs.Fields.{exchanged, same, others, fits, more, less}
 
 -- ---- digits, lowest first
@@ -150,6 +150,17 @@ assignment-above x (suc k) h l = digit-above 16 x k h (omega arith)
 digit-or : (x y k : ℕ) → digit (bitOr x y) k ≡ bitOr (digit x k) (digit y k)
 digit-or x y k =
     rw (digit-shr (bitOr x y) k, digit-shr x k, digit-shr y k, or-shr x y (4 * k)) (or-mod (x / 2 ^ (4 * k)) (y / 2 ^ (4 * k)) 4)
+
+or-known : (a b : ℕ) → known (bitOr a b) ≡ known a || known b
+unfolding known
+or-known zero b = refl
+or-known (suc a) b = rw (known-suc a) (known-from (bitOr (suc a) b) (omega (arith, or-add-and (suc a) b, and-le-r (suc a) b)))
+
+-- `|` names whom either names
+pub or-named : (x y k : ℕ) → known (assignment (bitOr x y) k) ≡ known (assignment x k) || known (assignment y k)
+unfolding assignment fromOne known
+or-named x y zero = refl
+or-named x y (suc k) = rw (digit-or x y k) (or-known (digit x k) (digit y k))
 
 or-agree : (a b : ℕ) → (known a ≡ true → known b ≡ true → a ≡ b) → bitOr a b ≡ cond (known a) a b
 unfolding known

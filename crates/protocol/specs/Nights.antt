@@ -1,7 +1,8 @@
--- The worked nights of docs/RULES.md that are marked P, and nine more: scripts of calls and of what must be seen between them.
+-- The worked nights of docs/RULES.md that are marked P, and eleven more: scripts of calls and of what must be seen between them.
 use Prim.Native.Nat.{ℕ, zero, suc}
 use mathlib.Core.Path.{_≡_}
 use mathlib.Core.Bool.{Bool, true, false, _&&_}
+use mathlib.Core.Option.{none, some}
 use mathlib.Core.List.{List, [], _∷_, _++_}
 use lib.ListN.{length, replicate}
 use lib.Dec.{eqb}
@@ -145,6 +146,14 @@ sheetGaps = sheetOf 2 (2 ∷ 1 ∷ 2 ∷ []) (gaps 1 3 (minus 7) 0 ∷ gaps 2 3 
 unfoldable pub sheetShared : List ℕ
 sheetShared = sheet (3 ∷ 1 ∷ 2 ∷ 1 ∷ []) (ban 1 1 2 1 ∷ ban 1 1 3 1 ∷ ban 1 2 4 1 ∷ ban 3 2 4 1 ∷ [])
 
+-- in round 3 agent 3 blames agent 1 for value 2: of those who bar it, 1 is named by the reason of value 3, and 2 by that of value 1 just given
+unfoldable pub sheetHigher : List ℕ
+sheetHigher = sheet (2 ∷ 1 ∷ 3 ∷ []) (ban 1 1 3 2 ∷ ban 1 1 3 3 ∷ ban 2 1 3 1 ∷ ban 2 1 3 2 ∷ [])
+
+-- in round 1 agent 3 blames agent 2 for value 2, as the reason of value 1 names it already
+unfoldable pub sheetEarlier : List ℕ
+sheetEarlier = sheet (1 ∷ 1 ∷ 2 ∷ []) (ban 1 1 3 2 ∷ ban 2 1 3 1 ∷ ban 2 1 3 2 ∷ [])
+
 unfoldable pub empty : Assignment
 empty = values []
 
@@ -193,6 +202,15 @@ nights =
     ∷ Played sheetBlame (Runs 100000 None 4 ∷ [])
     ∷ Played sheetUnknown (Runs 100000 Plan 4 ∷ Values (2 ∷ 2 ∷ 1 ∷ []) ∷ [])
     ∷ Played sheetOrder (Runs 100000 None 2 ∷ [])
+    -- whom to blame: with reasons of lower values alone agent 3 would have none for value 2
+    ∷ Played sheetHigher (
+    Runs 3 Open 3
+    ∷ Holds 3 (agent 1 (1 ∷ 2 ∷ []) [] (1 ∷ []) (none ∷ some (values (1 ∷ [])) ∷ some (values (1 ∷ [])) ∷ []))
+    ∷ Runs 100000 Plan 2 ∷ Values (2 ∷ 1 ∷ 3 ∷ []) ∷ [])
+    -- with the lowest of all, or with reasons as they stood before the walk, the refusal would name agent 1, and the verdict would fall there
+    ∷ Played sheetEarlier (
+    Runs 1 Open 1 ∷ Waiting 3 2 (Back empty 1 ∷ [])
+    ∷ Runs 100000 None 1 ∷ Values (1 ∷ 0 ∷ 1 ∷ []) ∷ [])
     -- two rails alike in agent 2, which is handed the same on both: it has the same record and sends the same
     ∷ Played sheet5 (Delivers 1 2 0 ∷ told1 ++ Delivers 2 1 0 ∷ Delivers 1 2 0 ∷ told2)
     ∷ Played sheetShared (

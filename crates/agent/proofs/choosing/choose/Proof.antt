@@ -41,12 +41,14 @@ add-value c = record { fits = omega (arith, trailing-le 8 (c .before .free .resu
 
 give-reasons-requires : tie.Need-give-reasons-requires
 give-reasons-requires c κs =
-    let t = tried (c .before) in (c .before .before .before .pre .1 .0, omega (arith, t .0, c .before .before .before .pre .0 .few), t .1)
+    let t = tried (c .before) in
+    let start = c .before .before .before in
+    (start .pre .0, ((start .pre .1 .0, t .0, t .1), start .pre .1 .1))
 
 returns : tie.Need-returns
 returns c =
     let start = c .before .before .before .before in
-    let g = c .give-reasons .ensures .0 .1 (start .args .own) (start .pre .0) (tried (c .before .before) .0) (start .pre .1 .1) in (
+    let g = c .give-reasons .ensures .0 .1 in (
       (
         c .give-reasons .ensures .0 .0,
         ⊎-elim
@@ -61,7 +63,7 @@ returns c =
       λ z.
           ⊎-elim
           (λ u. absurd (omega (arith, z, u .1)))
-          (λ u. rw (u .2) at (c .give-reasons .ensures .1 (start .args .own) (start .pre .0) (tried (c .before .before) .0) (start .pre .1 .1)))
+          (λ u. rw (u .2) at (c .give-reasons .ensures .1))
           (c .before .before .if1 .came),
     )
 

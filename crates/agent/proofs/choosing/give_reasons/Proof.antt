@@ -14,21 +14,22 @@ use Rattle.base.specs.Finite.{lowest}
 use Rattle.agent_rules.specs.Shape.{maxNamed}
 use Rattle.packed.specs.Packed.{assignment}
 use Rattle.agent.specs.Abstract.{byteOf}
-use Rattle.agent.specs.Parts.{nogoodsOf, ReasonsGiven}
-use Rattle.agent.proofs.Reasons.{reasons-none, reasons-kept, blames, reasons-given, Joined, joined-none, joined-kept, joined-given}
+use Rattle.agent_rules.specs.Choosing.{union}
+use Rattle.agent.specs.Parts.{nogoodsOf, Reasoned}
+use Rattle.agent.proofs.Reasons.{reasons-none, reasons-kept, barred-by, reasons-given, joined-none, joined-kept, joined-given}
 use Rattle.agent.proofs.choosing.give_reasons.Statement.{statement}
 use Rattle.agent.proofs.choosing.give_reasons.Tie as tie
 
 abbrev Inv-loop : tie.InvT-loop
-Inv-loop nogoods₀ view bars stored tried reasoned₀ whole₀ i₀ nogoods reasoned whole i =
-    (length nogoods ≡ 8) × (i ≤ tried) × ReasonsGiven (assignment view) bars i (nogoodsOf stored nogoods₀) (nogoodsOf reasoned nogoods)
-    × Joined (assignment view) i (nogoodsOf stored nogoods₀) (nogoodsOf reasoned nogoods) (assignment whole) × (whole < 2 ^ 64)
+Inv-loop nogoods₀ own view bars stored tried reasoned₀ whole₀ i₀ nogoods reasoned whole i =
+    (length nogoods ≡ 8) × (i ≤ tried) × Reasoned own (assignment view) bars i (nogoodsOf stored nogoods₀) (nogoodsOf reasoned nogoods)
+    × (assignment whole ≡ union i (nogoodsOf reasoned nogoods)) × (whole < 2 ^ 64)
 
 abbrev μ-loop : tie.MeasureT-loop
-μ-loop nogoods₀ view bars stored tried reasoned₀ whole₀ i₀ nogoods reasoned whole i = tried - i
+μ-loop nogoods₀ own view bars stored tried reasoned₀ whole₀ i₀ nogoods reasoned whole i = tried - i
 
 loop-holds : tie.Need-loop-holds Inv-loop μ-loop
-loop-holds c = (c .pre .0, omega arith, reasons-none _ _ _, joined-none _ _ _, omega arith)
+loop-holds c = (c .pre .1 .0 .0, omega arith, reasons-none _ _ _ _ (c .pre .1 .1), joined-none _, omega arith)
 
 cast-lhs : tie.Need-cast-lhs Inv-loop μ-loop
 cast-lhs c = search needs
@@ -42,25 +43,31 @@ element-copy-out-lhs c = search needs
 shr-if1 : tie.Need-shr-if1 Inv-loop μ-loop
 shr-if1 c = search needs
 
-add-first : tie.Need-add-first Inv-loop μ-loop
-add-first c = search needs
+add-blamed : tie.Need-add-blamed Inv-loop μ-loop
+add-blamed c = search needs
 
-first-requires : tie.Need-first-requires Inv-loop μ-loop
-first-requires c κs = (omega arith, omega arith)
-
--- the agent to blame
-blamed : (c : tie.After-first Inv-loop μ-loop)
-    → (lowest maxNamed 1 (λ k. bit (byteOf (c .before .before .before .before .before .args .bars) k) (c .before .before .before .before .loop .i)) ≡ some (c .first .result))
-    × (1 ≤ c .first .result) × (c .first .result ≤ 16)
-blamed c =
-    blames (assignment (c .before .before .before .before .before .args .view)) (c .before .before .before .before .before .args .bars) (c .before .before .before .before .before .args .stored) (c .before .before .before .before .before .args .nogoods .now) (c .before .before .before .before .loop .i) (omega arith)
-    (c .before .if1 .taken) (c .before .before .before .before .before .args .tried) _ (c .before .before .before .before .before .pre .2) (c .before .before .before .loop-test .taken) (rw add-one at (c .first .ensures))
+blamed-requires : tie.Need-blamed-requires Inv-loop μ-loop
+blamed-requires c κs =
+    let start = c .before .before .before .before .before in
+    let loop = c .before .before .before .before .loop in
+    let room : loop .i < start .args .own .domain = omega (arith, start .pre .1 .0 .1) in (
+      start .pre .0,
+      (
+        omega arith,
+        omega (arith, room, start .pre .0 .few),
+        rw (add-one (loop .i))
+            (barred-by (start .args .own) (assignment (start .args .view)) (start .args .bars) (start .args .stored) (start .args .nogoods .now) (loop .i)
+            (start .pre .0) room (c .before .if1 .taken) (start .args .tried) (start .pre .1 .0 .2) (c .before .before .before .loop-test .taken)),
+      ),
+    )
 
 digit-requires : tie.Need-digit-requires Inv-loop μ-loop
-digit-requires c κs = let n = blamed c in (n .1, n .2)
+unfolding maxNamed
+digit-requires c κs = (c .blamed .ensures .0, c .blamed .ensures .1)
 
 with-digit-requires : tie.Need-with-digit-requires Inv-loop μ-loop
-with-digit-requires c κs = let n = blamed (c .before) in (n .1, n .2, c .digit .ensures .1)
+unfolding maxNamed
+with-digit-requires c κs = (c .before .blamed .ensures .0, c .before .blamed .ensures .1, c .digit .ensures .1)
 
 cast-nogoods : tie.Need-cast-nogoods Inv-loop μ-loop
 cast-nogoods c = search needs
@@ -84,31 +91,33 @@ loop-again : tie.Need-loop-again Inv-loop μ-loop
 loop-again c =
     let start = c .before .before .before .before .before in
     let loop = c .before .before .before .before .loop in
+    let own = start .args .own in
     let view = assignment (start .args .view) in
+    let room : loop .i < own .domain = omega (arith, start .pre .1 .0 .1) in
+    let few : loop .i < 8 = omega (arith, room, start .pre .0 .few) in
     let narrow : c .before .if1 .lhs < 2 ^ 64 = omega (arith, c .row-known .given) in
     let wide = or-lt 64 (loop .whole) (c .before .if1 .lhs) (loop .inv .4) narrow in
     ⊎-elim
     (λ u.
-    let n = blamed record { before = record { before = (c .before .before); if1 = u .0 }; first = u .1 } in
-    let is = rw (u .2 .ensures .0) at (u .3 .ensures) in
+    let is = rw (u .3 .ensures .0) at (u .4 .ensures) in
     let more =
-    reasons-given view (start .args .bars) (start .args .stored) (start .args .nogoods .now) (loop .i) (omega arith) (u .0 .taken) (u .1 .result)
-    (u .3 .result) (loop .reasoned) (loop .nogoods) (loop .inv .0) (n .0) is (loop .inv .2) in
-    rw (u .4, u .5, u .6) (
+    reasons-given own view (start .args .bars) (start .args .stored) (start .args .nogoods .now) (loop .i) (start .pre .0) room (u .0 .taken) (u .2 .result)
+    (u .4 .result) (loop .reasoned) (loop .nogoods) (loop .inv .0) (u .2 .ensures) is (loop .inv .2) in
+    rw (u .5, u .6, u .7) (
       simp length-set (loop .inv .0),
       omega arith,
       more,
-      joined-given view (start .args .bars) (start .args .stored) (start .args .nogoods .now) (loop .i) (loop .reasoned) (loop .nogoods) (loop .whole)
-          (u .3 .result) (omega arith) (loop .inv .2) (loop .inv .3) (loop .inv .4) (rw (u .6) at narrow) (loop .inv .0) more,
-      rw (u .6) at wide,
+      joined-given own view (start .args .bars) (start .args .stored) (start .args .nogoods .now) (loop .i) (loop .reasoned) (loop .nogoods) (loop .whole)
+          (u .4 .result) few (loop .inv .2) (loop .inv .3) (loop .inv .4) (rw (u .7) at narrow) (loop .inv .0) more,
+      rw (u .7) at wide,
     ))
     (λ u.
     rw (u .1, u .2) (
       loop .inv .0,
       omega arith,
-      reasons-kept view (start .args .bars) (start .args .stored) (start .args .nogoods .now) (loop .i) (omega arith) _ (u .0 .left) (loop .inv .2),
-      joined-kept view (start .args .bars) (start .args .stored) (start .args .nogoods .now) (loop .i) (loop .reasoned) (loop .nogoods) (loop .whole)
-          _ (omega arith) (loop .inv .2) (loop .inv .3) (loop .inv .4) narrow (u .0 .left) (u .3),
+      reasons-kept own view (start .args .bars) (start .args .stored) (start .args .nogoods .now) (loop .i) (start .pre .0) room _ (u .0 .left) (loop .inv .2),
+      joined-kept own view (start .args .bars) (start .args .stored) (start .args .nogoods .now) (loop .i) (loop .reasoned) (loop .nogoods) (loop .whole)
+          _ few (loop .inv .2) (loop .inv .3) (loop .inv .4) narrow (u .0 .left) (u .3),
       wide,
     ))
     (c .before .if1 .came)
@@ -129,8 +138,8 @@ give-reasons-spec =
     mul-lhs
     element-copy-out-lhs
     shr-if1
-    add-first
-    first-requires
+    add-blamed
+    blamed-requires
     digit-requires
     with-digit-requires
     cast-nogoods
