@@ -51,6 +51,9 @@ impl Compared {
         for rounds in [0, 1, 2, 5, 37, 1_000, PROGRAM_ROUNDS] {
             self.same(name, |side| side.settle(sheet, rounds))?;
         }
+        for agent in 0..13 {
+            self.same(name, |side| side.counts(sheet, 1_000, agent))?;
+        }
         Ok(())
     }
 

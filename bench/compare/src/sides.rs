@@ -1,4 +1,4 @@
-//! The two sides, each with the same four entries: the proved libraries behind `bench_entry`, and
+//! The two sides, each with the same five entries: the proved libraries behind `bench_entry`, and
 //! the plain one.
 
 use plain::{Network, Problem, Word};
@@ -13,6 +13,9 @@ pub trait Side {
     fn settle(&mut self, sheet: &[u8], rounds: u64) -> u64;
     /// Decoding, the start and deliveries through the public entry.
     fn deliver(&mut self, sheet: &[u8], calls: &[u8]) -> u64;
+    /// Decoding, the start and a run: one agent's counts after it, in one number. Agents are
+    /// counted from 0.
+    fn counts(&mut self, sheet: &[u8], rounds: u64, agent: usize) -> u64;
 }
 
 mod entry {
@@ -22,6 +25,7 @@ mod entry {
         pub fn bench_entry_start(sheet: *const u8, length: usize, sender: usize) -> u64;
         pub fn bench_entry_settle(sheet: *const u8, length: usize, rounds: u64) -> u64;
         pub fn bench_entry_deliver(sheet: *const u8, length: usize, calls: *const u8, bytes: usize) -> u64;
+        pub fn bench_entry_counts(sheet: *const u8, length: usize, rounds: u64, agent: usize) -> u64;
     }
 }
 
@@ -44,6 +48,10 @@ impl Side for Proved {
 
     fn deliver(&mut self, sheet: &[u8], calls: &[u8]) -> u64 {
         unsafe { entry::bench_entry_deliver(sheet.as_ptr(), sheet.len(), calls.as_ptr(), calls.len()) }
+    }
+
+    fn counts(&mut self, sheet: &[u8], rounds: u64, agent: usize) -> u64 {
+        unsafe { entry::bench_entry_counts(sheet.as_ptr(), sheet.len(), rounds, agent) }
     }
 }
 
@@ -124,6 +132,22 @@ impl Side for Plain {
             add(self.network.value(agent).unwrap_or(0));
         }
         sum
+    }
+
+    #[inline(never)]
+    fn counts(&mut self, sheet: &[u8], rounds: u64, agent: usize) -> u64 {
+        if self.problem.decode_over(sheet).is_err() {
+            return 0;
+        }
+        self.network.restart(&self.problem);
+        let _ = self.network.run(rounds);
+        let Some(agent) = self.network.agents().nth(agent) else {
+            return 0;
+        };
+        let (sent, received) = agent.counts();
+        [sent.infos, received.infos, sent.backs, received.backs, sent.links, received.links]
+            .iter()
+            .fold(0, |sum, count| (sum & 0xffff_ffff) * 31 + (count & 0xffff_ffff))
     }
 }
 

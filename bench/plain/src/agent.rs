@@ -4,6 +4,29 @@ use crate::assignment::{AgentSet, Assignment, MAX_DOMAIN};
 use crate::channel::{Channels, Full, Message};
 use crate::problem::{bit, row, BanRow};
 
+/// How many messages of each sort. A count stays at the top when it reaches it.
+#[derive(Clone, Copy, PartialEq, Eq, Debug)]
+pub struct Counts {
+    pub infos: u64,
+    pub backs: u64,
+    pub links: u64,
+}
+
+impl Counts {
+    const NONE: Counts = Counts { infos: 0, backs: 0, links: 0 };
+
+    /// So many Infos, and nothing else.
+    pub(crate) fn of_infos(infos: u64) -> Counts {
+        Counts { infos, ..Counts::NONE }
+    }
+}
+
+/// Counts so many more.
+#[inline(always)]
+fn raise(count: &mut u64, by: u64) {
+    *count = count.saturating_add(by);
+}
+
 /// The record of an agent (scanner), with its domain and bans.
 #[derive(Clone, Copy)]
 pub struct Agent {
@@ -21,6 +44,9 @@ pub struct Agent {
     pub(crate) view: Assignment,
     /// The nogood (stored reason) of each own value: an lhs. It counts where `stored` says so.
     pub(crate) nogoods: [Assignment; MAX_DOMAIN],
+    /// The messages that it sent and received.
+    pub(crate) sent: Counts,
+    pub(crate) received: Counts,
     /// Derived from the view and the bans: byte k holds the own values banned against the
     /// known value of agent k.
     pub(crate) banned: [u64; 2],
@@ -48,6 +74,8 @@ impl Agent {
         informs: AgentSet::EMPTY,
         view: Assignment::EMPTY,
         nogoods: [Assignment::EMPTY; MAX_DOMAIN],
+        sent: Counts::NONE,
+        received: Counts::NONE,
         banned: [0; 2],
         bans: [0; crate::MAX_AGENTS],
     };
@@ -57,10 +85,16 @@ impl Agent {
         (self.value != 0).then_some(self.value)
     }
 
+    /// The messages that it sent, and those that it received.
+    pub fn counts(&self) -> (Counts, Counts) {
+        (self.sent, self.received)
+    }
+
     /// Is there nothing in the record, and no ban?
     pub(crate) fn is_blank(&self) -> bool {
         let words = self.listens.0 | self.informs.0 | self.view.0;
-        self.value | self.stored == 0 && self.bans.iter().fold(words, |all, word| all | word) == 0
+        let nothing = self.value | self.stored == 0 && self.bans.iter().fold(words, |all, word| all | word) == 0;
+        nothing && self.sent == Counts::NONE && self.received == Counts::NONE
     }
 
     /// The own values banned against some known value of the view.
@@ -143,9 +177,16 @@ impl Agent {
         out: &mut Channels,
     ) -> Result<Step, Full> {
         match message {
-            Message::Info { value } => self.info::<CHECKED>(sender, value, out),
-            Message::Back { lhs, refused } => self.back::<CHECKED>(sender, lhs, refused, out),
+            Message::Info { value } => {
+                raise(&mut self.received.infos, 1);
+                self.info::<CHECKED>(sender, value, out)
+            }
+            Message::Back { lhs, refused } => {
+                raise(&mut self.received.backs, 1);
+                self.back::<CHECKED>(sender, lhs, refused, out)
+            }
             Message::AddLink => {
+                raise(&mut self.received.links, 1);
                 self.informs.add(sender);
                 self.tell::<CHECKED>(sender, out)
             }
@@ -154,8 +195,9 @@ impl Agent {
 
     /// Sends its value to one agent.
     #[inline(always)]
-    fn tell<const CHECKED: bool>(&self, agent: usize, out: &mut Channels) -> Result<Step, Full> {
+    fn tell<const CHECKED: bool>(&mut self, agent: usize, out: &mut Channels) -> Result<Step, Full> {
         out.send_one::<CHECKED>(agent, Message::Info { value: self.value })?;
+        raise(&mut self.sent.infos, 1);
         Ok(Step::Settled)
     }
 
@@ -199,6 +241,7 @@ impl Agent {
         }
         for agent in lhs.agents().minus(self.listens).iter() {
             out.send_one::<CHECKED>(agent, Message::AddLink)?;
+            raise(&mut self.sent.links, 1);
             self.listens.add(agent);
             self.see(agent, lhs.get(agent));
         }
@@ -225,6 +268,7 @@ impl Agent {
             if free != 0 {
                 self.value = free.trailing_zeros() as u8 + 1;
                 out.send::<CHECKED>(self.informs, Message::Info { value: self.value })?;
+                raise(&mut self.sent.infos, self.informs.len());
                 return Ok(Step::Settled);
             }
             let union = self.union();
@@ -235,6 +279,7 @@ impl Agent {
             let highest = union.highest();
             let (lhs, refused) = (union.without(highest), union.get(highest));
             out.send_one::<CHECKED>(highest, Message::Back { lhs, refused })?;
+            raise(&mut self.sent.backs, 1);
             self.see(highest, 0);
             self.drop_naming(highest);
         }

@@ -143,6 +143,12 @@ impl AgentSet {
         self.0 & !other.0 == 0
     }
 
+    /// How many members: the sum of the digits, each 0 or 1, comes to stand in the highest.
+    #[inline(always)]
+    pub fn len(self) -> u64 {
+        self.0.wrapping_mul(0x1111_1111_1111_1111) >> 60
+    }
+
     /// The members, upward.
     #[inline(always)]
     pub fn iter(self) -> Members {

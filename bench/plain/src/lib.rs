@@ -14,7 +14,7 @@ pub mod random;
 mod shape;
 pub mod sheet;
 
-pub use agent::Agent;
+pub use agent::{Agent, Counts};
 pub use assignment::{AgentSet, Assignment, MAX_AGENTS, MAX_DOMAIN};
 pub use channel::{Message, CAPACITY};
 pub use network::{Network, Run, Word};

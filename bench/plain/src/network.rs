@@ -2,7 +2,7 @@
 
 use std::ops::ControlFlow;
 
-use crate::agent::{Agent, Step};
+use crate::agent::{Agent, Counts, Step};
 use crate::assignment::{AgentSet, Assignment, MAX_AGENTS};
 use crate::channel::{Channels, Full, Message, Packed};
 use crate::problem::{domain_mask, Problem};
@@ -139,6 +139,7 @@ impl Network {
                 values: domain_mask(problem.domain(number)),
                 listens,
                 informs: informs[number],
+                sent: Counts::of_infos(informs[number].len()),
                 bans: *bans,
                 ..Agent::BLANK
             };

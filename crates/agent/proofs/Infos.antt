@@ -21,7 +21,7 @@ use Rattle.agent_rules.specs.Choosing.{after}
 use Rattle.agent_rules.specs.Receiving.{agreeing, updated, conflicts, onInfo}
 use Rattle.agent_rules.specs.Shape.{maxNamed, anyValue}
 use Rattle.packed.specs.Packed.{assignment, members}
-use Rattle.agent.specs.Abstract.{assigned, byteOf, agentOf, selfOf, bansIn}
+use Rattle.agent.specs.Abstract.{assigned, byteOf, noneCounted, countsOf, agentOf, selfOf, bansIn}
 use Rattle.agent.specs.Entries.{Barring}
 use Rattle.agent.specs.Parts.{barredAt, nogoodsOf, agentIn, Agreed, Coherent, Sound, keeping, Handed, takenAs, Takes}
 use Rattle.agent.specs.declared.Bars.{Bars}
@@ -127,6 +127,7 @@ module _ (own : Own) (words : List ℕ) (s : State) (nogoods : List ℕ) (from v
           informs = members (s .informs);
           view = f;
           nogoods = n;
+          counts = countsOf noneCounted noneCounted;
         }) seen-now
         (kept-now
         ∙ fun-ext λ w. sym (kept-all (selfOf own) (assignment (s .view)) few from v (sender .0) near own (s .stored) nogoods (sound .coherent) mask w))

@@ -7,6 +7,7 @@ pub mod Coherence
 pub mod ToSet
 pub mod Named
 pub mod Sending
+pub mod Tallies
 pub mod Cursor
 pub mod Steps
 pub mod Start
@@ -24,4 +25,6 @@ pub mod Blaming
 pub mod Reasons
 pub mod Choices
 pub mod Settling
+pub mod Uncounted
+pub mod Counted
 pub mod Turns

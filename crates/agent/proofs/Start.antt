@@ -3,22 +3,27 @@ use Prim.Native.Nat.{ℕ, zero, suc, pred, _-_, _≤_}
 use mathlib.Core.Path.{_≡_, refl, ap, ap₂, _∙_, fun-ext}
 use mathlib.Core.Bool.{Bool, _&&_}
 use mathlib.Core.Option.{none, some}
-use mathlib.Core.List.{List}
+use mathlib.Core.List.{List, [], _∷_}
+use native.Mathlib.Nat.{not-suc-le-zero}
 use native.Mathlib.Omega.{arith}
 use Rattle.base.specs.Finite.{fromOne}
 use Rattle.base.proofs.Bits.{bit-of-zero}
 use Rattle.base.proofs.Searches.{lowest-empty}
 use Rattle.agent_rules.specs.Message.{Assignment, known, nobody}
-use Rattle.agent_rules.specs.Agent.{Self, Bans, Nogoods, noNogoods, unusedAgent, above}
-use Rattle.agent_rules.specs.Choosing.{bars, named, blame, blaming, reasonOf, reason, choose, choice, chosen, took, settle, checkView}
-use Rattle.agent_rules.specs.Receiving.{fresh, begin}
+use Rattle.agent_rules.specs.Agent.{Self, Bans, Nogoods, noNogoods, unusedAgent, above, withCounts}
+use Rattle.agent_rules.specs.Choosing.{bars, named, blame, blaming, reasonOf, reason, choose, choice, chosen, took, settle, checkView, infos}
+use Rattle.agent_rules.specs.Receiving.{fresh, begin, counted}
+use Rattle.agent_rules.specs.Counts.{Sort, Infos, Backs, AddLinks, Counts as Counts′, noCounts, number, messagesIn, top, raised, counting}
 use Rattle.packed.specs.Packed.{members}
-use Rattle.agent.specs.Abstract.{assigned, nogoodAt, agentOf, selfOf}
+use Rattle.agent.specs.Abstract.{assigned, nogoodAt, noneCounted, countOf, countsOf, agentOf, selfOf}
+use Rattle.agent.specs.Posting.{newsTo, backsFrom, postsLeft, Ready}
 use Rattle.agent.specs.Entries.{OwnFits, Below, BeginsAs}
 use Rattle.agent.specs.declared.Agent.{Agent}
+use Rattle.agent.specs.declared.Counts.{Counts}
 use Rattle.agent.specs.declared.Own.{Own}
+use Rattle.agent.specs.declared.Posts.{Posts}
 use Rattle.packed.proofs.Digits.{nobody-assigned}
-use Rattle.agent.proofs.ToSet.{news-infos}
+use Rattle.agent.proofs.ToSet.{none-in, links-none, news-infos}
 
 -- ---- the rule
 
@@ -50,11 +55,12 @@ settles-first n s bans listens informs h =
     let e = choice-first s bans listens informs h in rw (e, settle, e)
 
 begins : (s : Self) (bans : Bans) (listens informs : ℕ → Bool) → 1 ≤ s .number → 1 ≤ s .domain
-    → begin s bans listens informs ≡ took s (fresh listens informs) 1 noNogoods
+    → begin s bans listens informs ≡ counted (fresh listens informs) [] (took s (fresh listens informs) 1 noNogoods)
 unfolding begin checkView
 begins s bans listens informs l h =
     let e : s .number ≡ suc (pred (s .number)) = omega arith in
-    ap (λ (n : ℕ). settle n s bans (fresh listens informs)) e ∙ settles-first (pred (s .number)) s bans listens informs h
+    ap (counted (fresh listens informs) [])
+    (ap (λ (n : ℕ). settle n s bans (fresh listens informs)) e ∙ settles-first (pred (s .number)) s bans listens informs h)
 
 -- ---- the code's record
 
@@ -67,19 +73,81 @@ none-stored l = fun-ext λ v. go v
     go (suc i) = rw (bit-of-zero i, nogoodAt)
 
 -- it knows nobody and stores nothing
-abbrev first : ℕ → ℕ → List ℕ → Agent
-first listens informs l =
-    record { value = 1; stored = 0; listens = listens; informs = informs; view = record { digits = 0 }; nogoods = l }
+abbrev first : ℕ → ℕ → List ℕ → Counts → Agent
+first listens informs l sent =
+    record {
+      value = 1;
+      stored = 0;
+      listens = listens;
+      informs = informs;
+      view = record { digits = 0 };
+      nogoods = l;
+      sent = sent;
+      received = noneCounted;
+    }
 
-pub begins-told : (own : Own) (bans : Bans) (listens informs : ℕ) (l : List ℕ) → OwnFits own → Below own informs
-    → BeginsAs (first listens informs l) (begin (selfOf own) bans (members listens) (members informs))
-unfolding agentOf took chosen fresh unusedAgent assigned selfOf
-begins-told own bans listens informs l fits below =
-    rw (begins (selfOf own) bans (members listens) (members informs) (fits .first) (fits .some))
-    (record {
-      agent =
-          ap₂ (λ (f : Assignment) (n : Nogoods). record { value = 1; listens = members listens; informs = members informs; view = f; nogoods = n })
-          nobody-assigned (none-stored l);
-      sent = news-infos (selfOf own) (fresh (members listens) (members informs)) 1 informs (fits .last) refl below;
-      verdict = refl;
-    })
+-- it tells those informed, and sends nothing else
+abbrev news : ℕ → Posts
+news informs = record { links = 0; told = informs; value = 1; next = 0; count = 0 }
+
+no-backs : List ℕ
+no-backs = 0 ∷ 0 ∷ 0 ∷ 0 ∷ 0 ∷ 0 ∷ 0 ∷ 0 ∷ 0 ∷ 0 ∷ 0 ∷ []
+
+news-left : (informs : ℕ) → postsLeft (news informs) no-backs ≡ newsTo 1 informs
+unfolding postsLeft backsFrom
+news-left informs = rw links-none
+
+none-counted : (x : Sort) → countOf noneCounted x ≡ 0
+unfolding countOf
+none-counted Infos = refl
+none-counted Backs = refl
+none-counted AddLinks = refl
+
+none-got : 0 ≡ raised 0 0
+unfolding raised top
+none-got = refl
+
+module _ (own : Own) (bans : Bans) (listens informs : ℕ) (l : List ℕ) (sent : Counts) (fits : OwnFits own) (below : Below own informs)
+    (counted-news : (backs : List ℕ) → Ready (news informs) backs → (x : Sort)
+    → countOf sent x ≡ raised (countOf noneCounted x) (number x (messagesIn (postsLeft (news informs) backs)))) where
+  told : newsTo 1 informs ≡ infos (selfOf own) (fresh (members listens) (members informs)) 1
+  unfolding fresh unusedAgent selfOf
+  told = news-infos (selfOf own) (fresh (members listens) (members informs)) 1 informs (fits .last) refl below
+
+  ready : Ready (news informs) no-backs
+  unfolding no-backs
+  ready =
+      record {
+        links = none-in _;
+        told = λ k lo hi e. below k lo hi e .1;
+        next = omega arith;
+        few = omega arith;
+        places = refl;
+        wholes = λ i h. absurd (not-suc-le-zero h);
+      }
+
+  counts : countsOf sent noneCounted ≡ counting noCounts [] (infos (selfOf own) (fresh (members listens) (members informs)) 1)
+  unfolding countsOf counting noCounts number
+  counts =
+      ap₂ (λ (f g : Sort → ℕ). record { sent = f; received = g })
+      (fun-ext λ x. rw (none-counted x, news-left informs, told) at (counted-news no-backs ready x))
+      (fun-ext λ x. none-counted x ∙ none-got)
+
+  pub begins-told : BeginsAs (first listens informs l sent) (begin (selfOf own) bans (members listens) (members informs))
+  unfolding agentOf took chosen counted fresh unusedAgent assigned selfOf
+  begins-told =
+      rw (begins (selfOf own) bans (members listens) (members informs) (fits .first) (fits .some))
+      (record {
+        agent =
+            ap₂ (λ (f : Assignment) (n : Nogoods). record {
+              value = 1;
+              listens = members listens;
+              informs = members informs;
+              view = f;
+              nogoods = n;
+              counts = countsOf sent noneCounted;
+            }) nobody-assigned (none-stored l)
+            ∙ ap (λ (c : Counts′). withCounts (chosen (fresh (members listens) (members informs)) 1 noNogoods) c) counts;
+        sent = told;
+        verdict = refl;
+      })

@@ -17,7 +17,7 @@ use Rattle.agent_rules.specs.Receiving.{matches, holds, unheard, accepting, out
 use Rattle.agent_rules.specs.Shape.{anyValue}
 use Rattle.problem.specs.Problem.{maxAgents, maxDomain}
 use Rattle.packed.specs.Packed.{assignment, members}
-use Rattle.agent.specs.Abstract.{assigned, agentOf, selfOf, bansIn}
+use Rattle.agent.specs.Abstract.{assigned, noneCounted, countsOf, agentOf, selfOf, bansIn}
 use Rattle.agent.specs.Entries.{Above, ViewFits}
 use Rattle.agent.specs.Parts.{nogoodsOf, agentIn, Sound, Listening, Hears, Handed, takenAs, Takes}
 use Rattle.agent.specs.declared.Own.{Own}
@@ -128,6 +128,7 @@ module _ (own : Own) (words : List ℕ) (s : State) (nogoods : List ℕ) (from x
             informs = members (s .informs);
             view = f;
             nogoods = n;
+            counts = countsOf noneCounted noneCounted;
           })
           (fun-ext λ k. listens-now k) (fun-ext λ k. hears .view q k) nogoods-now
 

@@ -19,7 +19,7 @@ use Rattle.agent_rules.specs.Agent.{Bans, Nogoods, Agent as Agent′}
 use Rattle.agent_rules.specs.Choosing.{choice, chosen, union, refusing, forget, after, settle, checkView}
 use Rattle.agent_rules.specs.Shape.{maxNamed}
 use Rattle.packed.specs.Packed.{assignment, members, numberOf, maskFrom}
-use Rattle.agent.specs.Abstract.{byteOf, assigned, agentOf, selfOf}
+use Rattle.agent.specs.Abstract.{byteOf, assigned, noneCounted, countsOf, agentOf, selfOf}
 use Rattle.agent.specs.Posting.{linksTo, newsTo, backOf, backsFrom, postsLeft, stepOf}
 use Rattle.agent.specs.Entries.{OwnFits, Above, Below, Barring, StepsAs}
 use Rattle.agent.specs.Parts.{nogoodsOf, agentIn, stepWith, Sound, valueOf, Chose, ended, keeping}
@@ -228,6 +228,7 @@ module _ (own : Own) (fits : OwnFits own) (s₀ : State) (nogoods₀ : List ℕ)
               informs = members (s .informs);
               view = f;
               nogoods = n;
+              counts = countsOf noneCounted noneCounted;
             }) seen-now (kept ∙ fun-ext λ w. sym (without-keeping k (nogoodsOf stored new w)))
 
         next-here : (bans : Bans) → Barring bans (assignment (s₀ .view)) (s₀ .bars)

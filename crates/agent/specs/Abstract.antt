@@ -16,12 +16,14 @@ use Rattle.agent_rules.specs.Message.{
   AddLink as AddLink′,
   Post as Post′,
 }
+use Rattle.agent_rules.specs.Counts.{Sort, Infos, Backs, AddLinks, Counts as Counts′}
 use Rattle.agent_rules.specs.Agent.{Self, Bans, Agent as Agent′}
 use Rattle.packed.specs.Packed.{assignment, members}
 use Rattle.agent.specs.declared.Lhs.{Lhs}
 use Rattle.agent.specs.declared.Carried.{Carried}
 use Rattle.agent.specs.declared.Message.{Message}
 use Rattle.agent.specs.declared.Message.the-variants.{Info, Back, AddLink}
+use Rattle.agent.specs.declared.Counts.{Counts}
 use Rattle.agent.specs.declared.Agent.{Agent}
 use Rattle.agent.specs.declared.Own.{Own}
 use Rattle.agent.specs.declared.Bars.{Bars}
@@ -46,6 +48,19 @@ postOf p = record { to = p .to; message = messageOf (p .message) }
 unfoldable pub nogoodAt : ℕ → List ℕ → ℕ → Option Assignment
 nogoodAt stored nogoods i = elim (bit stored i) [ true ↦ some (assignment (getD nogoods i 0)) | false ↦ none ]
 
+-- no messages counted
+abbrev pub noneCounted : Counts
+noneCounted = record { infos = 0; backs = 0; links = 0 }
+
+-- one of three counts
+unfoldable pub countOf : Counts → Sort → ℕ
+countOf c Infos = c .infos
+countOf c Backs = c .backs
+countOf c AddLinks = c .links
+
+unfoldable pub countsOf : Counts → Counts → Counts′
+countsOf sent received = record { sent = countOf sent; received = countOf received }
+
 unfoldable pub agentOf : Agent → Agent′
 agentOf a =
     record {
@@ -54,6 +69,7 @@ agentOf a =
       informs = members (a .informs);
       view = assigned (a .view);
       nogoods = fromOne none (nogoodAt (a .stored) (a .nogoods));
+      counts = countsOf (a .sent) (a .received);
     }
 
 unfoldable pub selfOf : Own → Self

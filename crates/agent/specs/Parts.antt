@@ -15,7 +15,7 @@ use Rattle.agent_rules.specs.Choosing.{blame, choose, after, checkView}
 use Rattle.agent_rules.specs.Receiving.{keepIf, quiet, matches, unheard}
 use Rattle.agent_rules.specs.Shape.{maxNamed, EachNamed, RecordFits, MessageFits, anyValue}
 use Rattle.packed.specs.Packed.{assignment, members}
-use Rattle.agent.specs.Abstract.{nogoodAt, agentOf, selfOf, bansIn, byteOf}
+use Rattle.agent.specs.Abstract.{nogoodAt, noneCounted, agentOf, selfOf, bansIn, byteOf}
 use Rattle.agent.specs.Posting.{linksTo, newsTo}
 use Rattle.agent.specs.Entries.{OwnFits, Able, ViewFits, Above, Below, Barring}
 use Rattle.agent.specs.declared.Agent.{Agent}
@@ -48,7 +48,7 @@ apart a b =
       bars = b;
     }
 
--- put together again
+-- put together again, but for its counts: no rule reads them
 abbrev pub agentWith : State → List ℕ → Agent
 agentWith s nogoods =
     record {
@@ -58,6 +58,8 @@ agentWith s nogoods =
       informs = s .informs;
       view = record { digits = s .view };
       nogoods = nogoods;
+      sent = noneCounted;
+      received = noneCounted;
     }
 
 abbrev pub agentIn : State → List ℕ → Agent′

@@ -11,6 +11,7 @@ ghost use Rattle.agent.specs.Parts.{apart};
 mod assigning;
 mod barring;
 mod choosing;
+mod counting;
 mod posting;
 mod receiving;
 
@@ -34,8 +35,15 @@ pub enum Message {
     AddLink,
 }
 
+// How many messages of each sort. A count stays at the top, the greatest number of 64 bits, when it reaches it.
+pub struct Counts {
+    pub infos: u64,
+    pub backs: u64,
+    pub links: u64,
+}
+
 // Bit k - 1 of `listens` and `informs` is agent k. Bit v - 1 of `stored` says whether own value v has a stored reason (nogood): the left side
-// whose digits stand at place v - 1 of `nogoods`. An empty left side is a reason too.
+// whose digits stand at place v - 1 of `nogoods`. An empty left side is a reason too. The messages that it sent and received are counted.
 pub struct Agent {
     pub value: u8,
     pub stored: u8,
@@ -43,6 +51,8 @@ pub struct Agent {
     pub informs: u16,
     pub view: Lhs,
     pub nogoods: [u64; 8],
+    pub sent: Counts,
+    pub received: Counts,
 }
 
 // An agent's number and domain (slot count).
@@ -129,6 +139,8 @@ impl Agent {
         let mut nogoods = self.nogoods;
         let mut backs = [0u64; 11];
         let s = self.apart(bars);
+        let got = self.received;
+        let received = got.handed(m);
         let t = match m {
             Message::Info(v) => s.on_info(own, &nogoods, bans, from, v),
             Message::Back(v, lhs) => s.on_back(
@@ -149,6 +161,7 @@ impl Agent {
         let end = done.state;
         let now = end.bars;
         let posts = done.posts;
+        let sent = self.sent;
         Step {
             agent: Agent {
                 value: end.value,
@@ -157,6 +170,8 @@ impl Agent {
                 informs: end.informs,
                 view: Lhs { digits: end.view },
                 nogoods: nogoods,
+                sent: sent.posted(posts),
+                received: received,
             },
             posts: posts,
             backs: backs,
@@ -172,6 +187,18 @@ impl Agent {
         requires { ⌜ Below own informs ⌝ }
         ensures { λ r. ⌜ ((bans : Bans) → BeginsAs r (begin (selfOf own) bans (members listens) (members informs))) ⌝ }
     {
+        let none = Counts {
+            infos: 0,
+            backs: 0,
+            links: 0,
+        };
+        let news = Posts {
+            links: 0,
+            told: informs,
+            value: 1,
+            next: 0,
+            count: 0,
+        };
         Agent {
             value: 1,
             stored: 0,
@@ -179,6 +206,8 @@ impl Agent {
             informs: informs,
             view: Lhs { digits: 0 },
             nogoods: [0; 8],
+            sent: none.posted(news),
+            received: none,
         }
     }
 }

@@ -2,18 +2,21 @@
 -- request chooses nothing.
 use mathlib.Core.Path.{_≡_, refl, sym, subst}
 use mathlib.Core.Bool.{true, false, false≢true}
+use mathlib.Core.List.{[], _∷_}
 use Prim.Native.Nat.{ℕ}
 use Rattle.agent_rules.specs.Message.{Assignment, Message, Info, Back, AddLink}
-use Rattle.agent_rules.specs.Agent.{Self, Bans, Agent}
-use Rattle.agent_rules.specs.Receiving.{quiet, informing, onAddLink, receive, begin}
+use Rattle.agent_rules.specs.Agent.{Self, Bans, Agent, unusedAgent}
+use Rattle.agent_rules.specs.Receiving.{quiet, informing, onAddLink, receive, begin, react, counted, fresh}
 use Rattle.agent_rules.specs.Sorts.{IsBack}
+use Rattle.agent_rules.specs.Choosing.{checkView}
 use Rattle.agent_facts.specs.Facts.{Setting, Good, Handed, Facts, AgentFacts}
 use Rattle.agent_facts.proofs.Posts.{answer-sent, answer-some}
-use Rattle.agent_facts.proofs.Links.{receive-links}
+use Rattle.agent_facts.proofs.Links.{react-links}
 use Rattle.agent_facts.proofs.Info.{info-facts, info-ends}
 use Rattle.agent_facts.proofs.Back.{back-facts, back-ends}
-use Rattle.agent_facts.proofs.Fits.{receive-fits}
-use Rattle.agent_facts.proofs.Begin.{begin-facts}
+use Rattle.agent_facts.proofs.Fits.{react-fits}
+use Rattle.agent_facts.proofs.Counted.{step-counted, links-counted, fits-counted, facts-counted, begun-counted}
+use Rattle.agent_facts.proofs.Begin.{first-facts}
 
 add-link-facts : (S : Assignment → Type 0) (s : Self) (bans : Bans) (a : Agent) (from : ℕ) → Good S s bans a
     → Facts S s bans a from AddLink (onAddLink a from)
@@ -43,22 +46,32 @@ add-link-facts S s bans a from G =
       must = λ lhs v e. absurd (subst IsBack (sym e) tt);
     }
 
-receive-facts : (S : Assignment → Type 0) (s : Self) (bans : Bans) (a : Agent) (from : ℕ) (m : Message)
+react-facts : (S : Assignment → Type 0) (s : Self) (bans : Bans) (a : Agent) (from : ℕ) (m : Message)
     → Setting S s bans → Handed S s a from m → Good S s bans a
-    → receive s bans a from m .verdict ≡ false → Facts S s bans a from m (receive s bans a from m)
-unfolding receive
-receive-facts S s bans a from (Info v) problem heard G z = info-facts S s bans a from v problem heard G z
-receive-facts S s bans a from (Back lhs v) problem (implied, upward) G z = back-facts S s bans a from lhs v problem implied upward G z
-receive-facts S s bans a from AddLink problem _ G z = add-link-facts S s bans a from G
+    → react s bans a from m .verdict ≡ false → Facts S s bans a from m (react s bans a from m)
+unfolding react
+react-facts S s bans a from (Info v) problem heard G z = info-facts S s bans a from v problem heard G z
+react-facts S s bans a from (Back lhs v) problem (implied, upward) G z = back-facts S s bans a from lhs v problem implied upward G z
+react-facts S s bans a from AddLink problem _ G z = add-link-facts S s bans a from G
 
-receive-ends : (S : Assignment → Type 0) (s : Self) (bans : Bans) (a : Agent) (from : ℕ) (m : Message)
+react-ends : (S : Assignment → Type 0) (s : Self) (bans : Bans) (a : Agent) (from : ℕ) (m : Message)
     → Setting S s bans → Handed S s a from m → Good S s bans a
-    → receive s bans a from m .verdict ≡ true → (σ : Assignment) → S σ → ⊥
-unfolding receive onAddLink quiet
-receive-ends S s bans a from (Info v) problem heard G z = info-ends S s bans a from v problem heard G z
-receive-ends S s bans a from (Back lhs v) problem (implied, upward) G z = back-ends S s bans a from lhs v problem implied upward G z
-receive-ends S s bans a from AddLink problem _ G z = absurd (false≢true z)
+    → react s bans a from m .verdict ≡ true → (σ : Assignment) → S σ → ⊥
+unfolding react onAddLink quiet
+react-ends S s bans a from (Info v) problem heard G z = info-ends S s bans a from v problem heard G z
+react-ends S s bans a from (Back lhs v) problem (implied, upward) G z = back-ends S s bans a from lhs v problem implied upward G z
+react-ends S s bans a from AddLink problem _ G z = absurd (false≢true z)
 
+-- The step with its messages counted has the facts of the step without.
 pub agent-facts : AgentFacts receive begin
+unfolding receive begin counted fresh unusedAgent
 agent-facts =
-    record { links = receive-links; fits = receive-fits; runs = receive-facts; ends = receive-ends; begins = begin-facts }
+    record {
+      links = λ s bans a from m. links-counted a _ _ (react-links s bans a from m);
+      counts = λ s bans a from m. step-counted a (m ∷ []) (react s bans a from m);
+      fits = λ owns s bans a from m high small f h. fits-counted a _ _ (react-fits owns s bans a from m high small f h);
+      runs = λ S s bans a from m problem heard G z. facts-counted a _ _ (react-facts S s bans a from m problem heard G z);
+      ends = λ S s bans a from m problem heard G z. react-ends S s bans a from m problem heard G z;
+      begins = λ s bans listens informs l d. begun-counted (fresh listens informs) _ _ (first-facts s bans listens informs l d);
+      starts = λ s bans listens informs. step-counted (fresh listens informs) [] (checkView s bans (fresh listens informs));
+    }

@@ -8,7 +8,7 @@ use Rattle.base.proofs.Tests.{opt, to-within}
 use Rattle.agent_rules.specs.Message.{nobody}
 use Rattle.agent_rules.specs.Agent.{Self, Bans, Nogoods, noNogoods, unusedAgent}
 use Rattle.agent_rules.specs.Choosing.{blame, blaming, reasonOf, reason, choose, choice, chosen, took, settle, checkView}
-use Rattle.agent_rules.specs.Receiving.{fresh, begin}
+use Rattle.agent_rules.specs.Receiving.{fresh}
 use Rattle.agent_rules.proofs.Assignments.{unknown}
 use Rattle.agent_facts.specs.Facts.{Begun}
 use Rattle.agent_facts.proofs.Posts.{gets-one, gets-none, infos-get}
@@ -37,9 +37,9 @@ module _ (s : Self) (bans : Bans) (listens informs : ℕ → Bool) where
   settle-first zero l d = absurd (omega arith)
   settle-first (suc times) l d = rw (first-choice d, settle, first-choice d)
 
-  pub begin-facts : 1 ≤ s .number → 1 ≤ s .domain → Begun s listens informs (begin s bans listens informs)
-  unfolding begin checkView took chosen fresh unusedAgent nobody noNogoods
-  begin-facts l d =
+  pub first-facts : 1 ≤ s .number → 1 ≤ s .domain → Begun s listens informs (checkView s bans (fresh listens informs))
+  unfolding checkView took chosen fresh unusedAgent nobody noNogoods
+  first-facts l d =
       rw (settle-first (s .number) l d)
       record {
         running = refl;

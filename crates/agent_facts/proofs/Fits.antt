@@ -32,7 +32,7 @@ use Rattle.agent_rules.specs.Receiving.{
   onBack,
   informing,
   onAddLink,
-  receive,
+  react,
 }
 use Rattle.agent_rules.specs.Shape.{EachNamed, EachIn, RecordFits, MessageFits}
 use Rattle.agent_rules.specs.Sorts.{IsInfo, Not}
@@ -207,10 +207,10 @@ module _ (owns : ℕ → ℕ → Bool) (s : Self) (bans : Bans) (high : s .numbe
   unfolding onAddLink informing
   add-link-fits m = answer-fits (informing a from) AddLink (informing-fits (m .0) (m .1)) refl (λ z. z) (m .0) (m .1)
 
-pub receive-fits : (owns : ℕ → ℕ → Bool) (s : Self) (bans : Bans) (a : Agent) (from : ℕ) (m : Message)
+pub react-fits : (owns : ℕ → ℕ → Bool) (s : Self) (bans : Bans) (a : Agent) (from : ℕ) (m : Message)
     → s .number ≤ maxAgents → s .domain ≤ maxDomain → RecordFits owns s a → MessageFits owns s a from m
-    → StepFits owns s a from m (receive s bans a from m)
-unfolding receive
-receive-fits owns s bans a from (Info v) high small f h = info-fits owns s bans high small a from f v h
-receive-fits owns s bans a from (Back lhs v) high small f h = back-fits owns s bans high small a from f lhs v h
-receive-fits owns s bans a from AddLink high small f h = add-link-fits owns s bans high small a from f h
+    → StepFits owns s a from m (react s bans a from m)
+unfolding react
+react-fits owns s bans a from (Info v) high small f h = info-fits owns s bans high small a from f v h
+react-fits owns s bans a from (Back lhs v) high small f h = back-fits owns s bans high small a from f lhs v h
+react-fits owns s bans a from AddLink high small f h = add-link-fits owns s bans high small a from f h

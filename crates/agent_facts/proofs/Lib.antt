@@ -9,5 +9,7 @@ mod Back
 mod ChoosingFits
 mod Fits
 mod Begin
+mod Counted
 pub mod Agent
 pub mod Answered
+pub mod Uncounted

@@ -27,7 +27,7 @@ use Rattle.agent_rules.specs.Receiving.{
   onBack,
   informing,
   onAddLink,
-  receive,
+  react,
 }
 use Rattle.agent_rules.specs.Sorts.{IsAddLink, Not, OneLink}
 use Rattle.agent_rules.proofs.Messages.{sentTo-append, one-put}
@@ -159,8 +159,8 @@ add-link-links a from =
       once = λ y. one-put [] (sentTo y (answer a from)) tt (gets-all (answer-get a from y) (Not IsAddLink) (λ _ _ z. z));
     }
 
-pub receive-links : (s : Self) (bans : Bans) (a : Agent) (from : ℕ) (m : Message) → Linking a from m (receive s bans a from m)
-unfolding receive
-receive-links s bans a from (Info v) = info-links s bans a from v
-receive-links s bans a from (Back lhs v) = back-links s bans a from lhs v
-receive-links s bans a from AddLink = add-link-links a from
+pub react-links : (s : Self) (bans : Bans) (a : Agent) (from : ℕ) (m : Message) → Linking a from m (react s bans a from m)
+unfolding react
+react-links s bans a from (Info v) = info-links s bans a from v
+react-links s bans a from (Back lhs v) = back-links s bans a from lhs v
+react-links s bans a from AddLink = add-link-links a from

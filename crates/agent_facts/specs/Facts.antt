@@ -2,7 +2,7 @@
 -- of a rule: a change of the rules proves `AgentFacts` again, and nothing above it moves.
 use mathlib.Core.Path.{_≡_}
 use mathlib.Core.Logic.{_≢_, _⊎_}
-use mathlib.Core.List.{[], _∷_}
+use mathlib.Core.List.{List, [], _∷_}
 use mathlib.Core.Bool.{Bool, true, false, not, _&&_, cond}
 use mathlib.Core.Option.{none, some}
 use Prim.Native.Nat.{ℕ, _≤_, _<_}
@@ -11,6 +11,7 @@ use Rattle.base.specs.Finite.{at, within, isSome}
 use Rattle.base.specs.Lists.{All, Any}
 use Rattle.problem.specs.Problem.{maxAgents, maxDomain}
 use Rattle.agent_rules.specs.Message.{Assignment, known, Message, Info, Back, AddLink, sentTo}
+use Rattle.agent_rules.specs.Counts.{Sort, Counts, noCounts, number, messagesIn, raised}
 use Rattle.agent_rules.specs.Agent.{Self, Bans, Agent, Step}
 use Rattle.agent_rules.specs.Shape.{EachNamed, EachIn, RecordFits, MessageFits}
 use Rattle.agent_rules.specs.Sorts.{IsInfo, IsBack, IsAddLink, Not, Refuses, OneLink, seen}
@@ -45,6 +46,12 @@ pub record Linking (a : Agent) (from : ℕ) (m : Message) (t : Step) : Type 0 wh
   pub joined : (y : ℕ) → t .agent .informs y ≡ true → (a .informs y ≡ true) ⊎ Asks from m y
   pub requests : (y : ℕ) → All (Requests a t y) (sentTo y (t .sent))
   pub once : (y : ℕ) → OneLink (sentTo y (t .sent))
+
+-- ---- figures: of every step. The messages handed over and the posts sent are counted, and nothing else.
+
+pub record Counted (before : Counts) (got : List Message) (t : Step) : Type 0 where
+  pub sent : (x : Sort) → t .agent .counts .sent x ≡ raised (before .sent x) (number x (messagesIn (t .sent)))
+  pub received : (x : Sort) → t .agent .counts .received x ≡ raised (before .received x) (number x got)
 
 -- ---- the shape: of every record and message that fit, forged ones too. `owns k v`: agent k owns value v
 
@@ -215,6 +222,7 @@ pub record AgentFacts (receive : Self → Bans → Agent → ℕ → Message →
     : Type 1 where
   -- of every step
   pub links : (s : Self) (bans : Bans) (a : Agent) (from : ℕ) (m : Message) → Linking a from m (receive s bans a from m)
+  pub counts : (s : Self) (bans : Bans) (a : Agent) (from : ℕ) (m : Message) → Counted (a .counts) (m ∷ []) (receive s bans a from m)
   -- of a record and a message in shape
   pub fits : (owns : ℕ → ℕ → Bool) (s : Self) (bans : Bans) (a : Agent) (from : ℕ) (m : Message)
       → s .number ≤ maxAgents → s .domain ≤ maxDomain → RecordFits owns s a → MessageFits owns s a from m
@@ -229,3 +237,4 @@ pub record AgentFacts (receive : Self → Bans → Agent → ℕ → Message →
   -- of the start
   pub begins : (s : Self) (bans : Bans) (listens informs : ℕ → Bool) → 1 ≤ s .number → 1 ≤ s .domain
       → Begun s listens informs (begin s bans listens informs)
+  pub starts : (s : Self) (bans : Bans) (listens informs : ℕ → Bool) → Counted noCounts [] (begin s bans listens informs)

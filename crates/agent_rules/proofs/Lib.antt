@@ -1,3 +1,4 @@
 pub mod Messages
 pub mod Assignments
 mod Cases
+pub mod Counts

@@ -6,6 +6,7 @@ use mathlib.Core.List.{List}
 use lib.Dec.{eqb}
 use Rattle.base.specs.Finite.{allTo}
 use Rattle.agent_rules.specs.Message.{Assignment, known, nobody, Post}
+use Rattle.agent_rules.specs.Counts.{Counts, noCounts}
 
 -- an agent's number and its domain (slot count): all of the problem that it has, beside the bans that name it
 pub record Self : Type 0 where
@@ -26,6 +27,7 @@ pub record Agent : Type 0 where
   pub informs : ℕ → Bool  -- "those below it that it informs"
   pub view : Assignment  -- "a slot or unknown for each it listens to"
   pub nogoods : Nogoods
+  pub counts : Counts  -- "the messages that it sent and those that it received, of each of the three sorts"
 
 -- "handed back changed, with what it sends"
 pub record Step : Type 0 where
@@ -39,29 +41,33 @@ noNogoods v = none
 -- an agent beyond n
 unfoldable pub unusedAgent : Agent
 unusedAgent =
-    record { value = 0; listens = λ k. false; informs = λ k. false; view = nobody; nogoods = noNogoods }
+    record { value = 0; listens = λ k. false; informs = λ k. false; view = nobody; nogoods = noNogoods; counts = noCounts }
 
 -- ---- a record with one part changed. The rules change records by these alone.
 
 abbrev pub withValue : Agent → ℕ → Agent
 withValue a value =
-    record { value = value; listens = a .listens; informs = a .informs; view = a .view; nogoods = a .nogoods }
+    record { value = value; listens = a .listens; informs = a .informs; view = a .view; nogoods = a .nogoods; counts = a .counts }
 
 abbrev pub withListens : Agent → (ℕ → Bool) → Agent
 withListens a listens =
-    record { value = a .value; listens = listens; informs = a .informs; view = a .view; nogoods = a .nogoods }
+    record { value = a .value; listens = listens; informs = a .informs; view = a .view; nogoods = a .nogoods; counts = a .counts }
 
 abbrev pub withInforms : Agent → (ℕ → Bool) → Agent
 withInforms a informs =
-    record { value = a .value; listens = a .listens; informs = informs; view = a .view; nogoods = a .nogoods }
+    record { value = a .value; listens = a .listens; informs = informs; view = a .view; nogoods = a .nogoods; counts = a .counts }
 
 abbrev pub withView : Agent → Assignment → Agent
 withView a view =
-    record { value = a .value; listens = a .listens; informs = a .informs; view = view; nogoods = a .nogoods }
+    record { value = a .value; listens = a .listens; informs = a .informs; view = view; nogoods = a .nogoods; counts = a .counts }
 
 abbrev pub withNogoods : Agent → Nogoods → Agent
 withNogoods a nogoods =
-    record { value = a .value; listens = a .listens; informs = a .informs; view = a .view; nogoods = nogoods }
+    record { value = a .value; listens = a .listens; informs = a .informs; view = a .view; nogoods = nogoods; counts = a .counts }
+
+abbrev pub withCounts : Agent → Counts → Agent
+withCounts a counts =
+    record { value = a .value; listens = a .listens; informs = a .informs; view = a .view; nogoods = a .nogoods; counts = counts }
 
 -- ---- what it has of the others
 

@@ -10,7 +10,8 @@ use Rattle.base.specs.Finite.{fromOne, allTo}
 use Rattle.problem.specs.Problem.{maxAgents, maxDomain}
 use Rattle.problem.specs.Cases.{sameBool}
 use Rattle.agent_rules.specs.Message.{Assignment, Message, Info, Back, AddLink, Post}
-use Rattle.agent_rules.specs.Agent.{Self, Bans, Nogoods, Agent, Step}
+use Rattle.agent_rules.specs.Counts.{Sort, Infos, Backs, AddLinks, Counts}
+use Rattle.agent_rules.specs.Agent.{Self, Bans, Nogoods, Agent, Step, withCounts}
 use Rattle.agent_rules.specs.Receiving.{receive, begin}
 
 -- ---- values by lists
@@ -40,9 +41,26 @@ unfoldable pub bansFrom : List OwnBan → Bans
 bansFrom [] k v w = false
 bansFrom (b ∷ bs) k v w = (eqb (b .agent) k && eqb (b .value) v && eqb (b .own) w) || bansFrom bs k v w
 
+-- counts of the three sorts: news, refusals, requests
+unfoldable pub bySort : List ℕ → Sort → ℕ
+bySort l Infos = getD l 0 0
+bySort l Backs = getD l 1 0
+bySort l AddLinks = getD l 2 0
+
+abbrev pub counts : List ℕ → List ℕ → Counts
+counts sent received = record { sent = bySort sent; received = bySort received }
+
+-- an agent whose counts are zero
 abbrev pub agent : ℕ → List ℕ → List ℕ → List ℕ → List (Option Assignment) → Agent
 agent v listens informs view stored =
-    record { value = v; listens = member listens; informs = member informs; view = values view; nogoods = nogoods stored }
+    record {
+      value = v;
+      listens = member listens;
+      informs = member informs;
+      view = values view;
+      nogoods = nogoods stored;
+      counts = counts [] [];
+    }
 
 abbrev pub post : ℕ → Message → Post
 post k m = record { to = k; message = m }
@@ -61,6 +79,12 @@ sameNogood none (some g) = false
 sameNogood (some f) none = false
 sameNogood (some f) (some g) = sameAssignment f g
 
+unfoldable pub sameSorts : (Sort → ℕ) → (Sort → ℕ) → Bool
+sameSorts f g = eqb (f Infos) (g Infos) && eqb (f Backs) (g Backs) && eqb (f AddLinks) (g AddLinks)
+
+unfoldable pub sameCounts : Counts → Counts → Bool
+sameCounts c d = sameSorts (c .sent) (d .sent) && sameSorts (c .received) (d .received)
+
 unfoldable pub sameAgent : Agent → Agent → Bool
 sameAgent a b =
     eqb (a .value) (b .value)
@@ -68,6 +92,7 @@ sameAgent a b =
     && sameSet (a .informs) (b .informs)
     && sameAssignment (a .view) (b .view)
     && allTo maxDomain (λ v. sameNogood (a .nogoods v) (b .nogoods v))
+    && sameCounts (a .counts) (b .counts)
 
 unfoldable pub sameMessage : Message → Message → Bool
 sameMessage (Info v) (Info w) = eqb v w
@@ -90,13 +115,14 @@ samePosts (p ∷ ps) (q ∷ qs) = eqb (p .to) (q .to) && sameMessage (p .message
 
 pub record StepCase : Type 0 where
   pub got : Step
-  pub agent : Agent
+  pub agent : Agent  -- but for its counts
+  pub counts : Counts
   pub sent : List Post
   pub verdict : Bool
 
 unfoldable pub stepHolds : StepCase → Bool
 stepHolds c =
-    sameAgent (c .got .agent) (c .agent) && samePosts (c .got .sent) (c .sent) && sameBool (c .got .verdict) (c .verdict)
+    sameAgent (c .got .agent) (withCounts (c .agent) (c .counts)) && samePosts (c .got .sent) (c .sent) && sameBool (c .got .verdict) (c .verdict)
 
 unfoldable pub allHold : List StepCase → Bool
 allHold [] = true
@@ -119,6 +145,7 @@ stepCases =
     record {
       got = begin (self 3 2) bans3 (member (1 ∷ 2 ∷ [])) (member (5 ∷ 4 ∷ []));
       agent = agent 1 (1 ∷ 2 ∷ []) (4 ∷ 5 ∷ []) [] [];
+      counts = counts (2 ∷ 0 ∷ 0 ∷ []) (0 ∷ 0 ∷ 0 ∷ []);
       sent = post 4 (Info 1) ∷ post 5 (Info 1) ∷ [];
       verdict = false;
     }
@@ -126,6 +153,7 @@ stepCases =
     ∷ record {
       got = receive (self 3 2) bans3 (agent 2 (1 ∷ 2 ∷ []) (4 ∷ []) [] []) 1 (Info 1);
       agent = agent 2 (1 ∷ 2 ∷ []) (4 ∷ []) (1 ∷ []) [];
+      counts = counts (0 ∷ 0 ∷ 0 ∷ []) (1 ∷ 0 ∷ 0 ∷ []);
       sent = [];
       verdict = false;
     }
@@ -133,12 +161,14 @@ stepCases =
     ∷ record {
       got = receive (self 3 2) bans3 (agent 2 (1 ∷ 2 ∷ []) [] (1 ∷ 2 ∷ []) (some (values (1 ∷ [])) ∷ [])) 1 (Info 2);
       agent = agent 2 (1 ∷ 2 ∷ []) [] (2 ∷ 2 ∷ []) [];
+      counts = counts (0 ∷ 0 ∷ 0 ∷ []) (1 ∷ 0 ∷ 0 ∷ []);
       sent = [];
       verdict = false;
     }
     ∷ record {
       got = receive (self 3 2) bans3 (agent 2 (1 ∷ 2 ∷ []) [] (1 ∷ 2 ∷ []) (some (values (1 ∷ [])) ∷ [])) 2 (Info 3);
       agent = agent 2 (1 ∷ 2 ∷ []) [] (1 ∷ 3 ∷ []) (some (values (1 ∷ [])) ∷ []);
+      counts = counts (0 ∷ 0 ∷ 0 ∷ []) (1 ∷ 0 ∷ 0 ∷ []);
       sent = [];
       verdict = false;
     }
@@ -146,6 +176,7 @@ stepCases =
     ∷ record {
       got = receive (self 3 3) (bansFrom (ownBan 1 1 1 ∷ ownBan 1 1 3 ∷ [])) (agent 1 (1 ∷ 2 ∷ []) (4 ∷ []) [] []) 1 (Info 1);
       agent = agent 2 (1 ∷ 2 ∷ []) (4 ∷ []) (1 ∷ []) (some (values (1 ∷ [])) ∷ []);
+      counts = counts (1 ∷ 0 ∷ 0 ∷ []) (1 ∷ 0 ∷ 0 ∷ []);
       sent = post 4 (Info 2) ∷ [];
       verdict = false;
     }
@@ -154,6 +185,7 @@ stepCases =
       got = receive (self 3 3) (bansFrom (ownBan 1 1 3 ∷ []))
           (agent 3 (1 ∷ 2 ∷ []) (4 ∷ []) (0 ∷ 2 ∷ []) (some (values (0 ∷ 2 ∷ [])) ∷ [])) 1 (Info 1);
       agent = agent 2 (1 ∷ 2 ∷ []) (4 ∷ []) (1 ∷ 2 ∷ []) (some (values (0 ∷ 2 ∷ [])) ∷ []);
+      counts = counts (1 ∷ 0 ∷ 0 ∷ []) (1 ∷ 0 ∷ 0 ∷ []);
       sent = post 4 (Info 2) ∷ [];
       verdict = false;
     }
@@ -161,6 +193,7 @@ stepCases =
     ∷ record {
       got = receive (self 3 2) (bansFrom (ownBan 1 1 1 ∷ ownBan 2 1 1 ∷ [])) (agent 1 (1 ∷ 2 ∷ []) [] (1 ∷ []) []) 2 (Info 1);
       agent = agent 2 (1 ∷ 2 ∷ []) [] (1 ∷ 1 ∷ []) (some (values (1 ∷ [])) ∷ []);
+      counts = counts (0 ∷ 0 ∷ 0 ∷ []) (1 ∷ 0 ∷ 0 ∷ []);
       sent = [];
       verdict = false;
     }
@@ -171,6 +204,7 @@ stepCases =
       agent =
           agent 4 (1 ∷ 2 ∷ []) (4 ∷ []) (1 ∷ 1 ∷ [])
           (some (values (0 ∷ 1 ∷ [])) ∷ some (values (1 ∷ [])) ∷ some (values (1 ∷ [])) ∷ []);
+      counts = counts (1 ∷ 0 ∷ 0 ∷ []) (1 ∷ 0 ∷ 0 ∷ []);
       sent = post 4 (Info 4) ∷ [];
       verdict = false;
     }
@@ -181,6 +215,7 @@ stepCases =
       agent =
           agent 4 (1 ∷ 2 ∷ []) (4 ∷ []) (1 ∷ 1 ∷ [])
           (some (values (0 ∷ 1 ∷ [])) ∷ some (values (0 ∷ 1 ∷ [])) ∷ some (values (1 ∷ [])) ∷ []);
+      counts = counts (1 ∷ 0 ∷ 0 ∷ []) (1 ∷ 0 ∷ 0 ∷ []);
       sent = post 4 (Info 4) ∷ [];
       verdict = false;
     }
@@ -191,6 +226,7 @@ stepCases =
       agent =
           agent 4 (1 ∷ 2 ∷ 3 ∷ []) (5 ∷ []) (1 ∷ 1 ∷ 1 ∷ [])
           (some (values (0 ∷ 0 ∷ 1 ∷ [])) ∷ some (values (0 ∷ 1 ∷ [])) ∷ some (values (0 ∷ 1 ∷ [])) ∷ []);
+      counts = counts (1 ∷ 0 ∷ 0 ∷ []) (1 ∷ 0 ∷ 0 ∷ []);
       sent = post 5 (Info 4) ∷ [];
       verdict = false;
     }
@@ -199,6 +235,7 @@ stepCases =
       got = receive (self 3 3) (bansFrom (ownBan 2 1 1 ∷ ownBan 1 1 2 ∷ ownBan 2 1 2 ∷ []))
           (agent 1 (1 ∷ 2 ∷ []) (4 ∷ []) (1 ∷ []) []) 2 (Info 1);
       agent = agent 3 (1 ∷ 2 ∷ []) (4 ∷ []) (1 ∷ 1 ∷ []) (some (values (0 ∷ 1 ∷ [])) ∷ some (values (0 ∷ 1 ∷ [])) ∷ []);
+      counts = counts (1 ∷ 0 ∷ 0 ∷ []) (1 ∷ 0 ∷ 0 ∷ []);
       sent = post 4 (Info 3) ∷ [];
       verdict = false;
     }
@@ -207,6 +244,7 @@ stepCases =
       got = receive (self 3 3) (bansFrom (ownBan 1 1 2 ∷ ownBan 2 1 2 ∷ []))
           (agent 1 (1 ∷ 2 ∷ []) (4 ∷ []) (1 ∷ 1 ∷ []) []) 4 (Back (values (0 ∷ 1 ∷ [])) 1);
       agent = agent 3 (1 ∷ 2 ∷ []) (4 ∷ []) (1 ∷ 1 ∷ []) (some (values (0 ∷ 1 ∷ [])) ∷ some (values (0 ∷ 1 ∷ [])) ∷ []);
+      counts = counts (1 ∷ 0 ∷ 0 ∷ []) (0 ∷ 1 ∷ 0 ∷ []);
       sent = post 4 (Info 3) ∷ [];
       verdict = false;
     }
@@ -217,6 +255,7 @@ stepCases =
       agent =
           agent 3 (1 ∷ 2 ∷ 3 ∷ []) (5 ∷ []) (1 ∷ 1 ∷ 2 ∷ [])
           (some (values (0 ∷ 0 ∷ 2 ∷ [])) ∷ some (values (1 ∷ [])) ∷ []);
+      counts = counts (1 ∷ 0 ∷ 0 ∷ []) (1 ∷ 0 ∷ 0 ∷ []);
       sent = post 5 (Info 3) ∷ [];
       verdict = false;
     }
@@ -230,6 +269,7 @@ stepCases =
       agent =
           agent 5 (1 ∷ 2 ∷ 3 ∷ []) (5 ∷ []) (1 ∷ 1 ∷ 1 ∷ [])
           (some (values (0 ∷ 0 ∷ 1 ∷ [])) ∷ some (values (0 ∷ 0 ∷ 1 ∷ [])) ∷ some (values (1 ∷ [])) ∷ some (values (1 ∷ [])) ∷ []);
+      counts = counts (1 ∷ 0 ∷ 0 ∷ []) (1 ∷ 0 ∷ 0 ∷ []);
       sent = post 5 (Info 5) ∷ [];
       verdict = false;
     }
@@ -237,6 +277,7 @@ stepCases =
     ∷ record {
       got = receive (self 3 2) (bansFrom (ownBan 2 1 1 ∷ ownBan 1 1 2 ∷ ownBan 2 1 2 ∷ [])) (agent 1 (1 ∷ 2 ∷ []) (4 ∷ []) (1 ∷ []) []) 2 (Info 1);
       agent = agent 1 (1 ∷ 2 ∷ []) (4 ∷ []) (1 ∷ []) [];
+      counts = counts (1 ∷ 1 ∷ 0 ∷ []) (1 ∷ 0 ∷ 0 ∷ []);
       sent = post 2 (Back (values []) 1) ∷ post 4 (Info 1) ∷ [];
       verdict = false;
     }
@@ -244,6 +285,7 @@ stepCases =
     ∷ record {
       got = receive (self 3 2) bans3 (agent 2 (1 ∷ 2 ∷ []) (4 ∷ []) (1 ∷ []) (some (values (1 ∷ [])) ∷ [])) 2 (Info 1);
       agent = agent 2 (1 ∷ 2 ∷ []) (4 ∷ []) (1 ∷ []) (some (values (1 ∷ [])) ∷ []);
+      counts = counts (1 ∷ 1 ∷ 0 ∷ []) (1 ∷ 0 ∷ 0 ∷ []);
       sent = post 2 (Back (values (1 ∷ [])) 1) ∷ post 4 (Info 2) ∷ [];
       verdict = false;
     }
@@ -251,6 +293,7 @@ stepCases =
     ∷ record {
       got = receive (self 3 2) bansBoth (agent 1 (1 ∷ 2 ∷ []) (4 ∷ []) (0 ∷ 2 ∷ []) (none ∷ some (values (0 ∷ 2 ∷ [])) ∷ [])) 1 (Info 1);
       agent = agent 1 (1 ∷ 2 ∷ []) (4 ∷ []) [] [];
+      counts = counts (1 ∷ 2 ∷ 0 ∷ []) (1 ∷ 0 ∷ 0 ∷ []);
       sent = post 2 (Back (values (1 ∷ [])) 2) ∷ post 1 (Back (values []) 1) ∷ post 4 (Info 1) ∷ [];
       verdict = false;
     }
@@ -258,6 +301,7 @@ stepCases =
     ∷ record {
       got = receive (self 2 2) (bansFrom []) (agent 1 (1 ∷ []) (3 ∷ 4 ∷ []) (2 ∷ []) []) 4 (Back (values (2 ∷ [])) 1);
       agent = agent 2 (1 ∷ []) (3 ∷ 4 ∷ []) (2 ∷ []) (some (values (2 ∷ [])) ∷ []);
+      counts = counts (2 ∷ 0 ∷ 0 ∷ []) (0 ∷ 1 ∷ 0 ∷ []);
       sent = post 3 (Info 2) ∷ post 4 (Info 2) ∷ [];
       verdict = false;
     }
@@ -266,6 +310,7 @@ stepCases =
     ∷ record {
       got = receive (self 2 1) (bansFrom []) (agent 1 [] (3 ∷ []) [] []) 3 (Back (values (1 ∷ [])) 1);
       agent = agent 1 (1 ∷ []) (3 ∷ []) [] [];
+      counts = counts (1 ∷ 1 ∷ 1 ∷ []) (0 ∷ 1 ∷ 0 ∷ []);
       sent = post 1 AddLink ∷ post 1 (Back (values []) 1) ∷ post 3 (Info 1) ∷ [];
       verdict = false;
     }
@@ -273,6 +318,7 @@ stepCases =
     ∷ record {
       got = receive (self 2 1) (bansFrom []) (agent 1 (1 ∷ []) (3 ∷ []) (1 ∷ []) []) 3 (Back (values (1 ∷ [])) 1);
       agent = agent 1 (1 ∷ []) (3 ∷ []) [] [];
+      counts = counts (1 ∷ 1 ∷ 0 ∷ []) (0 ∷ 1 ∷ 0 ∷ []);
       sent = post 1 (Back (values []) 1) ∷ post 3 (Info 1) ∷ [];
       verdict = false;
     }
@@ -280,6 +326,7 @@ stepCases =
     ∷ record {
       got = receive (self 4 2) (bansFrom []) (agent 1 (2 ∷ []) (5 ∷ []) (0 ∷ 3 ∷ []) []) 5 (Back (values (1 ∷ 3 ∷ 2 ∷ [])) 1);
       agent = agent 2 (1 ∷ 2 ∷ 3 ∷ []) (5 ∷ []) (1 ∷ 3 ∷ 2 ∷ []) (some (values (1 ∷ 3 ∷ 2 ∷ [])) ∷ []);
+      counts = counts (1 ∷ 0 ∷ 2 ∷ []) (0 ∷ 1 ∷ 0 ∷ []);
       sent = post 1 AddLink ∷ post 3 AddLink ∷ post 5 (Info 2) ∷ [];
       verdict = false;
     }
@@ -287,6 +334,7 @@ stepCases =
     ∷ record {
       got = receive (self 1 2) (bansFrom []) (agent 1 [] (2 ∷ []) [] []) 2 (Back (values []) 1);
       agent = agent 2 [] (2 ∷ []) [] (some (values []) ∷ []);
+      counts = counts (1 ∷ 0 ∷ 0 ∷ []) (0 ∷ 1 ∷ 0 ∷ []);
       sent = post 2 (Info 2) ∷ [];
       verdict = false;
     }
@@ -294,6 +342,7 @@ stepCases =
     ∷ record {
       got = receive (self 1 2) (bansFrom []) (agent 2 [] (2 ∷ []) [] (some (values []) ∷ [])) 2 (Back (values []) 2);
       agent = agent 0 [] (2 ∷ []) [] (some (values []) ∷ some (values []) ∷ []);
+      counts = counts (0 ∷ 0 ∷ 0 ∷ []) (0 ∷ 1 ∷ 0 ∷ []);
       sent = [];
       verdict = true;
     }
@@ -301,6 +350,7 @@ stepCases =
     ∷ record {
       got = receive (self 2 2) (bansFrom []) (agent 1 (1 ∷ []) (3 ∷ []) (1 ∷ []) []) 3 (Back (values (2 ∷ [])) 1);
       agent = agent 1 (1 ∷ []) (3 ∷ []) (1 ∷ []) [];
+      counts = counts (1 ∷ 0 ∷ 0 ∷ []) (0 ∷ 1 ∷ 0 ∷ []);
       sent = post 3 (Info 1) ∷ [];
       verdict = false;
     }
@@ -308,6 +358,7 @@ stepCases =
     ∷ record {
       got = receive (self 2 2) (bansFrom []) (agent 1 (1 ∷ []) (3 ∷ []) [] []) 3 (Back (values (2 ∷ [])) 1);
       agent = agent 1 (1 ∷ []) (3 ∷ []) [] [];
+      counts = counts (1 ∷ 0 ∷ 0 ∷ []) (0 ∷ 1 ∷ 0 ∷ []);
       sent = post 3 (Info 1) ∷ [];
       verdict = false;
     }
@@ -315,6 +366,7 @@ stepCases =
     ∷ record {
       got = receive (self 2 2) (bansFrom []) (agent 2 (1 ∷ []) (3 ∷ []) (1 ∷ []) []) 3 (Back (values (1 ∷ [])) 1);
       agent = agent 2 (1 ∷ []) (3 ∷ []) (1 ∷ []) [];
+      counts = counts (0 ∷ 0 ∷ 0 ∷ []) (0 ∷ 1 ∷ 0 ∷ []);
       sent = [];
       verdict = false;
     }
@@ -322,7 +374,36 @@ stepCases =
     ∷ record {
       got = receive (self 1 2) (bansFrom []) (agent 2 [] (3 ∷ []) [] []) 2 AddLink;
       agent = agent 2 [] (2 ∷ 3 ∷ []) [] [];
+      counts = counts (1 ∷ 0 ∷ 0 ∷ []) (0 ∷ 0 ∷ 1 ∷ []);
       sent = post 2 (Info 2) ∷ [];
+      verdict = false;
+    }
+    -- Counts go on from what they were. One below the top, a count reaches it.
+    ∷ record {
+      got = receive (self 1 2) (bansFrom [])
+          (withCounts (agent 2 [] (3 ∷ []) [] []) (counts (18446744073709551614 ∷ 7 ∷ 6 ∷ []) (5 ∷ 4 ∷ 18446744073709551613 ∷ []))) 2 AddLink;
+      agent = agent 2 [] (2 ∷ 3 ∷ []) [] [];
+      counts = counts (18446744073709551615 ∷ 7 ∷ 6 ∷ []) (5 ∷ 4 ∷ 18446744073709551614 ∷ []);
+      sent = post 2 (Info 2) ∷ [];
+      verdict = false;
+    }
+    -- At the top it stays, what is sent and what is received alike; and two at once stop there.
+    ∷ record {
+      got = receive (self 2 2) (bansFrom [])
+          (withCounts (agent 1 (1 ∷ []) (3 ∷ 4 ∷ []) (2 ∷ []) []) (counts (18446744073709551614 ∷ 0 ∷ 1 ∷ []) (0 ∷ 18446744073709551615 ∷ 0 ∷ [])))
+          4 (Back (values (2 ∷ [])) 1);
+      agent = agent 2 (1 ∷ []) (3 ∷ 4 ∷ []) (2 ∷ []) (some (values (2 ∷ [])) ∷ []);
+      counts = counts (18446744073709551615 ∷ 0 ∷ 1 ∷ []) (0 ∷ 18446744073709551615 ∷ 0 ∷ []);
+      sent = post 3 (Info 2) ∷ post 4 (Info 2) ∷ [];
+      verdict = false;
+    }
+    ∷ record {
+      got = receive (self 2 2) (bansFrom [])
+          (withCounts (agent 1 (1 ∷ []) (3 ∷ []) (1 ∷ []) []) (counts (18446744073709551615 ∷ 2 ∷ 0 ∷ []) (0 ∷ 18446744073709551614 ∷ 3 ∷ [])))
+          3 (Back (values (2 ∷ [])) 1);
+      agent = agent 1 (1 ∷ []) (3 ∷ []) (1 ∷ []) [];
+      counts = counts (18446744073709551615 ∷ 2 ∷ 0 ∷ []) (0 ∷ 18446744073709551615 ∷ 3 ∷ []);
+      sent = post 3 (Info 1) ∷ [];
       verdict = false;
     }
     ∷ []

@@ -1,5 +1,6 @@
 pub mod Message
 pub mod Sorts
+pub mod Counts
 pub mod Agent
 pub mod Choosing
 pub mod Receiving

@@ -7,6 +7,7 @@ use mathlib.Core.List.{List, [], _∷_}
 use lib.Dec.{eqb}
 use Rattle.base.specs.Finite.{at, lowest, allTo, isSome, gather}
 use Rattle.agent_rules.specs.Message.{Assignment, known, Message, Info, Back, AddLink, Post}
+use Rattle.agent_rules.specs.Counts.{counting}
 use Rattle.agent_rules.specs.Agent.{
   Self,
   Bans,
@@ -18,6 +19,7 @@ use Rattle.agent_rules.specs.Agent.{
   withInforms,
   withView,
   withNogoods,
+  withCounts,
   above,
   agrees,
 }
@@ -106,15 +108,24 @@ onAddLink a from = quiet (informing a from) (answer a from)
 
 -- ---- a message, of whatever kind
 
-unfoldable pub receive : Self → Bans → Agent → ℕ → Message → Step
-receive s bans a from (Info v) = onInfo s bans a from v
-receive s bans a from (Back lhs v) = onBack s bans a from lhs v
-receive s bans a from AddLink = onAddLink a from
+unfoldable pub react : Self → Bans → Agent → ℕ → Message → Step
+react s bans a from (Info v) = onInfo s bans a from v
+react s bans a from (Back lhs v) = onBack s bans a from lhs v
+react s bans a from AddLink = onAddLink a from
 
--- ---- Start: "All views are unknown, and each scanner chooses."
+-- ---- Counting: the step of agent a, with what it was handed and what it sends counted. No other rule reads or changes a count.
+
+unfoldable pub counted : Agent → List Message → Step → Step
+counted a got t =
+    record { agent = withCounts (t .agent) (counting (a .counts) got (t .sent)); sent = t .sent; verdict = t .verdict }
+
+unfoldable pub receive : Self → Bans → Agent → ℕ → Message → Step
+receive s bans a from m = counted a (m ∷ []) (react s bans a from m)
+
+-- ---- Start: "All views are unknown, and each scanner chooses." Its news counts.
 
 unfoldable pub fresh : (ℕ → Bool) → (ℕ → Bool) → Agent
 fresh listens informs = withInforms (withListens unusedAgent listens) informs
 
 unfoldable pub begin : Self → Bans → (ℕ → Bool) → (ℕ → Bool) → Step
-begin s bans listens informs = checkView s bans (fresh listens informs)
+begin s bans listens informs = counted (fresh listens informs) [] (checkView s bans (fresh listens informs))

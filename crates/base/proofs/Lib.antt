@@ -9,3 +9,4 @@ pub mod Arrays
 pub mod Searches
 pub mod Zeros
 pub mod Gathers
+pub mod Sums

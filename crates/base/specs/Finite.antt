@@ -1,5 +1,5 @@
 -- Finite search, and maps on numbers. Nothing here knows of agents.
-use Prim.Native.Nat.{ℕ, zero, suc}
+use Prim.Native.Nat.{ℕ, zero, suc, _+_}
 use mathlib.Core.Bool.{Bool, true, false, _&&_, _||_}
 use mathlib.Core.Option.{Option, none, some}
 use mathlib.Core.List.{List, [], _∷_, _++_}
@@ -52,6 +52,11 @@ any p (x ∷ xs) = p x || any p xs
 unfoldable pub gather {ℓ} : {A : Type ℓ} → ℕ → ℕ → (ℕ → List A) → List A
 gather zero k f = []
 gather (suc m) k f = f k ++ gather m (suc k) f
+
+-- f 1 + .. + f m
+unfoldable pub sum : ℕ → (ℕ → ℕ) → ℕ
+sum zero f = 0
+sum (suc m) f = sum m f + f (suc m)
 
 -- the greatest of f 1 to f m, 0 where m is 0
 unfoldable pub greatest : ℕ → (ℕ → ℕ) → ℕ

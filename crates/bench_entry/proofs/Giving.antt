@@ -7,7 +7,7 @@ use mathlib.Core.List.{List, map}
 use native.Mathlib.Nat.{pow-le-pow-right, pow-suc}
 use native.Mathlib.Omega.{arith}
 use lib.ListN.{length, getD, length-map, List·getD-map}
-use borrow.Author.Tests.{eq-eqb, ne-eqb}
+use borrow.Author.Tests.{eq-eqb, ne-eqb, lt-ltb, le-ltb}
 use Rattle.base.specs.Finite.{fromOne}
 use Rattle.base.proofs.Tests.{test}
 use Rattle.base.proofs.Arrays.{getD-below, getD-past}
@@ -19,7 +19,7 @@ use Rattle.protocol.specs.Run.{Ending as Ending′, None, Plan, Jammed, Faulty,
 use Rattle.packed.specs.Packed.{assignment}
 use Rattle.packed.proofs.Digits.{nobody-assigned}
 use Rattle.agent.specs.declared.Agent.{Agent}
-use Rattle.agent.specs.Abstract.{agentOf}
+use Rattle.agent.specs.Abstract.{countsOf, agentOf}
 use Rattle.sheet.specs.Abstract.{Outcome, outcome}
 use Rattle.network.specs.declared.Network.{Network}
 use Rattle.network.specs.Abstract.{isChannel, rowOf, agentsOf, networkOf}
@@ -28,7 +28,7 @@ use Rattle.network_laws.specs.Held.{heldAt}
 use Rattle.network_laws.proofs.Changes.{channel-held}
 use Rattle.run.specs.declared.Answer.{Answer}
 use Rattle.run.specs.Answers.{endingOf, RunsAs}
-use Rattle.bench_entry.specs.Giving.{wordFor, WaitsFor, endingDigit, valuesTo, ranFor, settledFor}
+use Rattle.bench_entry.specs.Giving.{wordFor, WaitsFor, endingDigit, valuesTo, ranFor, settledFor, countsMixed, countsFor}
 
 -- ---- decoding
 
@@ -94,11 +94,13 @@ values-fit k w h =
     let p : 9 ^ k ≤ 9 ^ 12 = pow-le-pow-right (omega arith) {i = k} {j = 12} h in
     omega (arith, values-below k w, p)
 
+agent-at : (r : Network) (k : ℕ) (d : Agent) → k < length (r .agents) → agentOf (getD (r .agents) k d) ≡ networkOf r .agents (suc k)
+unfolding networkOf agentsOf fromOne
+agent-at r k d h = sym (getD-below (map agentOf (r .agents)) k unusedAgent (agentOf d) (simp length-map h) ∙ List·getD-map agentOf (r .agents) k d)
+
 value-at : (r : Network) (k : ℕ) (d : Agent) → k < length (r .agents) → getD (r .agents) k d .value ≡ networkOf r .agents (suc k) .value
-unfolding networkOf agentsOf fromOne agentOf
-value-at r k d h =
-    ap (λ (a : Agent′). a .value)
-    (sym (getD-below (map agentOf (r .agents)) k unusedAgent (agentOf d) (simp length-map h) ∙ List·getD-map agentOf (r .agents) k d))
+unfolding agentOf
+value-at r k d h = ap (λ (a : Agent′). a .value) (agent-at r k d h)
 
 pub one-value : (r : Network) (k values : ℕ) (d : Agent) → k < length (r .agents) → values ≡ valuesTo k (networkOf r)
     → values * 9 + getD (r .agents) k d .value % 9 ≡ valuesTo (suc k) (networkOf r)
@@ -124,3 +126,18 @@ pub run-given : (s : Started) (rounds : ℕ) (r : Network) (a : Answer) (values 
 unfolding settledFor ranFor
 run-given s rounds r a values z e x v =
     rw (eq-eqb (s .number) 0 z, settledFor, v, x .network, x .rounds, x .ending, e)
+
+-- ---- counts
+
+module _ (s : Started) (rounds : ℕ) (r : Network) (a : Answer) (e : networkOf r ≡ s .network) (x : RunsAs r (run rounds (networkOf r)) a) (k : ℕ) where
+  pub counts-given : (d : Agent) → k < length (a .network .agents) → k < 12
+      → countsMixed (countsOf (getD (a .network .agents) k d .sent) (getD (a .network .agents) k d .received)) ≡ countsFor s rounds k
+  unfolding countsFor agentOf
+  counts-given d h l =
+      rw (lt-ltb k 12 l, countsFor)
+      (ap (λ (b : Agent′). countsMixed (b .counts)) (agent-at (a .network) k d h)
+      ∙ ap (λ (w : Network′). countsMixed (w .agents (suc k) .counts)) (x .network ∙ ap (λ (w : Network′). run rounds w .network) e))
+
+  pub nobody-given : 12 ≤ k → 0 ≡ countsFor s rounds k
+  unfolding countsFor
+  nobody-given h = rw (le-ltb k 12 h, countsFor)

@@ -3,9 +3,10 @@ use Prim.Native.Nat.{ℕ, zero, suc, _+_, _*_, _%_}
 use mathlib.Core.Path.{_≡_}
 use mathlib.Core.Bool.{true, false}
 use mathlib.Core.List.{List}
-use lib.Dec.{eqb}
+use lib.Dec.{eqb, ltb}
 use lib.ListN.{length, getD}
 use Rattle.problem.specs.Sheet.{faultNumber, Decoded, Valid, Invalid}
+use Rattle.agent_rules.specs.Counts.{Sort, Infos, Backs, AddLinks, Counts}
 use Rattle.protocol.specs.Network.{Network, Started, startSheet}
 use Rattle.protocol.specs.Delivery.{answerNumber, Delivery, deliver, askValue}
 use Rattle.protocol.specs.Run.{Ending, None, Plan, Jammed, Faulty, Open, Broken, Ran, run}
@@ -73,3 +74,19 @@ askedTo (suc k) w sum = mixed (askedTo k w sum) (askValue w k .value)
 -- all calls, and then every number that an agent can have, with one below
 unfoldable pub playedFor : Played → ℕ
 playedFor p = askedTo 13 (p .network) (p .sum)
+
+-- ---- counts, each modulo 2 ^ 32, mixed into one number
+
+unfoldable pub countMixed : ℕ → ℕ → ℕ
+countMixed sum count = mixed sum (count % 4294967296)
+
+unfoldable pub sortMixed : ℕ → Counts → Sort → ℕ
+sortMixed sum c x = countMixed (countMixed sum (c .sent x)) (c .received x)
+
+unfoldable pub countsMixed : Counts → ℕ
+countsMixed c = sortMixed (sortMixed (sortMixed 0 c Infos) c Backs) c AddLinks
+
+-- of an agent after a run; agents are counted from 0
+unfoldable pub countsFor : Started → ℕ → ℕ → ℕ
+countsFor s rounds agent =
+    elim (ltb agent 12) [ true ↦ countsMixed (run rounds (s .network) .network .agents (suc agent) .counts) | false ↦ 0 ]

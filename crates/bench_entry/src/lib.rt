@@ -6,7 +6,9 @@ ghost use lib.ListN.{length};
 ghost use Rattle.problem.specs.Sheet.{decode};
 ghost use Rattle.protocol.specs.Network.{startSheet};
 ghost use Rattle.run.specs.Answers.{endingOf};
-ghost use Rattle.bench_entry.specs.Giving.{wordFor, WaitsFor, endingDigit, settledFor, playedTo, playedFor};
+ghost use Rattle.agent.specs.Abstract.{countsOf};
+ghost use Rattle.bench_entry.specs.Giving.{wordFor, WaitsFor, endingDigit, settledFor, playedTo, playedFor, countMixed, countsMixed, countsFor};
+use agent::Counts;
 use network::places::lines_of;
 use run::Ending;
 
@@ -103,4 +105,38 @@ pub extern "C" fn bench_entry_deliver(sheet: &[u8], calls: &[u8]) -> u64
         i += 1;
     }
     sum
+}
+
+// ---- counts
+
+// A count mixed into a sum.
+fn mixed(sum: u64, count: u64) -> u64
+    ensures { λ r. ⌜ r ≡ countMixed sum count ⌝ }
+{
+    (sum % 4294967296) * 31 + count % 4294967296
+}
+
+// Six counts in one number.
+fn all_mixed(sent: Counts, received: Counts) -> u64
+    ensures { λ r. ⌜ r ≡ countsMixed (countsOf sent received) ⌝ }
+{
+    let news = mixed(mixed(0, sent.infos), received.infos);
+    let refusals = mixed(mixed(news, sent.backs), received.backs);
+    mixed(mixed(refusals, sent.links), received.links)
+}
+
+// Decoding, the start and a run: one agent's counts after it.
+#[no_mangle]
+pub extern "C" fn bench_entry_counts(sheet: &[u8], rounds: u64, agent: usize) -> u64
+    ensures { λ r. ⌜ r ≡ countsFor (startSheet (now (sheet .entry))) rounds agent ⌝ }
+{
+    let started = start::start(sheet);
+    let network = started.network;
+    let ran = run::run(network, rounds);
+    let agents = ran.network.agents;
+    if agent < 12 {
+        let a = agents[agent];
+        return all_mixed(a.sent, a.received);
+    }
+    0
 }

@@ -1,9 +1,10 @@
-// The text of the board: each scanner with its view, whom it informs and its reasons; then the lines that hold something.
+// The text of the board: each scanner with its view, whom it informs, its reasons and its counts; then the lines that hold something.
 ghost use mathlib.Core.Path.{_≡_};
 ghost use mathlib.Core.Bool.{true};
 ghost use Prim.Native.Nat.{_<_};
 ghost use Rattle.network.specs.Abstract.{isChannel};
 use agent::Agent;
+use agent::Counts;
 use agent::Lhs;
 use agent::Message;
 use network::Network;
@@ -90,6 +91,28 @@ fn put_reasons(a: Agent) {
     }
 }
 
+// How many messages of each sort.
+fn put_sorts(c: Counts) {
+    put(b" news ");
+    put_number(c.infos);
+    put(b" refusals ");
+    put_number(c.backs);
+    put(b" links ");
+    put_number(c.links);
+}
+
+// What was sent and received, left out where nothing was.
+fn put_counts(sent: Counts, received: Counts) {
+    if sent.is_zero() & received.is_zero() {
+        return;
+    }
+    put(b"  sent");
+    put_sorts(sent);
+    put(b", received");
+    put_sorts(received);
+    put(b"\n");
+}
+
 fn put_agent(number: u64, a: Agent) {
     put(b"scanner ");
     put_number(number);
@@ -101,6 +124,7 @@ fn put_agent(number: u64, a: Agent) {
     put_view(a.listens, a.view);
     put_informs(a.informs);
     put_reasons(a);
+    put_counts(a.sent, a.received);
 }
 
 // ---- lines

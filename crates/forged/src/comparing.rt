@@ -1,5 +1,6 @@
 // Whether two networks are the same in every field, what is no part of a network and the unused places too.
 use agent::Agent;
+use agent::Counts;
 use agent::Message;
 use network::Network;
 use network::Place;
@@ -18,6 +19,10 @@ fn same_words(a: &[u64], b: &[u64]) -> bool {
     true
 }
 
+fn same_counts(a: Counts, b: Counts) -> bool {
+    (a.infos == b.infos) & (a.backs == b.backs) & (a.links == b.links)
+}
+
 fn same_agent(a: Agent, b: Agent) -> bool {
     if a.value != b.value {
         return false;
@@ -32,6 +37,12 @@ fn same_agent(a: Agent, b: Agent) -> bool {
         return false;
     }
     if a.view.digits != b.view.digits {
+        return false;
+    }
+    if !same_counts(a.sent, b.sent) {
+        return false;
+    }
+    if !same_counts(a.received, b.received) {
         return false;
     }
     same_words(&a.nogoods, &b.nogoods)

@@ -1,6 +1,7 @@
 // Networks to be tried: one in shape, and what changes it in one place.
 ghost use Prim.Native.Nat.{_≤_, _<_};
 use agent::Carried;
+use agent::Counts;
 use agent::Lhs;
 use agent::Message;
 use network::Network;
@@ -86,6 +87,36 @@ pub fn keeping(r: Network, i: usize, k: u8, stored: bool, digits: u64) -> Networ
     let mut a = r.agents[i];
     a.nogoods[k as usize] = digits;
     a.stored = (a.stored & !(1u8 << k)) | ((stored as u8) << k);
+    let mut o = r;
+    o.agents[i] = a;
+    o
+}
+
+// So many messages of each sort.
+pub fn counts(infos: u64, backs: u64, links: u64) -> Counts {
+    Counts {
+        infos: infos,
+        backs: backs,
+        links: links,
+    }
+}
+
+// How many messages agent i + 1 has sent, or received.
+pub fn having_sent(r: Network, i: usize, sent: Counts) -> Network
+    requires { ⌜ i < 12 ⌝ }
+{
+    let mut a = r.agents[i];
+    a.sent = sent;
+    let mut o = r;
+    o.agents[i] = a;
+    o
+}
+
+pub fn having_received(r: Network, i: usize, received: Counts) -> Network
+    requires { ⌜ i < 12 ⌝ }
+{
+    let mut a = r.agents[i];
+    a.received = received;
     let mut o = r;
     o.agents[i] = a;
     o

@@ -8,8 +8,11 @@ use agent::Message;
 use comparing::same;
 use forging::back;
 use forging::counted;
+use forging::counts;
 use forging::far_back;
 use forging::good;
+use forging::having_received;
+use forging::having_sent;
 use forging::headed;
 use forging::holding;
 use forging::informing;
@@ -84,6 +87,13 @@ fn free(g: Network) {
     case(b"a head beyond the ring", g, headed(g, 1, 3, 11));
     case(b"a head of 15", g, headed(g, 1, 3, 15));
     case(b"a head beyond agent 12", g, headed(g, 1, 13, 5));
+    let top = 18446744073709551615;
+    let talkative = having_sent(g, 2, counts(top, 7, 0));
+    case(
+        b"counts of any size",
+        g,
+        having_received(talkative, 1, counts(0, top - 1, top)),
+    );
     case(b"a count of no line", g, waiting(g, 2, 2, 9));
     case(b"a count beyond agent 12", g, waiting(g, 2, 13, 9));
 }
@@ -171,6 +181,32 @@ fn beyond(g: Network) {
     case(b"agent 4 informs", g, informing(g, 3, 0b10000));
     case(b"a view beyond n", g, viewing(g, 3, 0x1));
     case(b"a nogood beyond n", g, keeping(g, 3, 0, true, 0x0));
+    case(b"news sent beyond n", g, having_sent(g, 3, counts(1, 0, 0)));
+    case(
+        b"a refusal sent beyond n",
+        g,
+        having_sent(g, 3, counts(0, 1, 0)),
+    );
+    case(
+        b"a link asked for beyond n",
+        g,
+        having_sent(g, 3, counts(0, 0, 1)),
+    );
+    case(
+        b"news received beyond n",
+        g,
+        having_received(g, 3, counts(1, 0, 0)),
+    );
+    case(
+        b"a refusal received beyond n",
+        g,
+        having_received(g, 3, counts(0, 1, 0)),
+    );
+    case(
+        b"a link request received beyond n",
+        g,
+        having_received(g, 3, counts(0, 0, 18446744073709551615)),
+    );
     case(
         b"a message from beyond n",
         g,

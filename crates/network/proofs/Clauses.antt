@@ -18,14 +18,16 @@ use Rattle.base.proofs.Arrays.{getD-below}
 use Rattle.base.proofs.Peeling.{allTo-same, allTo-and, below-test}
 use Rattle.problem.specs.Problem.{Problem, maxAgents, maxDomain, domain, owns, wordAt, isPair, linked}
 use Rattle.agent_rules.specs.Message.{known}
+use Rattle.agent_rules.specs.Counts.{Sort, eachSort, eachCount, top}
 use Rattle.agent_rules.specs.Agent.{unusedAgent}
 use Rattle.agent_rules.specs.Shape.{maxNamed}
+use Rattle.agent_rules.proofs.Counts.{to-each-count}
 use Rattle.protocol.specs.Network.{Network as Network′}
-use Rattle.protocol.specs.Shape.{eachNamed, eachIn, holdsValue, listensUpward, informsDownward, viewListened, nogoodFits, nogoodsFit, unused, lhsFits}
+use Rattle.protocol.specs.Shape.{eachNamed, eachIn, holdsValue, listensUpward, informsDownward, viewListened, nogoodFits, nogoodsFit, countsFit, unused, lhsFits}
 use Rattle.packed.specs.Packed.{assignment, members}
 use Rattle.packed.proofs.Known.{known-suc}
 use Rattle.packed.proofs.Digits.{pow16, cut-before, cut-from}
-use Rattle.agent.specs.Abstract.{assigned, nogoodAt, agentOf}
+use Rattle.agent.specs.Abstract.{assigned, nogoodAt, countOf, countsOf, agentOf}
 use Rattle.agent.specs.declared.Agent.{Agent}
 use Rattle.network.specs.Abstract.{agentsOf, networkOf}
 use Rattle.network.specs.Parts.{Domains, setOf}
@@ -176,11 +178,21 @@ zeroed a =
     && eqb (a .informs) 0
     && eqb (a .view .digits) 0
     && eqb (a .stored) 0
+    && (eachSort (countOf (a .sent)) (λ c. eqb c 0) && eachSort (countOf (a .received)) (λ c. eqb c 0))
 
 pub unused-is : (a : Agent) → a .listens < 2 ^ 16 → a .informs < 2 ^ 16 → a .view .digits < 2 ^ 64 → a .stored < 2 ^ 8
     → unused (agentOf a) ≡ zeroed a
-unfolding unused zeroed agentOf assigned
+unfolding unused zeroed agentOf assigned countsOf eachCount
 unused-is a l i v s = rw (none-in (a .listens) l, none-in (a .informs) i, none-named (a .view .digits) v, none-stored a s)
+
+-- ---- counts
+
+-- any numbers of 64 bits will do
+pub counts-fit : (w : Network′) (i : ℕ) (a : Agent) → w .agents i ≡ agentOf a
+    → ((x : Sort) → (countOf (a .sent) x ≤ top) × (countOf (a .received) x ≤ top)) → countsFit w i ≡ true
+unfolding countsFit agentOf countsOf
+counts-fit w i a e few =
+    rw e (to-each-count (countsOf (a .sent) (a .received)) (λ c. leb c top) (λ x. (le-leb _ top (few x .0), le-leb _ top (few x .1))))
 
 -- ---- agents that a ban word links
 

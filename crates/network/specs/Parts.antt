@@ -14,6 +14,7 @@ use Rattle.protocol.specs.Shape.{
   informsDownward,
   viewListened,
   nogoodsFit,
+  countsFit,
 }
 use Rattle.packed.specs.Packed.{assignment, members}
 
@@ -34,9 +35,9 @@ heard w j = allTo (pred j) (λ i. cond (w .agents i .informs j) (w .agents j .li
 unfoldable pub linksInShape : Network′ → ℕ → Bool
 linksInShape w i = listensUpward w i && informsDownward w i && heard w i
 
--- the other clauses on an agent: its value, its view and its nogoods
+-- the other clauses on an agent: its value, its view, its nogoods and its counts
 unfoldable pub holdsInShape : Network′ → ℕ → Bool
-holdsInShape w i = holdsValue w i && viewListened w i && nogoodsFit w i
+holdsInShape w i = holdsValue w i && viewListened w i && nogoodsFit w i && countsFit w i
 
 -- ---- the sets of all agents, side by side
 

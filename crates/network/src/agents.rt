@@ -95,20 +95,15 @@ fn nogoods_fit(d: u8, a: Agent) -> bool
 pub fn unused(a: Agent) -> bool
     ensures { λ b. ⌜ b ≡ unused (agentOf a) ⌝ }
 {
-    if a.value != 0 {
-        return false;
-    }
-    if a.listens != 0 {
-        return false;
-    }
-    if a.informs != 0 {
-        return false;
-    }
     let view = a.view;
-    if view.digits != 0 {
-        return false;
-    }
-    a.stored == 0
+    let sent = a.sent;
+    let received = a.received;
+    (a.value == 0)
+        & (a.listens == 0)
+        & (a.informs == 0)
+        & (view.digits == 0)
+        & (a.stored == 0)
+        & (sent.is_zero() & received.is_zero())
 }
 
 // What is asked of agent i's links, where `informs` has every agent's set.
@@ -125,7 +120,7 @@ pub fn links_in_shape(count: u8, informs: &[u16; 12], bans: &[u64; 66], i: u8, l
     heard(informs, bans, i, listens)
 }
 
-// What one agent holds by itself: its value, its view and its nogoods.
+// What one agent holds by itself: its value, its view and its nogoods. Its counts may be any.
 pub fn holds_in_shape(verdict: bool, domains: u64, i: u8, a: Agent) -> bool
     requires { ⌜ (1 ≤ i) × (i ≤ 12) ⌝ }
     ensures { λ b. ⌜ ((w : Network′) → w .verdict ≡ verdict → Domains (w .problem) domains → w .agents i ≡ agentOf a → b ≡ holdsInShape w i) ⌝ }

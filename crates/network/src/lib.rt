@@ -6,6 +6,7 @@ ghost use Rattle.protocol.specs.Delivery.{answerNumber, askValue};
 ghost use Rattle.network.specs.Abstract.{networkOf};
 ghost use Rattle.network.specs.Empty.{emptyRecord};
 use agent::Agent;
+use agent::Counts;
 use agent::Lhs;
 use agent::Message;
 use packed::digit;
@@ -57,6 +58,11 @@ pub fn empty() -> Network
     ensures { λ r. ⌜ (r ≡ emptyRecord) × (networkOf r ≡ emptyNetwork) ⌝ }
 {
     let nobody = Lhs { digits: 0 };
+    let none = Counts {
+        infos: 0,
+        backs: 0,
+        links: 0,
+    };
     let agent = Agent {
         value: 0,
         stored: 0,
@@ -64,6 +70,8 @@ pub fn empty() -> Network
         informs: 0,
         view: nobody,
         nogoods: [0; 8],
+        sent: none,
+        received: none,
     };
     let agents = [agent; 12];
     let place = Place {

@@ -12,8 +12,8 @@ use Rattle.problem.specs.Row.{Row}
 use Rattle.problem.specs.Writing.{written}
 use Rattle.problem.specs.Cases.{ban, gaps, minus, sameNumbers}
 use Rattle.agent_rules.specs.Message.{Assignment, Message, Info, Back, AddLink}
-use Rattle.agent_rules.specs.Agent.{Agent}
-use Rattle.agent_rules.specs.Cases.{values, agent, sameAgent, sameMessage}
+use Rattle.agent_rules.specs.Agent.{Agent, withCounts}
+use Rattle.agent_rules.specs.Cases.{values, agent, sameAgent, sameMessage, counts, sameCounts}
 use Rattle.protocol.specs.Network.{Network, withChannel, startSheet}
 use Rattle.protocol.specs.Shape.{inShape}
 use Rattle.protocol.specs.Delivery.{answerNumber, deliver, askValue}
@@ -50,6 +50,7 @@ pub data Scene : Type 0 where
   Values : List ℕ → Scene  -- asked, agents 1, 2, .. give these values, and number 0
   Holds : ℕ → Agent → Scene  -- an agent has this record
   Tries : List ℕ → Scene  -- a run with one round would try these lines, and be answered with these numbers
+  Counted : ℕ → List ℕ → List ℕ → Scene  -- an agent's counts, sent and received: news, refusals, requests
 
 unfoldable pub asked : ℕ → List ℕ → Network → Bool
 asked i [] w = true
@@ -80,6 +81,7 @@ holdsFrom (Waiting i j ms ∷ cs) w = sameMessages (w .channel i j) ms && holdsF
 holdsFrom (Values vs ∷ cs) w = asked 1 vs w && holdsFrom cs w
 holdsFrom (Holds i a ∷ cs) w = sameAgent (w .agents i) a && holdsFrom cs w
 holdsFrom (Tries ts ∷ cs) w = sameNumbers (triesOf (run 1 w .rounds)) ts && holdsFrom cs w
+holdsFrom (Counted i sent received ∷ cs) w = sameCounts (w .agents i .counts) (counts sent received) && holdsFrom cs w
 
 -- ---- nights
 
@@ -159,10 +161,10 @@ empty = values []
 
 -- agent 2 of either, when it was told 1's value 1, and then 2
 unfoldable pub told1 : List Scene
-told1 = Holds 2 (agent 1 (1 ∷ []) [] [] []) ∷ Waiting 2 1 (Back empty 1 ∷ []) ∷ []
+told1 = Holds 2 (withCounts (agent 1 (1 ∷ []) [] [] []) (counts (0 ∷ 1 ∷ []) (1 ∷ []))) ∷ Waiting 2 1 (Back empty 1 ∷ []) ∷ []
 
 unfoldable pub told2 : List Scene
-told2 = Holds 2 (agent 1 (1 ∷ []) [] (2 ∷ []) []) ∷ Waiting 2 1 [] ∷ []
+told2 = Holds 2 (withCounts (agent 1 (1 ∷ []) [] (2 ∷ []) []) (counts (0 ∷ 1 ∷ []) (2 ∷ []))) ∷ Waiting 2 1 [] ∷ []
 
 -- P5's network at its start, with other messages: eight of agent 1's value on the line to 2, each of which 2 would answer with a refusal, and eight
 -- refusals of a value of agent 1 on the line back
@@ -178,6 +180,11 @@ nights =
     ∷ Played sheet2 (Runs 100000 None 2 ∷ Delivers 1 2 7 ∷ [])
     -- P3; P8's second half, at rest
     ∷ Played sheet3 (Runs 100000 Plan 1 ∷ Values (1 ∷ 2 ∷ []) ∷ Delivers 1 2 8 ∷ [])
+    -- .. and its counts: the start's news is sent, then received; the rejected delivery counts nothing
+    ∷ Played sheet3 (
+    Counted 1 (1 ∷ 0 ∷ 0 ∷ []) (0 ∷ 0 ∷ 0 ∷ []) ∷ Counted 2 (0 ∷ 0 ∷ 0 ∷ []) (0 ∷ 0 ∷ 0 ∷ [])
+    ∷ Delivers 1 2 0 ∷ Counted 1 (1 ∷ 0 ∷ 0 ∷ []) (0 ∷ 0 ∷ 0 ∷ []) ∷ Counted 2 (0 ∷ 0 ∷ 0 ∷ []) (1 ∷ 0 ∷ 0 ∷ [])
+    ∷ Delivers 1 2 8 ∷ Counted 1 (1 ∷ 0 ∷ 0 ∷ []) (0 ∷ 0 ∷ 0 ∷ []) ∷ Counted 2 (0 ∷ 0 ∷ 0 ∷ []) (1 ∷ 0 ∷ 0 ∷ []) ∷ [])
     -- P4
     ∷ SameStart sheet4 sheet3
     -- P5
@@ -187,7 +194,11 @@ nights =
     -- P8's first half
     ∷ Played sheet1 (Delivers 1 1 6 ∷ [])
     -- P9
-    ∷ Played sheet9 (Runs 100000 Plan 5 ∷ Values (2 ∷ 1 ∷ 1 ∷ []) ∷ [])
+    ∷ Played sheet9 (
+    Runs 100000 Plan 5 ∷ Values (2 ∷ 1 ∷ 1 ∷ [])
+    ∷ Counted 1 (4 ∷ 0 ∷ 0 ∷ []) (0 ∷ 1 ∷ 1 ∷ [])
+    ∷ Counted 2 (3 ∷ 1 ∷ 1 ∷ []) (2 ∷ 2 ∷ 0 ∷ [])
+    ∷ Counted 3 (0 ∷ 2 ∷ 0 ∷ []) (5 ∷ 0 ∷ 0 ∷ []) ∷ [])
     -- P9, round by round: agent 2 sends to 3 at the start and in rounds 2 and 4 only, and asks agent 1 for a link before it refuses its value
     ∷ Played sheet9 (
     Waiting 2 3 (Info 1 ∷ [])
@@ -205,7 +216,8 @@ nights =
     -- whom to blame: with reasons of lower values alone agent 3 would have none for value 2
     ∷ Played sheetHigher (
     Runs 3 Open 3
-    ∷ Holds 3 (agent 1 (1 ∷ 2 ∷ []) [] (1 ∷ []) (none ∷ some (values (1 ∷ [])) ∷ some (values (1 ∷ [])) ∷ []))
+    ∷ Holds 3 (withCounts (agent 1 (1 ∷ 2 ∷ []) [] (1 ∷ []) (none ∷ some (values (1 ∷ [])) ∷ some (values (1 ∷ [])) ∷ []))
+    (counts (0 ∷ 2 ∷ []) (3 ∷ [])))
     ∷ Runs 100000 Plan 2 ∷ Values (2 ∷ 1 ∷ 3 ∷ []) ∷ [])
     -- with the lowest of all, or with reasons as they stood before the walk, the refusal would name agent 1, and the verdict would fall there
     ∷ Played sheetEarlier (

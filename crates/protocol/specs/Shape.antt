@@ -7,6 +7,7 @@ use lib.Dec.{eqb, ltb, leb}
 use Rattle.base.specs.Finite.{allTo, every, isSome}
 use Rattle.problem.specs.Problem.{Problem, maxAgents, maxDomain, owns, linked, inRange}
 use Rattle.agent_rules.specs.Message.{Assignment, known, Message, Info, Back, AddLink}
+use Rattle.agent_rules.specs.Counts.{eachCount, top}
 use Rattle.agent_rules.specs.Agent.{Agent}
 use Rattle.agent_rules.specs.Shape.{maxNamed}
 use Rattle.protocol.specs.Network.{Network}
@@ -61,6 +62,10 @@ unfoldable pub nogoodsFit : Network → ℕ → Bool
 nogoodsFit w i =
     allTo maxDomain (λ v. nogoodFits (owns (w .problem) i v) (w .agents i .view) (w .agents i .nogoods v))
 
+-- "Check 5 takes any counts": each a number of 64 bits
+unfoldable pub countsFit : Network → ℕ → Bool
+countsFit w i = eachCount (w .agents i .counts) (λ c. leb c top)
+
 -- everything beyond n is zero
 unfoldable pub unused : Agent → Bool
 unused a =
@@ -69,6 +74,7 @@ unused a =
     && eachIn (a .informs) (λ k. false)
     && eachNamed (a .view) (λ k v. false)
     && allTo maxDomain (λ v. not (isSome (a .nogoods v)))
+    && eachCount (a .counts) (λ c. eqb c 0)
 
 unfoldable pub agentInShape : Network → ℕ → Bool
 agentInShape w i =
@@ -80,6 +86,7 @@ agentInShape w i =
           && informedListen w i
           && viewListened w i
           && nogoodsFit w i
+          && countsFit w i
       | false ↦ unused (w .agents i)
     ]
 

@@ -14,13 +14,23 @@ use Rattle.problem.specs.Problem.{pairsBefore}
 use Rattle.packed.specs.Packed.{members}
 use Rattle.agent.specs.declared.Agent.{Agent}
 use Rattle.agent.specs.declared.Bars.{Bars}
-use Rattle.agent.specs.Abstract.{assigned, bansIn}
+use Rattle.agent.specs.Abstract.{assigned, noneCounted, bansIn}
 use Rattle.agent.specs.Entries.{Barring}
 use Rattle.network_laws.proofs.Words.{part}
 
 -- what an array past its end has
 abbrev pub noAgent : Agent
-noAgent = record { value = 0; stored = 0; listens = 0; informs = 0; view = record { digits = 0 }; nogoods = [] }
+noAgent =
+    record {
+      value = 0;
+      stored = 0;
+      listens = 0;
+      informs = 0;
+      view = record { digits = 0 };
+      nogoods = [];
+      sent = noneCounted;
+      received = noneCounted;
+    }
 
 abbrev pub noBars : Bars
 noBars = record { low = 0; high = 0 }

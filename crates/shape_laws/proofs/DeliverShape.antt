@@ -15,11 +15,13 @@ use Rattle.base.proofs.Lists.{All, All-append, All-map}
 use Rattle.problem.specs.Problem.{Problem, maxAgents, maxDomain, domain, owns}
 use Rattle.problem.proofs.Range.{Ranged, domain-small}
 use Rattle.agent_rules.specs.Message.{Assignment, Message, Info, Back, AddLink, sentTo}
+use Rattle.agent_rules.specs.Counts.{top}
 use Rattle.agent_rules.specs.Agent.{Agent, Step}
 use Rattle.agent_rules.specs.Shape.{anyValue, maxNamed, EachNamed, EachIn, RecordFits, MessageFits}
 use Rattle.agent_rules.specs.Sorts.{IsInfo, Not}
 use Rattle.agent_rules.proofs.Messages.{addlink-not-info}
 use Rattle.agent_rules.proofs.Assignments.{agents-named}
+use Rattle.agent_rules.proofs.Counts.{raised-top}
 use Rattle.agent_facts.specs.Facts.{Asks, Answered, RestFits, Valued, PostFits, StepFits}
 use Rattle.protocol.specs.Network.{Network, selfOf, bansOf, withStep, withChannel, stepOn, handed}
 use Rattle.protocol.specs.Shape.{hasRoom, inShape}
@@ -27,7 +29,7 @@ use Rattle.protocol.specs.Delivery.{rejecting, numbersGood, fits, deliver}
 use Rattle.shape_laws.proofs.Wall.{agent-facts}
 use Rattle.shape_laws.proofs.Handing.{Handing, OnAgent, mine, other, on-agent, OnChannel, hit, put, rest, on-channel, handing}
 use Rattle.shape_laws.proofs.Outcome.{Outcome, refused, accepted, outcome, numbers}
-use Rattle.shape_laws.proofs.ShapeClauses.{AgentShaped, Unused, MessageShaped, Shaped, shaped, to-shape}
+use Rattle.shape_laws.proofs.ShapeClauses.{EachCount, AgentShaped, Unused, MessageShaped, Shaped, shaped, to-shape}
 
 -- ---- what the receiver's step may count on
 
@@ -97,7 +99,7 @@ module _ (w : Network) (i j : ℕ) (m : Message) (others : List Message) (H : He
       let c = H .shape .channels i j (H .from-low) (omega (arith, H .from-high)) (H .to-low) (omega (arith, H .to-high)) in
       rw (H .head) at (c .messages)
 
-  step-fits : StepFits (owns (w .problem)) (selfOf (w .problem) j) (w .agents j) i m (stepOn w i j m)
+  pub step-fits : StepFits (owns (w .problem)) (selfOf (w .problem) j) (w .agents j) i m (stepOn w i j m)
   unfolding stepOn selfOf
   step-fits =
       let r = H .shape .range in
@@ -167,6 +169,8 @@ module _ (w : Network) (i j : ℕ) (m : Message) (others : List Message) (H : He
             (λ a. (v : ℕ) (lhs : Assignment) → 1 ≤ v → v ≤ maxDomain → a .nogoods v ≡ some lhs
             → (owns (w .problem) x v ≡ true) × EachNamed lhs (λ k u. u ≡ a .view k)) x
             (λ q. rw q (own-agreed (w .problem) j (t .agent) (step-fits .rest))) (λ _. A .agreed);
+        sized = by (λ a. EachCount (a .counts) (λ c. c ≤ top)) x
+            (λ _ s. let c = handing-over .counts in rw (c .sent s, c .received s) (raised-top _ _, raised-top _ _)) (λ _. A .sized);
       }
     where
       t : Step

@@ -2,7 +2,7 @@
 -- channel loses its head, what the receiver sends goes to the ends of its own channels, and all others stay.
 use mathlib.Core.Path.{_≡_, refl, sym, _∙_}
 use mathlib.Core.Logic.{_≢_}
-use mathlib.Core.List.{List, _∷_, _++_}
+use mathlib.Core.List.{List, [], _∷_, _++_}
 use mathlib.Core.Bool.{true, false, false≢true}
 use Prim.Native.Nat.{ℕ}
 use native.Mathlib.Decide.{ℕ-discrete}
@@ -12,7 +12,7 @@ use Rattle.base.proofs.Tests.{test}
 use Rattle.base.proofs.Search.{at-same, at-other}
 use Rattle.agent_rules.specs.Message.{Message, Post, sentTo}
 use Rattle.agent_rules.specs.Agent.{Step}
-use Rattle.agent_facts.specs.Facts.{Linking}
+use Rattle.agent_facts.specs.Facts.{Linking, Counted}
 use Rattle.protocol.specs.Network.{Network, selfOf, bansOf, posted, withStep, withChannel, stepOn, handed}
 use Rattle.protocol.specs.Run.{Line, isLine}
 use Rattle.shape_laws.proofs.Wall.{agent-facts}
@@ -20,6 +20,7 @@ use Rattle.shape_laws.proofs.Lines.{line-ends, is-line}
 
 pub record Handing (d : Line) (m : Message) (t : Step) (w w′ : Network) : Type 0 where
   pub links : Linking (w .agents (d .to)) (d .from) m t
+  pub counts : Counted (w .agents (d .to) .counts) (m ∷ []) t
   pub apart : d .from ≢ d .to
   pub mine : w′ .agents (d .to) ≡ t .agent
   pub others : (y : ℕ) → y ≢ d .to → w′ .agents y ≡ w .agents y
@@ -92,6 +93,7 @@ handing d w m others ne l =
     let j = d .to in
     record {
       links = agent-facts .links (selfOf (w .problem) j) (bansOf (w .problem) j) (w .agents j) i m;
+      counts = agent-facts .counts (selfOf (w .problem) j) (bansOf (w .problem) j) (w .agents j) i m;
       apart = ne;
       mine = at-same (w .agents) j (stepOn w i j m .agent);
       others = at-other (w .agents) j (stepOn w i j m .agent);

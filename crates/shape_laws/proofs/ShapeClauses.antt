@@ -16,8 +16,10 @@ use Rattle.base.proofs.Lists.{All, All-map, every-all, to-every}
 use Rattle.problem.specs.Problem.{maxAgents, maxDomain, owns, linked, inRange}
 use Rattle.problem.proofs.Range.{Ranged, ranged, to-range}
 use Rattle.agent_rules.specs.Message.{Assignment, known, Message, Info, Back, AddLink}
+use Rattle.agent_rules.specs.Counts.{Sort, Counts, eachCount, top}
 use Rattle.agent_rules.specs.Agent.{Agent}
 use Rattle.agent_rules.specs.Shape.{maxNamed, EachNamed, EachIn}
+use Rattle.agent_rules.proofs.Counts.{each-count, to-each-count}
 use Rattle.protocol.specs.Network.{Network}
 use Rattle.protocol.specs.Shape.{
   capacity,
@@ -31,6 +33,7 @@ use Rattle.protocol.specs.Shape.{
   viewListened,
   nogoodFits,
   nogoodsFit,
+  countsFit,
   unused,
   agentInShape,
   lhsFits,
@@ -58,6 +61,11 @@ pub to-each-named : (l : Assignment) (p : ℕ → ℕ → Bool) → EachNamed l 
 unfolding eachNamed
 to-each-named l p f = to-allTo maxNamed _ (λ k lo hi. to-implied (known (l k)) (p k (l k)) (f k lo hi))
 
+-- ---- counts
+
+abbrev pub EachCount : Counts → (ℕ → Type 0) → Type 0
+EachCount c P = (x : Sort) → P (c .sent x) × P (c .received x)
+
 -- ---- one agent
 
 pub record AgentShaped (w : Network) (i : ℕ) : Type 0 where
@@ -69,6 +77,7 @@ pub record AgentShaped (w : Network) (i : ℕ) : Type 0 where
   pub viewed : EachNamed (w .agents i .view) (λ k v. (w .agents i .listens k ≡ true) × (owns (w .problem) k v ≡ true))
   pub agreed : (v : ℕ) (lhs : Assignment) → 1 ≤ v → v ≤ maxDomain → w .agents i .nogoods v ≡ some lhs
       → (owns (w .problem) i v ≡ true) × EachNamed lhs (λ k u. u ≡ w .agents i .view k)
+  pub sized : EachCount (w .agents i .counts) (λ c. c ≤ top)
 
 -- an agent beyond n
 pub record Unused (a : Agent) : Type 0 where
@@ -77,6 +86,7 @@ pub record Unused (a : Agent) : Type 0 where
   pub mute : EachIn (a .informs) (λ k. ⊥)
   pub blind : EachNamed (a .view) (λ k v. ⊥)
   pub blank : (v : ℕ) → 1 ≤ v → v ≤ maxDomain → a .nogoods v ≡ none
+  pub uncounted : EachCount (a .counts) (λ c. c ≡ 0)
 
 module _ (w : Network) (i : ℕ) where
   pub valued-is : holdsValue w i ≡ true → (owns (w .problem) i (w .agents i .value) ≡ true) ⊎ ((w .verdict ≡ true) × (w .agents i .value ≡ 0))
@@ -152,10 +162,19 @@ module _ (w : Network) (i : ℕ) where
       (λ q. rw q)
       (λ lhs q. let b = f v lhs lo hi q in rw q (to-both _ _ (b .0) (to-each-named _ _ (λ k lk hk h. eq-eqb _ _ (b .1 k lk hk h))))))
 
+  pub sized-is : countsFit w i ≡ true → EachCount (w .agents i .counts) (λ c. c ≤ top)
+  unfolding countsFit
+  sized-is e x = let b = each-count _ _ e x in (leb-true _ _ (b .0), leb-true _ _ (b .1))
+
+  pub to-sized : EachCount (w .agents i .counts) (λ c. c ≤ top) → countsFit w i ≡ true
+  unfolding countsFit
+  to-sized f = to-each-count _ _ (λ x. let b = f x in (le-leb _ _ (b .0), le-leb _ _ (b .1)))
+
   pub agent-shaped : i ≤ w .problem .count → agentInShape w i ≡ true → AgentShaped w i
   unfolding agentInShape
   agent-shaped h e =
-      let c = both _ (nogoodsFit w i) (rw (le-leb i (w .problem .count) h, agentInShape) at e) in
+      let f = both _ (countsFit w i) (rw (le-leb i (w .problem .count) h, agentInShape) at e) in
+      let c = both _ (nogoodsFit w i) (f .0) in
       let d = both _ (viewListened w i) (c .0) in
       let l = both _ (informedListen w i) (d .0) in
       let m = both _ (linkedListen w i) (l .0) in
@@ -169,6 +188,7 @@ module _ (w : Network) (i : ℕ) where
         informed = informed-is (l .1);
         viewed = viewed-is (d .1);
         agreed = agreed-is (c .1);
+        sized = sized-is (f .1);
       }
 
   pub to-agent-shaped : i ≤ w .problem .count → AgentShaped w i → agentInShape w i ≡ true
@@ -183,12 +203,14 @@ module _ (w : Network) (i : ℕ) where
         to-informed (a .informed),
         to-viewed (a .viewed),
         to-agreed (a .agreed),
+        to-sized (a .sized),
       ))
 
 pub unused-is : (a : Agent) → unused a ≡ true → Unused a
 unfolding unused
 unused-is a e =
-    let c = both _ (allTo maxDomain (λ v. not (isSome (a .nogoods v)))) e in
+    let f = both _ (eachCount (a .counts) (λ c. eqb c 0)) e in
+    let c = both _ (allTo maxDomain (λ v. not (isSome (a .nogoods v)))) (f .0) in
     let d = both _ (eachNamed (a .view) (λ k v. false)) (c .0) in
     let l = both _ (eachIn (a .informs) (λ k. false)) (d .0) in
     let m = both (eqb (a .value) 0) _ (l .0) in
@@ -198,6 +220,7 @@ unused-is a e =
       mute = λ k lo hi h. false≢true (each-in _ _ (l .1) k lo hi h);
       blind = λ k lo hi h. false≢true (each-named _ _ (d .1) k lo hi h);
       blank = λ v lo hi. let one = allTo-at maxDomain _ (c .1) v lo hi in isSome-false _ (not-true _ one);
+      uncounted = λ x. let b = each-count _ _ (f .1) x in (eqb-true _ _ (b .0), eqb-true _ _ (b .1));
     }
 
 pub to-unused : (a : Agent) → Unused a → unused a ≡ true
@@ -209,7 +232,8 @@ to-unused a u =
       to-each-in (a .informs) (λ k. false) (λ k lo hi h. absurd (u .mute k lo hi h)),
       to-each-named (a .view) (λ k v. false) (λ k lo hi h. absurd (u .blind k lo hi h)),
     )
-    (to-allTo maxDomain _ (λ v lo hi. rw (u .blank v lo hi)))
+    (to-both _ _ (to-allTo maxDomain _ (λ v lo hi. rw (u .blank v lo hi)))
+    (to-each-count _ _ (λ x. let b = u .uncounted x in (eq-eqb _ _ (b .0), eq-eqb _ _ (b .1)))))
 
 pub agent-unused : (w : Network) (i : ℕ) → w .problem .count < i → agentInShape w i ≡ true → Unused (w .agents i)
 unfolding agentInShape

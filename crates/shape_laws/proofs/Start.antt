@@ -11,8 +11,9 @@ use Rattle.base.proofs.Search.{to-allTo}
 use Rattle.problem.specs.Problem.{Problem, linked}
 use Rattle.problem.proofs.Range.{Ranged, linked-inside}
 use Rattle.agent_rules.specs.Message.{Info, sentTo}
+use Rattle.agent_rules.specs.Counts.{noCounts}
 use Rattle.agent_rules.specs.Agent.{unusedAgent}
-use Rattle.agent_facts.specs.Facts.{Begun}
+use Rattle.agent_facts.specs.Facts.{Begun, Counted}
 use Rattle.protocol.specs.Network.{selfOf, bansOf, begun, startAgent, startChannel, start}
 use Rattle.shape_laws.proofs.Wall.{agent-facts}
 
@@ -20,6 +21,10 @@ module _ (p : Problem) (r : Ranged p) where
   pub begins : (i : ℕ) → 1 ≤ i → i ≤ p .count → Begun (selfOf p i) (λ k. linked p k i) (λ k. linked p i k) (begun p i)
   unfolding begun selfOf
   begins i l h = agent-facts .begins (selfOf p i) (bansOf p i) (λ k. linked p k i) (λ k. linked p i k) l (r .domained i l h .0)
+
+  pub starts : (i : ℕ) → Counted noCounts [] (begun p i)
+  unfolding begun
+  starts i = agent-facts .starts (selfOf p i) (bansOf p i) (λ k. linked p k i) (λ k. linked p i k)
 
   pub start-running : start p .verdict ≡ false
   unfolding start
@@ -35,7 +40,7 @@ module _ (p : Problem) (r : Ranged p) where
   unfolding startAgent
   agent-beyond i l = test (within (p .count) i) (λ e. absurd (omega (arith, within-true _ _ e .1))) (λ e. rw (e, startAgent))
 
-  channel-in : (i j : ℕ) → 1 ≤ i → i ≤ p .count → startChannel p i j ≡ sentTo j (begun p i .sent)
+  pub channel-in : (i j : ℕ) → 1 ≤ i → i ≤ p .count → startChannel p i j ≡ sentTo j (begun p i .sent)
   unfolding startChannel
   channel-in i j l h = rw (to-within (p .count) i l h, startChannel)
 

@@ -8,13 +8,16 @@ use Rattle.base.proofs.Tests.{test, no-some}
 use Rattle.problem.specs.Problem.{Problem, owns, linked, inRange}
 use Rattle.problem.proofs.Range.{Ranged, ranged, linked-inside}
 use Rattle.agent_rules.specs.Message.{nobody}
+use Rattle.agent_rules.specs.Counts.{noCounts}
 use Rattle.agent_rules.specs.Agent.{unusedAgent, noNogoods}
 use Rattle.agent_rules.proofs.Assignments.{unknown}
+use Rattle.agent_rules.proofs.Counts.{raised-top}
 use Rattle.protocol.specs.Network.{selfOf, startAgent, start}
 use Rattle.protocol.specs.Shape.{capacity, inShape}
 use Rattle.shape_laws.proofs.ShapeClauses.{AgentShaped, Unused, ChannelShaped, Shaped, to-shape}
 use Rattle.shape_laws.proofs.Start.{
   begins,
+  starts,
   agent-in,
   agent-beyond,
   linked-listens,
@@ -26,7 +29,7 @@ use Rattle.shape_laws.proofs.Start.{
 }
 
 unused-agent : Unused unusedAgent
-unfolding unusedAgent nobody noNogoods
+unfolding unusedAgent nobody noNogoods noCounts
 unused-agent =
     record {
       valueless = refl;
@@ -34,6 +37,7 @@ unused-agent =
       mute = λ k lo hi e. false≢true e;
       blind = λ k lo hi e. unknown e;
       blank = λ v lo hi. refl;
+      uncounted = λ x. (refl, refl);
     }
 
 module _ (p : Problem) (r : Ranged p) where
@@ -54,6 +58,7 @@ module _ (p : Problem) (r : Ranged p) where
         informed = λ k l h e. linked-listens p r i k (informs-linked p r i k e);
         viewed = λ k l h e. unknown (rw (is, b .view k) at e);
         agreed = λ v lhs l h e. no-some (rw (is, b .nogoods v) at e);
+        sized = λ x. let c = starts p r i in rw (is, c .sent x, c .received x) (raised-top _ _, raised-top _ _);
       }
 
   start-channel : (i j : ℕ) → ChannelShaped (start p) i j

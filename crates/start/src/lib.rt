@@ -7,6 +7,7 @@ ghost use Rattle.packed.specs.Packed.{members};
 ghost use Rattle.network.specs.Abstract.{networkOf};
 ghost use Rattle.start.specs.Started.{unbegun, StartsAs};
 use agent::Agent;
+use agent::Counts;
 use agent::Lhs;
 use agent::Message;
 use agent::Own;
@@ -63,6 +64,11 @@ fn informs(bans: &[u64; 66], i: u8) -> u16
 fn unbegun(n: u8, domains: [u8; 12], bans: [u64; 66]) -> Network
     ensures { λ r. ⌜ r ≡ unbegun n domains bans ⌝ }
 {
+    let none = Counts {
+        infos: 0,
+        backs: 0,
+        links: 0,
+    };
     let nobody = Agent {
         value: 0,
         stored: 0,
@@ -70,6 +76,8 @@ fn unbegun(n: u8, domains: [u8; 12], bans: [u64; 66]) -> Network
         informs: 0,
         view: Lhs { digits: 0 },
         nogoods: [0; 8],
+        sent: none,
+        received: none,
     };
     let agents = [nobody; 12];
     let place = Place {

@@ -5,7 +5,8 @@ use Prim.Native.Nat.{ℕ}
 use Rattle.protocol.specs.Network.{Network}
 use Rattle.theorems.specs.Calls.{triedByAll}
 use Rattle.theorems.proofs.Replay.{calls-replay}
-use Rattle.tenants.specs.Tenants.{Naming, NamingAbove, Alike, handedIn, postsIn}
+use Rattle.theorems.specs.Deeds.{handedIn, postsIn}
+use Rattle.tenants.specs.Tenants.{Naming, NamingAbove, Alike}
 use Rattle.tenants.specs.Claims.{ActsAlike, AnsweredAlike}
 use Rattle.tenants.proofs.Acting.{same-record, same-posts}
 use Rattle.tenants.proofs.Answering.{same-answer}

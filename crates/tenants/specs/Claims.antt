@@ -8,7 +8,8 @@ use Rattle.agent_rules.specs.Message.{Message}
 use Rattle.protocol.specs.Network.{Network}
 use Rattle.protocol.specs.Delivery.{deliver}
 use Rattle.theorems.specs.Calls.{Call, leftByAll}
-use Rattle.tenants.specs.Tenants.{Alike, handedIn, postsIn, SameRest}
+use Rattle.theorems.specs.Deeds.{handedIn, postsIn}
+use Rattle.tenants.specs.Tenants.{Alike, SameRest}
 
 -- "it ends with the same record on both and has sent the same, in the same order"
 pub record SameDeeds (j : ℕ) (w v : Network) (calls others : List Call) : Type 0 where

@@ -9,14 +9,15 @@ use Rattle.base.specs.Finite.{at, allTo, gather}
 use Rattle.problem.specs.Problem.{maxAgents, maxDomain, domain, banned}
 use Rattle.problem.specs.Cases.{ban, sameBool}
 use Rattle.agent_rules.specs.Message.{Info, Back, Post}
-use Rattle.agent_rules.specs.Agent.{Agent, unusedAgent}
-use Rattle.agent_rules.specs.Cases.{agent, post, sameAgent, sameMessage, samePosts}
+use Rattle.agent_rules.specs.Agent.{Agent, unusedAgent, withCounts}
+use Rattle.agent_rules.specs.Cases.{agent, post, sameAgent, sameMessage, samePosts, counts}
 use Rattle.protocol.specs.Network.{Network, withAgents, startSheet}
 use Rattle.protocol.specs.Shape.{inShape}
 use Rattle.protocol.specs.Delivery.{answerNumber, deliver}
 use Rattle.protocol.specs.Nights.{sheet, sheet5, sheetShared, empty}
 use Rattle.theorems.specs.Calls.{Call, Deliver, Run, leftByAll}
-use Rattle.tenants.specs.Tenants.{Handed, headFrom, handedIn, postsIn, roomOn}
+use Rattle.theorems.specs.Deeds.{Handed, headFrom, handedIn, postsIn}
+use Rattle.tenants.specs.Tenants.{roomOn}
 
 -- ---- compared
 
@@ -112,7 +113,7 @@ nights =
     (Deliver 1 3 ∷ Deliver 2 1 ∷ Deliver 1 2 ∷ Deliver 1 4 ∷ Deliver 2 1 ∷ Deliver 1 4 ∷ Deliver 1 2 ∷ Deliver 4 1 ∷ [])
     (record { from = 1; message = Info 1 } ∷ record { from = 1; message = Info 2 } ∷ [])
     (post 1 (Back empty 1) ∷ [])
-    (agent 1 (1 ∷ []) [] (2 ∷ []) [])
+    (withCounts (agent 1 (1 ∷ []) [] (2 ∷ []) []) (counts (0 ∷ 1 ∷ []) (2 ∷ [])))
     -- the shape
     ∷ Differs
     (reached sheetShared [])

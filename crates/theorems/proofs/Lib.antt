@@ -28,4 +28,7 @@ pub mod Markings
 pub mod RunRounds
 pub mod CallMarking
 pub mod Jams
+pub mod Deeds
+pub mod Figures
+pub mod Balance
 pub mod Theorems

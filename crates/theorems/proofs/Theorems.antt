@@ -21,6 +21,11 @@ use Rattle.theorems.specs.Claims.{
   RunsCount,
   AskedOnce,
   StaysInShape,
+  CountsExact,
+  CountsCapped,
+  SentIsReceivedAndWaiting,
+  SentIsReceivedAndWaitingOf,
+  CountsNeverFall,
   Replay,
   DeliverKeeps,
   RunKeeps,
@@ -38,6 +43,8 @@ use Rattle.theorems.proofs.Visits.{idle-empty}
 use Rattle.theorems.proofs.Markings.{marking-rounds}
 use Rattle.theorems.proofs.RoundBound.{round-bound-lines}
 use Rattle.theorems.proofs.RunRounds.{run-counts}
+use Rattle.theorems.proofs.Figures.{counts-exact as exact, counts-capped as capped, counts-never-fall as never-fall}
+use Rattle.theorems.proofs.Balance.{sent-is-received-and-waiting as balance, sent-is-received-and-waiting-of as balance-of}
 use Rattle.theorems.proofs.CallMarking.{marking, marking-lines, marking-full, marking-made}
 use Rattle.theorems.proofs.Jams.{jammed-exactly as jammed, none-after-nothing as none-after, rounds-used as used}
 
@@ -93,6 +100,19 @@ stays-in-shape p r calls = go calls (start p) (start-in-shape p r)
     go (Deliver i j ∷ calls) w h = go calls (deliver w i j .network) (delivered w i j h)
     go (Run k ∷ calls) w h = go calls (run k w .network) (ran k w h)
 
+-- Every count below the top is exact; at the top it stays; and what is sent is received or waits.
+pub counts-exact : EveryProblem CountsExact
+counts-exact = exact
+
+pub counts-capped : EveryProblem CountsCapped
+counts-capped = capped
+
+pub sent-is-received-and-waiting : EveryProblem SentIsReceivedAndWaiting
+sent-is-received-and-waiting = balance
+
+pub sent-is-received-and-waiting-of : EveryProblem SentIsReceivedAndWaitingOf
+sent-is-received-and-waiting-of = balance-of
+
 -- ---- sheets: what holds of every problem in range holds of every accepted sheet
 
 every-sheet : (C : Problem → Type 0) → EveryProblem C → EverySheet C
@@ -122,6 +142,18 @@ sheet-asked-once = every-sheet AskedOnce asked-once
 pub sheet-stays-in-shape : EverySheet StaysInShape
 sheet-stays-in-shape = every-sheet StaysInShape stays-in-shape
 
+pub sheet-counts-exact : EverySheet CountsExact
+sheet-counts-exact = every-sheet CountsExact counts-exact
+
+pub sheet-counts-capped : EverySheet CountsCapped
+sheet-counts-capped = every-sheet CountsCapped counts-capped
+
+pub sheet-sent-is-received-and-waiting : EverySheet SentIsReceivedAndWaiting
+sheet-sent-is-received-and-waiting = every-sheet SentIsReceivedAndWaiting sent-is-received-and-waiting
+
+pub sheet-sent-is-received-and-waiting-of : EverySheet SentIsReceivedAndWaitingOf
+sheet-sent-is-received-and-waiting-of = every-sheet SentIsReceivedAndWaitingOf sent-is-received-and-waiting-of
+
 -- ---- of every network and every sheet
 
 pub deliver-keeps : DeliverKeeps
@@ -146,3 +178,6 @@ none-after-nothing = none-after
 -- and `open` only with all rounds used.
 pub rounds-used : RoundsUsed
 rounds-used = used
+
+pub counts-never-fall : CountsNeverFall
+counts-never-fall = never-fall

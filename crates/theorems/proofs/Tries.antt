@@ -7,15 +7,25 @@ use Prim.Native.Nat.{ℕ}
 use native.Mathlib.Omega.{arith}
 use Rattle.base.proofs.Tests.{test}
 use Rattle.base.proofs.Counting.{countIf}
-use Rattle.protocol.specs.Network.{Network}
-use Rattle.protocol.specs.Delivery.{Answer, isAccepted}
+use Rattle.protocol.specs.Network.{Network, withStep, withChannel, handed}
+use Rattle.protocol.specs.Delivery.{Answer, isAccepted, rejecting, deliver}
 use Rattle.protocol.specs.Run.{Line, Try, oneIf, isLine}
+use Rattle.shape_laws.proofs.Outcome.{Outcome, refused, accepted, outcome}
 use Rattle.theorems.specs.Calls.{lineOf, answerOf, attemptOf, replay, answers, acceptedNow, acceptedOn}
 
 pub replay-append : (a b : List Line) (w : Network) → replay (a ++ b) w ≡ replay b (replay a w)
 unfolding replay
 replay-append [] b w = refl
 replay-append (l ∷ a) b w = replay-append a b (attemptOf l w .network)
+
+-- the problem stays what it is
+pub problem-stays : (l : Line) (w : Network) → attemptOf l w .network .problem ≡ w .problem
+unfolding attemptOf rejecting handed withStep withChannel
+problem-stays l w = go (outcome w (l .from) (l .to))
+  where
+    go : Outcome w (l .from) (l .to) (deliver w (l .from) (l .to)) → deliver w (l .from) (l .to) .network .problem ≡ w .problem
+    go (refused r _ e) = rw e
+    go (accepted m others T e) = rw e
 
 answers-append : (a b : List Line) (w : Network) → answers (a ++ b) w ≡ answers a w ++ answers b (replay a w)
 unfolding answers replay

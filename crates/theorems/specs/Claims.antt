@@ -8,6 +8,7 @@ use Rattle.base.specs.Lists.{All}
 use Rattle.problem.specs.Problem.{Problem, largestDomain, inRange, Obeys}
 use Rattle.problem.specs.Sheet.{Valid, decode}
 use Rattle.agent_rules.specs.Sorts.{IsAddLink, Not, OneLink}
+use Rattle.agent_rules.specs.Counts.{Sort, number, raised}
 use Rattle.protocol.specs.Network.{Network, start}
 use Rattle.protocol.specs.Shape.{inShape}
 use Rattle.protocol.specs.Delivery.{deliver}
@@ -30,6 +31,7 @@ use Rattle.theorems.specs.Calls.{
   Whole,
   DeliveredNothing,
 }
+use Rattle.theorems.specs.Figures.{sentFrom, receivedBy, BelowTop, totalOf, totalSent, totalReceived, waitingOf, totalWaiting}
 
 -- 16 × n × (d + 2)^n
 unfoldable pub mostRounds : Problem → ℕ
@@ -98,7 +100,44 @@ AskedOnce p =
     → OneLink (leftByAll calls (start p) .channel y x)
     × (leftByAll calls (start p) .agents x .informs y ≡ true → All (Not IsAddLink) (leftByAll calls (start p) .channel y x))
 
+-- ---- figures. docs/RULES.md, 'Figures on every scanner'
+
+-- "while no count has reached the top, each equals the number of messages of its sort that the start and the accepted deliveries sent from that
+-- scanner, or handed to it"
+abbrev pub CountsExact : Problem → Type 0
+CountsExact p =
+    (calls : List Call) → BelowTop p (leftByAll calls (start p)) → (i : ℕ) → 1 ≤ i → i ≤ p .count → (x : Sort)
+    → (leftByAll calls (start p) .agents i .counts .sent x ≡ number x (sentFrom p calls i))
+    × (leftByAll calls (start p) .agents i .counts .received x ≡ number x (receivedBy p calls i))
+
+-- "is that number, and stays there": whatever the others are, a count is that number, or the top where the number is above it.
+abbrev pub CountsCapped : Problem → Type 0
+CountsCapped p =
+    (calls : List Call) (i : ℕ) (x : Sort)
+    → (leftByAll calls (start p) .agents i .counts .sent x ≡ raised 0 (number x (sentFrom p calls i)))
+    × (leftByAll calls (start p) .agents i .counts .received x ≡ raised 0 (number x (receivedBy p calls i)))
+
+-- "and the total sent, over all scanners, equals the total received plus what waits on all lines"
+abbrev pub SentIsReceivedAndWaiting : Problem → Type 0
+SentIsReceivedAndWaiting p =
+    (calls : List Call) → BelowTop p (leftByAll calls (start p))
+    → totalSent p (leftByAll calls (start p)) ≡ totalReceived p (leftByAll calls (start p)) + totalWaiting p (leftByAll calls (start p))
+
+-- .. and so in each sort by itself.
+abbrev pub SentIsReceivedAndWaitingOf : Problem → Type 0
+SentIsReceivedAndWaitingOf p =
+    (calls : List Call) → BelowTop p (leftByAll calls (start p)) → (x : Sort)
+    → totalOf p (leftByAll calls (start p)) (λ c. c .sent x)
+    ≡ totalOf p (leftByAll calls (start p)) (λ c. c .received x) + waitingOf p (leftByAll calls (start p)) x
+
 -- ---- of every network and every sheet
+
+-- A count never falls, on forged networks either.
+abbrev pub CountsNeverFall : Type 0
+CountsNeverFall =
+    (w : Network) (calls : List Call) (i : ℕ) (x : Sort)
+    → (w .agents i .counts .sent x ≤ leftByAll calls w .agents i .counts .sent x)
+    × (w .agents i .counts .received x ≤ leftByAll calls w .agents i .counts .received x)
 
 -- A network in shape stays in shape, forged ones too.
 abbrev pub DeliverKeeps : Type 0

@@ -1,2 +1,4 @@
 pub mod Calls
+pub mod Deeds
+pub mod Figures
 pub mod Claims

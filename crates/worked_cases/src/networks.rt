@@ -4,6 +4,7 @@ ghost use mathlib.Core.Bool.{true};
 ghost use Prim.Native.Nat.{_<_};
 ghost use Rattle.network.specs.Abstract.{isChannel};
 use agent::Agent;
+use agent::Counts;
 use agent::Message;
 use network::Network;
 use network::places::channel_at;
@@ -41,6 +42,10 @@ fn same_reasons(a: Agent, b: Agent) -> bool {
     true
 }
 
+fn same_counts(a: Counts, b: Counts) -> bool {
+    (a.infos == b.infos) & (a.backs == b.backs) & (a.links == b.links)
+}
+
 fn same_agent(a: Agent, b: Agent) -> bool {
     if a.value != b.value {
         return false;
@@ -52,6 +57,12 @@ fn same_agent(a: Agent, b: Agent) -> bool {
         return false;
     }
     if a.view.digits != b.view.digits {
+        return false;
+    }
+    if !same_counts(a.sent, b.sent) {
+        return false;
+    }
+    if !same_counts(a.received, b.received) {
         return false;
     }
     same_reasons(a, b)

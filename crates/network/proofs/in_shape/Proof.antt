@@ -13,7 +13,7 @@ use Rattle.problem.specs.Problem.{inRange}
 use Rattle.problem.proofs.Range.{ranged as in-range}
 use Rattle.packed.specs.Packed.{assignment}
 use Rattle.agent_rules.specs.Agent.{Agent as Agent′}
-use Rattle.agent.specs.Abstract.{agentOf}
+use Rattle.agent.specs.Abstract.{noneCounted, agentOf}
 use Rattle.agent.specs.declared.Agent.{Agent}
 use Rattle.agent.specs.declared.Message.the-variants.{Info}
 use Rattle.packed.proofs.Known.{known-true}
@@ -35,7 +35,17 @@ use Rattle.network.proofs.in_shape.Tie as tie
 
 -- what arrays have past their end
 abbrev noAgent : Agent
-noAgent = record { value = 0; stored = 0; listens = 0; informs = 0; view = record { digits = 0 }; nogoods = [] }
+noAgent =
+    record {
+      value = 0;
+      stored = 0;
+      listens = 0;
+      informs = 0;
+      view = record { digits = 0 };
+      nogoods = [];
+      sent = noneCounted;
+      received = noneCounted;
+    }
 
 abbrev noMessage : Place
 noMessage = record { message = Info 0 }

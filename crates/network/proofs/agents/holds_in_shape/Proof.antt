@@ -2,14 +2,25 @@
 -- Clause by clause.
 use borrow.Author.Needs.{needs}
 use mathlib.Core.Path.{_≡_, sym, ap, _∙_}
-use mathlib.Core.Bool.{true, false}
+use mathlib.Core.Bool.{true, false, and-true}
+use Prim.Native.Nat.{_≤_}
+use native.Mathlib.Omega.{arith}
 use borrow.Author.Tests.{not-true, not-false}
+use Rattle.agent_rules.specs.Counts.{Sort, Infos, Backs, AddLinks, top}
 use Rattle.agent_rules.specs.Agent.{Agent as Agent′}
 use Rattle.protocol.specs.Shape.{holdsValue, viewListened}
-use Rattle.agent.specs.Abstract.{agentOf}
+use Rattle.agent.specs.Abstract.{countOf, agentOf}
 use Rattle.network.specs.Parts.{holdsInShape}
+use Rattle.network.proofs.Clauses.{counts-fit}
 use Rattle.network.proofs.agents.holds_in_shape.Statement.{statement}
 use Rattle.network.proofs.agents.holds_in_shape.Tie as tie
+
+-- the counts have 64 bits
+small : (c : tie.Start) (x : Sort) → (countOf (c .args .a .sent) x ≤ top) × (countOf (c .args .a .received) x ≤ top)
+unfolding countOf top
+small c Infos = (omega arith, omega arith)
+small c Backs = (omega arith, omega arith)
+small c AddLinks = (omega arith, omega arith)
 
 digit-requires : tie.Need-digit-requires
 digit-requires c κs = search needs
@@ -47,7 +58,8 @@ returns-3 c =
     let own = sym (o (c .before .before .before .before .before .before .before .args .i)) ∙ sym (c .before .before .before .before .before .before .digit .ensures .0) in
     let value : holdsValue w (c .before .before .before .before .before .before .before .args .i) ≡ true = sym (c .before .before .before .before .holds-value .ensures w (c .before .before .before .before .before .before .before .args .i) b own (ap (λ (x : Agent′). x .value) e)) ∙ not-false _ (c .before .before .before .if1 .left) in
     let view : viewListened w (c .before .before .before .before .before .before .before .args .i) ≡ true = sym (c .before .before .view-listened .ensures w (c .before .before .before .before .before .before .before .args .i) o (ap (λ (x : Agent′). x .listens) e) (ap (λ (x : Agent′). x .view) e)) ∙ not-false _ (c .before .if2 .left) in
-    rw (value, view) (c .nogoods-fit .ensures w (c .before .before .before .before .before .before .before .args .i) own e)
+    let counts = counts-fit w (c .before .before .before .before .before .before .before .args .i) _ e (small (c .before .before .before .before .before .before .before)) in
+    rw (value, view, counts, and-true) (c .nogoods-fit .ensures w (c .before .before .before .before .before .before .before .args .i) own e)
 
 pub holds-in-shape-spec : {M : Type 1} → statement M
 holds-in-shape-spec =
