@@ -100,9 +100,9 @@ fn blamed(nogoods: &[u64; 8], own: Own, bars: Bars, stored: u8, w: u8) -> u8
     first
 }
 
-// The own values 1 to `tried` are gone through upward, none of which is free: "A slot with a stored reason is skipped. A slot banned against a known slot
-// in the view gets the reason "that scanner has that slot"", the reasons being read "as they stand when that slot is tried". The left sides met, stored ones
-// and given ones, are joined on the way: after any number of values `whole` is the union of that many.
+// The own values 1 to `tried` are gone through upward, none of which is free: "A slot with a stored reason is skipped. A slot that is banned against a
+// known slot of the view gets the reason "that scanner has that slot"." The reasons are read as they stand when that value is tried. The left sides met,
+// stored ones and given ones, are joined on the way: after any number of values `whole` is the union of that many.
 fn give_reasons(
     nogoods: &mut [u64; 8],
     own: Own,
@@ -202,9 +202,9 @@ impl State {
         }
     }
 
-    // Choosing, with backing up: "If no slot is free, all left sides are joined. .. Otherwise the highest-numbered scanner in it gets a refusal .. The sender sets
-    // that scanner to unknown, drops all reasons naming it, and chooses again. chooses again, until a slot is taken." The Backs are put into `backs`, each
-    // as the whole nogood. Link requests to the agents of the set `links` are sent before.
+    // Choosing, with backing up: "Where no slot is free, all left sides are joined. .. Otherwise the highest-numbered scanner in the join gets a refusal ..
+    // The sender sets that scanner to unknown, drops every reason that names it, and chooses again, until a slot is taken." The Backs are put into `backs`,
+    // each as the whole nogood. Link requests to the agents of the set `links` are sent before.
     pub(crate) fn settle(
         self,
         own: Own,

@@ -29,14 +29,16 @@ impl Posts {
         requires { ⌜ Ready self (now backs) ⌝ }
         ensures { λ r. ⌜ postsLeft self (now (backs .entry)) ≡ postOf r ∷ tailOf (postsLeft self (now (backs .entry))) ⌝ }
     {
-        if self.links != 0 {
+        let links = self.links;
+        let next = self.next;
+        let count = self.count;
+        if links != 0 {
             return Post {
-                to: first(self.links),
+                to: first(links),
                 message: Message::AddLink,
             };
         }
-        let next = self.next;
-        if next < self.count {
+        if next < count {
             let whole = backs[next as usize];
             let k = last_digit(whole);
             let lhs = Lhs {

@@ -73,8 +73,8 @@ impl State {
         }
     }
 
-    // "each left-side scanner that the receiver listens to has that slot in its view"; "unknown does not match." A walk along the left side, which can be
-    // left out where the view has all of it.
+    // "each scanner of the left side that the receiver listens to has that slot in its view; unknown does not match." A walk along the left side, which can
+    // be left out where the view has all of it.
     fn hear(self, own: Own, bans: &[u64], lhs: u64) -> Heard
         requires { ⌜ Able own (now bans) ⌝ }
         requires { ⌜ Listening self ⌝ }
@@ -113,9 +113,10 @@ impl State {
         h
     }
 
-    // A Back: "It holds if the refused slot is the receiver's own and each scanner of the left side that the receiver listens to has that slot in its view." Then
-    // "upward, each scanner of the left side that is not listened to gets a link request, is listened to and has its slot put into the view. Then store the left side as the
-    // reason, clear the slot, choose. If it does not hold: where the refused slot is the own one, news goes to the sender; otherwise nothing."
+    // A Back: "It holds if the refused slot is the receiver's own and each scanner of the left side that the receiver listens to has that slot in its view".
+    // If so, "upward, each scanner of the left side that is not listened to gets a link request, is listened to and has its slot put into the view; then the
+    // left side is stored as the reason, the slot is cleared, and the scanner chooses." Otherwise "where the refused slot is the own one, news goes to the
+    // sender; otherwise nothing."
     pub(crate) fn on_back(
         self,
         own: Own,

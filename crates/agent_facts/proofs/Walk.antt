@@ -1,4 +1,4 @@
--- The walk over the own values ("Go through own slots upward"): the value taken is free, and where none is taken every value has a nogood.
+-- The walk over the own values ("goes through its own slots upward"): the value taken is free, and where none is taken every value has a nogood.
 -- A stored nogood stays; a new one names a single agent, whose known value bars the own value.
 use mathlib.Core.Path.{_≡_, refl, sym, _∙_}
 use mathlib.Core.Logic.{_⊎_, inl, inr, ⊎-elim}

@@ -8,12 +8,7 @@ use Rattle.protocol.specs.Delivery.{deliver, askValue}
 use Rattle.network.specs.declared.Network.{Network}
 use Rattle.network.specs.Abstract.{networkOf}
 use Rattle.run.specs.Answers.{DeliversAs}
-use Rattle.bench_entry.specs.Giving.{mixed, playedOne, playedTo, askedTo, playedFor}
-
--- as far as the calls have been made
-pub record Playing (s : Started) (calls : List ℕ) (k : ℕ) (r : Network) (total : ℕ) : Type 0 where
-  pub network : networkOf r ≡ playedTo k s calls .network
-  pub sum : total ≡ playedTo k s calls .sum
+use Rattle.bench_entry.specs.Giving.{mixed, playedOne, playedTo, Playing, askedTo, playedFor}
 
 pub none-played : (s : Started) (calls : List ℕ) (r : Network) (sum : ℕ) → networkOf r ≡ s .network → sum ≡ s .number → Playing s calls 0 r sum
 unfolding playedTo
@@ -29,12 +24,15 @@ one-played s calls k r o sum number p d =
       sum = rw (d .number, p .sum, p .network);
     }
 
+pub all-played : (s : Started) (calls : List ℕ) (k n : ℕ) (r : Network) (total : ℕ) → Playing s calls k r total → k ≡ n → Playing s calls n r total
+all-played s calls k n r total p e = rw (← e) p
+
 pub one-asked : (w : Network′) (k all sum value : ℕ) → sum ≡ askedTo k w all → value ≡ askValue w k .value
     → sum % 4294967296 * 31 + value ≡ askedTo (suc k) w all
 unfolding askedTo mixed
 one-asked w k all sum value e v = rw (e, v)
 
-pub all-asked : (s : Started) (calls : List ℕ) (k n i : ℕ) (r : Network) (all sum : ℕ) → Playing s calls k r all → k ≡ n → i ≡ 13
+pub all-asked : (s : Started) (calls : List ℕ) (n i : ℕ) (r : Network) (all sum : ℕ) → Playing s calls n r all → i ≡ 13
     → sum ≡ askedTo i (networkOf r) all → sum ≡ playedFor (playedTo n s calls)
 unfolding playedFor
-all-asked s calls k n i r all sum p e f h = rw (← e, h, f, p .network, p .sum)
+all-asked s calls n i r all sum p f h = rw (h, f, p .network, p .sum)

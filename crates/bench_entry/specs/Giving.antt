@@ -11,6 +11,8 @@ use Rattle.protocol.specs.Network.{Network, Started, startSheet}
 use Rattle.protocol.specs.Delivery.{answerNumber, Delivery, deliver, askValue}
 use Rattle.protocol.specs.Run.{Ending, None, Plan, Jammed, Faulty, Open, Broken, Ran, run}
 use Rattle.packed.specs.Packed.{assignment}
+use Rattle.network.specs.declared.Network.{Network as Rail}
+use Rattle.network.specs.Abstract.{networkOf}
 
 -- ---- decoding: one word of the ban table, 0 beyond its last, or the number of the sheet's fault
 
@@ -65,6 +67,11 @@ unfoldable pub playedTo : ℕ → Started → List ℕ → Played
 playedTo zero s calls = record { network = s .network; sum = s .number }
 playedTo (suc k) s calls =
     playedOne (playedTo k s calls) (deliver (playedTo k s calls .network) (getD calls (2 * k) 0) (getD calls (2 * k + 1) 0))
+
+-- as far as k calls have been made, with this network and this sum
+pub record Playing (s : Started) (calls : List ℕ) (k : ℕ) (r : Rail) (total : ℕ) : Type 0 where
+  pub network : networkOf r ≡ playedTo k s calls .network
+  pub sum : total ≡ playedTo k s calls .sum
 
 -- the values asked of the numbers 0 to k - 1, mixed in too
 unfoldable pub askedTo : ℕ → Network → ℕ → ℕ

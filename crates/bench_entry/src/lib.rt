@@ -4,12 +4,15 @@ ghost use mathlib.Core.Path.{_≡_};
 ghost use Prim.Native.Nat.{_/_};
 ghost use lib.ListN.{length};
 ghost use Rattle.problem.specs.Sheet.{decode};
-ghost use Rattle.protocol.specs.Network.{startSheet};
+ghost use Rattle.protocol.specs.Network.{Started as Started′, startSheet};
+ghost use Rattle.network.specs.Abstract.{networkOf};
 ghost use Rattle.run.specs.Answers.{endingOf};
 ghost use Rattle.agent.specs.Abstract.{countsOf};
-ghost use Rattle.bench_entry.specs.Giving.{wordFor, WaitsFor, endingDigit, settledFor, playedTo, playedFor, countMixed, countsMixed, countsFor};
+ghost use Rattle.bench_entry.specs.Giving.{wordFor, WaitsFor, endingDigit, settledFor, playedTo, Playing, playedFor, countMixed, countsMixed, countsFor};
 use agent::Counts;
+use network::Network;
 use network::places::lines_of;
+use run::Answer;
 use run::Ending;
 
 // Decoding alone: one word of an accepted sheet's ban table, or the number of the sheet's fault.
@@ -81,23 +84,48 @@ pub extern "C" fn bench_entry_settle(sheet: &[u8], rounds: u64) -> u64
     (values * 1048576 + ran.rounds % 1048576) * 16 + number_of(ending)
 }
 
-// The start and then deliveries, each through the public entry: sender and receiver stand in `calls`, two bytes for each. The answer is made of their
-// numbers and, at the end, of each agent's value.
+// What calls come to: the network, and a sum that each number answered is mixed into.
+struct Reached {
+    network: Network,
+    sum: u64,
+}
+
+// Deliveries, each through the public entry: sender and receiver stand in `calls`, two bytes for each. One answer is handed on from call to call.
+fn play(network: Network, number: u8, calls: &[u8]) -> Reached
+    ensures { λ p. ⌜ ((s : Started′) → networkOf network ≡ s .network → number ≡ s .number → Playing s (now (calls .entry)) (length (now (calls .entry)) / 2) (p .network) (p .sum)) ⌝ }
+{
+    let mut d = Answer {
+        network: network,
+        rounds: 0,
+        number: number,
+        ending: Ending::Open,
+    };
+    let mut sum: u64 = number as u64;
+    let n = calls.len() / 2;
+    let mut k: usize = 0;
+    while k < n {
+        d = run::deliver(d.network, calls[2 * k], calls[2 * k + 1]);
+        sum = (sum % 4294967296) * 31 + d.number as u64;
+        k += 1;
+    }
+    let left = d.network;
+    Reached {
+        network: left,
+        sum: sum,
+    }
+}
+
+// The start and then deliveries: sender and receiver stand in `calls`, two bytes for each. The answer is made of their numbers and, at the end, of each
+// agent's value.
 #[no_mangle]
 pub extern "C" fn bench_entry_deliver(sheet: &[u8], calls: &[u8]) -> u64
     ensures { λ r. ⌜ r ≡ playedFor (playedTo (length (now (calls .entry)) / 2) (startSheet (now (sheet .entry))) (now (calls .entry))) ⌝ }
 {
     let started = start::start(sheet);
-    let mut network = started.network;
-    let mut sum: u64 = started.number as u64;
-    let n = calls.len() / 2;
-    let mut k: usize = 0;
-    while k < n {
-        let d = run::deliver(network, calls[2 * k], calls[2 * k + 1]);
-        network = d.network;
-        sum = (sum % 4294967296) * 31 + d.number as u64;
-        k += 1;
-    }
+    let begun = started.network;
+    let played = play(begun, started.number, calls);
+    let network = played.network;
+    let mut sum = played.sum;
     let mut i: u8 = 0;
     while i < 13 {
         let asked = network::value(network, i);

@@ -1,112 +1,54 @@
-// Steps a network call by call and draws it: `board FILE [CALL ..]`.
-ghost use mathlib.Core.Path.{_≡_};
-ghost use Rattle.protocol.specs.Delivery.{deliver as deliverBy};
-ghost use Rattle.protocol.specs.Run.{run as runBy};
-ghost use Rattle.network.specs.Abstract.{networkOf};
-ghost use Rattle.board.specs.Reading.{callIn};
-ghost use Rattle.board.specs.Calling.{afterCall};
-
-mod calls;
-mod drawing;
-
-use calls::Call;
-use calls::read_call;
-use drawing::put_board;
-use network::Network;
-use run::Ending;
-use words::printing::put;
-use words::printing::put_ending;
-use words::printing::put_line;
-use words::printing::put_number;
+// Steps a network call by call and draws it: `board SHEET [CALL ..]`.
+use board_text::Stepped;
+use board_text::begin;
+use board_text::call;
+use words::printing::Out;
 
 // ---- calls
 
-// A delivery, its line, and the board where it is not refused.
-fn deliver(r: Network, from: u8, to: u8) -> Network
-    ensures { λ o. ⌜ networkOf o ≡ deliverBy (networkOf r) from to .network ⌝ }
-{
-    let out = run::deliver(r, from, to);
-    put(b"deliver ");
-    put_number(from as u64);
-    put(b" ");
-    put_number(to as u64);
-    if out.number != 0 {
-        put_line(b": refused ", out.number as u64);
-        return out.network;
-    }
-    put(b"\n");
-    put_board(out.network);
-    out.network
-}
-
-// A run, its line, and the board where it is not refused.
-fn run(r: Network, rounds: u64) -> Network
-    ensures { λ o. ⌜ networkOf o ≡ runBy rounds (networkOf r) .network ⌝ }
-{
-    let out = run::run(r, rounds);
-    let ending = out.ending;
-    put(b"run ");
-    put_number(rounds);
-    if out.number != 0 {
-        put_line(b": refused ", out.number as u64);
-        return out.network;
-    }
-    put(b": ");
-    put_ending(ending);
-    put(b", ");
-    put_number(out.rounds);
-    put(b" rounds\n");
-    put_board(out.network);
-    out.network
-}
-
-// A word of the command line: its call, or that there is none.
-fn call(r: Network, word: &[u8]) -> Network
-    ensures { λ o. ⌜ networkOf o ≡ afterCall (callIn (now (word .entry))) (networkOf r) ⌝ }
-{
-    match read_call(word) {
-        Call::Deliver(from, to) => deliver(r, from, to),
-        Call::Run(rounds) => run(r, rounds),
-        Call::Unknown => {
-            put(b"call not understood: ");
-            put(word);
-            put(b"\n");
-            r
-        }
-    }
-}
-
 // The call that argument i says. The system passes no argument of more bytes.
-fn call_at(r: Network, i: usize) -> Network {
+fn call_at(s: Stepped, i: usize) -> Stepped {
     let mut word = [0u8; 131072];
     let n = os::arg(i, &mut word);
-    call(r, &word[..n])
+    let out = s.out;
+    let network = s.network;
+    call(out, network, &word[..n])
 }
 
-// The start of a sheet, and the calls from the second argument on.
-fn play(sheet: &[u8]) {
-    let started = start::start(sheet);
-    if started.number != 0 {
-        put_line(b"sheet refused ", started.number as u64);
-        return;
-    }
-    let mut r = started.network;
-    put(b"start\n");
-    put_board(r);
+// The calls from the second argument on, as long as what they print can be written.
+fn calls(stepped: Stepped) {
+    let mut s = stepped;
     let end = os::arg_count();
     let mut i: usize = 2;
     while i < end {
-        r = call_at(r, i);
+        if s.out.failed {
+            return;
+        }
+        s = call_at(s, i);
         i += 1;
     }
 }
 
+// The start of a sheet, and the calls where it is not refused.
+fn play(sheet: &[u8]) {
+    let begun = begin(Out::new(), sheet);
+    if begun.number != 0 {
+        return;
+    }
+    let network = begun.network;
+    let out = begun.out;
+    let s = Stepped {
+        network: network,
+        out: out,
+    };
+    calls(s);
+}
+
 // ---- the sheet
 
-fn cannot_read(name: &[u8]) {
-    put(b"cannot read ");
-    put(name);
-    put(b"\n");
+// One line, that ends in a word as it is given.
+fn say(text: &[u8], word: &[u8]) {
+    Out::new().put(text).put(word).put(b"\n");
 }
 
 // A read fails, as of a directory. At the end of a file it gives nothing, which is no failure.
@@ -120,7 +62,7 @@ fn read_and_play(fd: i32, name: &[u8]) {
     let mut sheet = [0u8; 33817];
     let n = io::read_full(fd, &mut sheet);
     if read_fails(fd) {
-        cannot_read(name);
+        say(b"cannot read ", name);
         return;
     }
     play(&sheet[..n]);
@@ -129,19 +71,31 @@ fn read_and_play(fd: i32, name: &[u8]) {
 fn open_and_play(name: &[u8]) {
     let fd = os::open_read(name);
     if fd < 0 {
-        cannot_read(name);
+        say(b"cannot read ", name);
         return;
     }
     read_and_play(fd, name);
     libc::close(fd);
 }
 
+// A word that begins with two dashes is an option and no file. There are none.
+fn is_option(word: &[u8]) -> bool {
+    if word.len() < 2 {
+        return false;
+    }
+    word[0] == b'-' && word[1] == b'-'
+}
+
 fn main() {
     if os::arg_count() < 2 {
-        put(b"no file given: board FILE [CALL ..]\n");
+        say(b"no file given: ", b"board SHEET [CALL ..]");
         return;
     }
     let mut name = [0u8; 131072];
     let n = os::arg(1, &mut name);
+    if is_option(&name[..n]) {
+        say(b"option not understood: ", &name[..n]);
+        return;
+    }
     open_and_play(&name[..n]);
 }

@@ -27,287 +27,334 @@ use forging::with_domain;
 use forging::with_message;
 use network::Network;
 use run::Answer;
-use words::printing::put;
-use words::printing::put_number;
-use words::word_for;
+use words::printing::Out;
 
 // ---- printing
 
-fn put_after(before: &[u8], n: u64) {
-    put(before);
-    put_number(n);
-}
-
-fn put_shape(name: &[u8], r: Network) {
-    put(name);
+fn put_shape(o: Out, name: &[u8], r: Network) -> Out {
     if network::in_shape(r) {
-        put(b": in shape");
-    } else {
-        put(b": broken");
+        return o.put(name).put(b": in shape");
     }
+    o.put(name).put(b": broken")
 }
 
 // A call's number, and where it is refused what it hands back for the network given.
-fn put_answer(before: &[u8], a: Answer, given: Network) {
-    put_after(before, a.number as u64);
+fn put_answer(o: Out, before: &[u8], a: Answer, given: Network) -> Out {
+    let number = o.put(before).number(a.number as u64);
     if a.number == 0 {
-        return;
+        return number;
     }
     if same(a.network, given) {
-        put(b", as given");
-    } else {
-        put(b", CHANGED");
+        return number.put(b", as given");
     }
+    number.put(b", CHANGED")
 }
 
 // ---- the cases
 
 // One case. The comparison has to tell it from the good network too.
-fn case(name: &[u8], g: Network, r: Network) {
-    put_shape(name, r);
-    put_answer(b"; delivery ", run::deliver(r, 2, 3), r);
-    put_answer(b"; run ", run::run(r, 1), r);
-    put_after(b"; value ", network::value(r, 1).number as u64);
+fn case(o: Out, name: &[u8], g: Network, r: Network) -> Out {
+    let shape = put_shape(o, name, r);
+    let delivery = put_answer(shape, b"; delivery ", run::deliver(r, 2, 3), r);
+    let ran = put_answer(delivery, b"; run ", run::run(r, 1), r);
+    let value = ran.put(b"; value ")
+        .number(network::value(r, 1).number as u64);
     if same(r, g) {
-        put(b"; no change");
+        return value.put(b"; no change\n");
     }
-    put(b"\n");
+    value.put(b"\n")
 }
 
 // What may differ and leave the shape as it is.
-fn free(g: Network) {
-    case(b"good", g, g);
-    case(b"no value under the verdict", g, judged(holding(g, 0, 0)));
-    case(
+fn free(o: Out, g: Network) -> Out {
+    let o = case(o, b"good", g, g);
+    let o = case(
+        o,
+        b"no value under the verdict",
+        g,
+        judged(holding(g, 0, 0)),
+    );
+    let o = case(
+        o,
         b"a left side beside no nogood",
         g,
         keeping(g, 2, 1, false, 0x270f),
     );
-    case(b"an unused place", g, with_message(g, 0, back(0x270f, 9)));
-    case(b"a head beyond the ring", g, headed(g, 1, 3, 11));
-    case(b"a head of 15", g, headed(g, 1, 3, 15));
-    case(b"a head beyond agent 12", g, headed(g, 1, 13, 5));
+    let o = case(
+        o,
+        b"an unused place",
+        g,
+        with_message(g, 0, back(0x270f, 9)),
+    );
+    let o = case(o, b"a head beyond the ring", g, headed(g, 1, 3, 11));
+    let o = case(o, b"a head of 15", g, headed(g, 1, 3, 15));
+    let o = case(o, b"a head beyond agent 12", g, headed(g, 1, 13, 5));
     let top = 18446744073709551615;
     let talkative = having_sent(g, 2, counts(top, 7, 0));
-    case(
+    let o = case(
+        o,
         b"counts of any size",
         g,
         having_received(talkative, 1, counts(0, top - 1, top)),
     );
-    case(b"a count of no line", g, waiting(g, 2, 2, 9));
-    case(b"a count beyond agent 12", g, waiting(g, 2, 13, 9));
+    let o = case(o, b"a count of no line", g, waiting(g, 2, 2, 9));
+    case(o, b"a count beyond agent 12", g, waiting(g, 2, 13, 9))
 }
 
 // n, the domains, the bans.
-fn problems(g: Network) {
-    case(b"empty", g, network::empty());
-    case(b"13 agents", g, counted(g, 13));
-    case(b"255 agents", g, counted(g, 255));
-    case(b"no values", g, with_domain(g, 1, 0));
-    case(b"9 values", g, with_domain(g, 1, 9));
-    case(b"255 values", g, with_domain(g, 1, 255));
-    case(b"values beyond n", g, with_domain(g, 3, 1));
-    case(
+fn problems(o: Out, g: Network) -> Out {
+    let o = case(o, b"empty", g, network::empty());
+    let o = case(o, b"13 agents", g, counted(g, 13));
+    let o = case(o, b"255 agents", g, counted(g, 255));
+    let o = case(o, b"no values", g, with_domain(g, 1, 0));
+    let o = case(o, b"9 values", g, with_domain(g, 1, 9));
+    let o = case(o, b"255 values", g, with_domain(g, 1, 255));
+    let o = case(o, b"values beyond n", g, with_domain(g, 3, 1));
+    let o = case(
+        o,
         b"a ban on the lower agent's value 3",
         g,
         with_bans(g, 1, 65537),
     );
-    case(
+    let o = case(
+        o,
         b"a ban on the higher agent's value 3",
         g,
         with_bans(g, 1, 5),
     );
-    case(b"a ban beyond n", g, with_bans(g, 3, 1));
+    case(o, b"a ban beyond n", g, with_bans(g, 3, 1))
 }
 
 // The value an agent holds.
-fn values(g: Network) {
-    case(b"a value not owned", g, holding(g, 0, 3));
-    case(b"no value", g, holding(g, 0, 0));
+fn values(o: Out, g: Network) -> Out {
+    let o = case(o, b"a value not owned", g, holding(g, 0, 3));
+    let o = case(o, b"no value", g, holding(g, 0, 0));
     case(
+        o,
         b"a value not owned under the verdict",
         g,
         judged(holding(g, 0, 3)),
-    );
+    )
 }
 
 // Whom an agent listens to and informs.
-fn sets(g: Network) {
-    case(b"listens to itself", g, listening(g, 2, 0b111));
-    case(b"listens downward", g, listening(g, 1, 0b100));
-    case(b"listens to agent 13", g, listening(g, 2, 0b1000000000011));
-    case(
+fn sets(o: Out, g: Network) -> Out {
+    let o = case(o, b"listens to itself", g, listening(g, 2, 0b111));
+    let o = case(o, b"listens downward", g, listening(g, 1, 0b100));
+    let o = case(
+        o,
+        b"listens to agent 13",
+        g,
+        listening(g, 2, 0b1000000000011),
+    );
+    let o = case(
+        o,
         b"listens to agent 16",
         g,
         listening(g, 2, 0b1000000000000011),
     );
-    case(b"informs itself", g, informing(g, 1, 0b110));
-    case(b"informs upward", g, informing(g, 1, 0b101));
-    case(b"informs beyond n", g, informing(g, 1, 0b1100));
-    case(b"informs agent 16", g, informing(g, 1, 0b1000000000000100));
-    case(b"banned and not listening", g, listening(g, 2, 0b10));
-    case(b"banned and not informing", g, informing(g, 0, 0));
-    case(b"informed and not listening", g, informing(g, 0, 0b110));
+    let o = case(o, b"informs itself", g, informing(g, 1, 0b110));
+    let o = case(o, b"informs upward", g, informing(g, 1, 0b101));
+    let o = case(o, b"informs beyond n", g, informing(g, 1, 0b1100));
+    let o = case(
+        o,
+        b"informs agent 16",
+        g,
+        informing(g, 1, 0b1000000000000100),
+    );
+    let o = case(o, b"banned and not listening", g, listening(g, 2, 0b10));
+    let o = case(o, b"banned and not informing", g, informing(g, 0, 0));
+    case(o, b"informed and not listening", g, informing(g, 0, 0b110))
 }
 
 // Views and nogoods.
-fn views(g: Network) {
-    case(b"a view of one not listened to", g, viewing(g, 1, 0x1));
-    case(b"a view with a value not owned", g, viewing(g, 2, 0x31));
-    case(b"a view of agent 13", g, viewing(g, 2, 0x1000000000011));
-    case(b"a view of agent 16", g, viewing(g, 2, 0x1000000000000011));
-    case(b"a nogood against the view", g, keeping(g, 2, 0, true, 0x2));
-    case(
+fn views(o: Out, g: Network) -> Out {
+    let o = case(o, b"a view of one not listened to", g, viewing(g, 1, 0x1));
+    let o = case(o, b"a view with a value not owned", g, viewing(g, 2, 0x31));
+    let o = case(o, b"a view of agent 13", g, viewing(g, 2, 0x1000000000011));
+    let o = case(
+        o,
+        b"a view of agent 16",
+        g,
+        viewing(g, 2, 0x1000000000000011),
+    );
+    let o = case(
+        o,
+        b"a nogood against the view",
+        g,
+        keeping(g, 2, 0, true, 0x2),
+    );
+    let o = case(
+        o,
         b"a nogood of agent 13",
         g,
         keeping(g, 2, 0, true, 0x1000000000001),
     );
-    case(
+    let o = case(
+        o,
         b"a nogood of agent 16",
         g,
         keeping(g, 2, 0, true, 0x1000000000000001),
     );
     case(
+        o,
         b"a nogood at a value not owned",
         g,
         keeping(g, 2, 2, true, 0x0),
-    );
+    )
 }
 
 // An agent beyond n.
-fn beyond(g: Network) {
-    case(b"a value beyond n", g, holding(g, 3, 1));
-    case(b"listens beyond n", g, listening(g, 3, 0b1));
-    case(b"agent 4 informs", g, informing(g, 3, 0b10000));
-    case(b"a view beyond n", g, viewing(g, 3, 0x1));
-    case(b"a nogood beyond n", g, keeping(g, 3, 0, true, 0x0));
-    case(b"news sent beyond n", g, having_sent(g, 3, counts(1, 0, 0)));
-    case(
+fn beyond(o: Out, g: Network) -> Out {
+    let o = case(o, b"a value beyond n", g, holding(g, 3, 1));
+    let o = case(o, b"listens beyond n", g, listening(g, 3, 0b1));
+    let o = case(o, b"agent 4 informs", g, informing(g, 3, 0b10000));
+    let o = case(o, b"a view beyond n", g, viewing(g, 3, 0x1));
+    let o = case(o, b"a nogood beyond n", g, keeping(g, 3, 0, true, 0x0));
+    let o = case(
+        o,
+        b"news sent beyond n",
+        g,
+        having_sent(g, 3, counts(1, 0, 0)),
+    );
+    let o = case(
+        o,
         b"a refusal sent beyond n",
         g,
         having_sent(g, 3, counts(0, 1, 0)),
     );
-    case(
+    let o = case(
+        o,
         b"a link asked for beyond n",
         g,
         having_sent(g, 3, counts(0, 0, 1)),
     );
-    case(
+    let o = case(
+        o,
         b"news received beyond n",
         g,
         having_received(g, 3, counts(1, 0, 0)),
     );
-    case(
+    let o = case(
+        o,
         b"a refusal received beyond n",
         g,
         having_received(g, 3, counts(0, 1, 0)),
     );
-    case(
+    let o = case(
+        o,
         b"a link request received beyond n",
         g,
         having_received(g, 3, counts(0, 0, 18446744073709551615)),
     );
     case(
+        o,
         b"a message from beyond n",
         g,
         waiting(with_message(g, 264, Message::AddLink), 4, 1, 1),
-    );
+    )
 }
 
 // Full channels, and Info.
-fn news(g: Network) {
-    case(b"nine messages", g, waiting(g, 1, 3, 9));
-    case(b"fifteen messages", g, waiting(g, 1, 3, 15));
-    case(b"Info upward", g, with_message(g, 176, Message::Info(1)));
-    case(
+fn news(o: Out, g: Network) -> Out {
+    let o = case(o, b"nine messages", g, waiting(g, 1, 3, 9));
+    let o = case(o, b"fifteen messages", g, waiting(g, 1, 3, 15));
+    let o = case(o, b"Info upward", g, with_message(g, 176, Message::Info(1)));
+    let o = case(
+        o,
         b"Info of a value not owned",
         g,
         with_message(g, 96, Message::Info(3)),
     );
-    case(
+    let o = case(
+        o,
         b"Info of no value",
         g,
         with_message(g, 96, Message::Info(0)),
     );
     case(
+        o,
         b"Info to one not listening",
         g,
         waiting(with_message(g, 0, Message::Info(1)), 1, 2, 1),
-    );
+    )
 }
 
 // Back and AddLink.
-fn refusals(g: Network) {
-    case(b"Back downward", g, with_message(g, 96, back(0x0, 1)));
-    case(
+fn refusals(o: Out, g: Network) -> Out {
+    let o = case(o, b"Back downward", g, with_message(g, 96, back(0x0, 1)));
+    let o = case(
+        o,
         b"Back of a value not owned",
         g,
         with_message(g, 184, back(0x1, 3)),
     );
-    case(b"Back of no value", g, with_message(g, 184, back(0x1, 0)));
-    case(
+    let o = case(
+        o,
+        b"Back of no value",
+        g,
+        with_message(g, 184, back(0x1, 0)),
+    );
+    let o = case(
+        o,
         b"Back from one not listening",
         g,
         waiting(with_message(g, 88, back(0x0, 1)), 2, 1, 1),
     );
-    case(
+    let o = case(
+        o,
         b"Back that names the receiver",
         g,
         with_message(g, 184, back(0x10, 1)),
     );
-    case(
+    let o = case(
+        o,
         b"Back that names a value not owned",
         g,
         with_message(g, 184, back(0x3, 1)),
     );
-    case(
+    let o = case(
+        o,
         b"Back that names agent 4, beyond n",
         g,
         with_message(g, 184, back(0x1001, 1)),
     );
-    case(
+    let o = case(
+        o,
         b"Back that names agent 12, beyond n",
         g,
         with_message(g, 184, far_back(1)),
     );
-    case(
+    let o = case(
+        o,
         b"AddLink downward",
         g,
         with_message(g, 96, Message::AddLink),
     );
     case(
+        o,
         b"AddLink from one not listening",
         g,
         waiting(with_message(g, 88, Message::AddLink), 2, 1, 1),
-    );
+    )
 }
 
 // A link request of an agent already informed, in a network that is in shape otherwise: a delivery meets 9, and a run, which has delivered the Info by
 // then, stops.
-fn requests() {
+fn requests(o: Out) {
     let r = repeated();
-    put_shape(b"a link asked for twice", r);
-    put_answer(b"; delivery ", run::deliver(r, 2, 1), r);
+    let shape = put_shape(o, b"a link asked for twice", r);
+    let delivery = put_answer(shape, b"; delivery ", run::deliver(r, 2, 1), r);
     let ran = run::run(r, 1);
     let ending = ran.ending;
-    let word = word_for(ending);
-    let letters = word.letters;
-    let n = word.length;
-    put(b"; run ");
-    put(&letters[..n]);
-    put_after(b", ", ran.rounds);
-    put(b" rounds\n");
+    let word = delivery.put(b"; run ").ending(ending);
+    word.put(b", ").number(ran.rounds).put(b" rounds\n");
 }
 
 fn main() {
     let g = good();
-    free(g);
-    problems(g);
-    values(g);
-    sets(g);
-    views(g);
-    beyond(g);
-    news(g);
-    refusals(g);
-    requests();
+    let o = problems(free(Out::new(), g), g);
+    let o = views(sets(values(o, g), g), g);
+    let o = refusals(news(beyond(o, g), g), g);
+    requests(o);
 }

@@ -1,4 +1,4 @@
--- Input beyond the longest sheet: one byte more than it tells all. "Input beyond 33,816 bytes .. meets the same checks in the same order."
+-- Input beyond the longest sheet: one byte more than it tells all. "Input longer than any sheet .. meets the same checks in the same order."
 -- The header is in the first 24 bytes, and where it is good the total length that it states is at most 33,816.
 use mathlib.Core.Path.{_≡_, refl, sym, ap, _∙_}
 use mathlib.Core.Bool.{true}

@@ -1,7 +1,7 @@
 // A choice of slots for all scanners, and the next one.
 ghost use Prim.Native.Nat.{_≤_, _<_};
-use crate::reading::domain;
 use crate::reading::obeys;
+use crate::reading::slots;
 use crate::reading::wide;
 
 // Place i - 1 is the slot of scanner i. `over` says that the choices were gone through.
@@ -11,7 +11,7 @@ pub struct Choice {
 }
 
 // The slot of scanner i, and 0 where there is no such scanner.
-pub fn value_of(c: Choice, i: usize) -> usize
+pub fn slot_of(c: Choice, i: usize) -> usize
     ensures { λ v. ⌜ v < 256 ⌝ }
 {
     if i == 0 {
@@ -32,16 +32,16 @@ pub fn first() -> Choice {
 }
 
 // Where the scanners before are through with their slots, scanner i takes its next one, or begins again.
-fn carried(c: Choice, i: usize, domain: usize) -> Choice
+fn carried(c: Choice, i: usize, slots: usize) -> Choice
     requires { ⌜ (1 ≤ i) × (i ≤ 12) ⌝ }
 {
     let mut o = c;
     if !c.over {
         return o;
     }
-    let value = c.of[i - 1];
-    if (value as usize) < domain {
-        o.of[i - 1] = value % 16 + 1;
+    let slot = c.of[i - 1];
+    if (slot as usize) < slots {
+        o.of[i - 1] = slot % 16 + 1;
         o.over = false;
         return o;
     }
@@ -54,7 +54,7 @@ fn advanced(s: &[u8], c: Choice) -> Choice {
     let mut o = c;
     o.over = true;
     for i in 1..13 {
-        o = carried(o, i, domain(s, i));
+        o = carried(o, i, slots(s, i));
     }
     o
 }
@@ -77,21 +77,21 @@ pub fn solvable(s: &[u8]) -> bool {
 }
 
 // Scanner i has a slot of its own, or there is no such scanner.
-fn value_owned(s: &[u8], c: Choice, i: usize) -> bool
+fn slot_owned(s: &[u8], c: Choice, i: usize) -> bool
     requires { ⌜ i < 256 ⌝ }
 {
-    let value = value_of(c, i);
-    let most = domain(s, i);
+    let slot = slot_of(c, i);
+    let most = slots(s, i);
     if most == 0 {
-        return value == 0;
+        return slot == 0;
     }
-    0 < value && value <= most
+    0 < slot && slot <= most
 }
 
 // Every scanner has a slot of its own, and no ban is broken.
 pub fn settles(s: &[u8], c: Choice) -> bool {
     for i in 1..13 {
-        if !value_owned(s, c, i) {
+        if !slot_owned(s, c, i) {
             return false;
         }
     }

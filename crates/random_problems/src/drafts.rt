@@ -70,7 +70,7 @@ fn record_at(r: usize) -> usize
 // ---- the header
 
 // The most slots that n scanners have: never more than 4,096 choices in all.
-fn most_values(n: usize) -> usize {
+fn most_slots(n: usize) -> usize {
     if n <= 4 {
         return 8;
     }
@@ -78,25 +78,25 @@ fn most_values(n: usize) -> usize {
 }
 
 // Scanner i + 1 gets 1 to `most` slots.
-fn with_agent(d: Draft, i: usize, most: usize) -> Draft
+fn with_scanner(d: Draft, i: usize, most: usize) -> Draft
     requires { ⌜ i < 12 ⌝ }
 {
     let o = stirred(d);
     with_byte(o, 8 + i, 1 + pick(o.state, most) % 8)
 }
 
-fn with_agents(d: Draft, n: usize, most: usize) -> Draft
+fn with_scanners(d: Draft, n: usize, most: usize) -> Draft
     requires { ⌜ n ≤ 12 ⌝ }
 {
     let mut o = with_byte(with_byte(d, 0, n), 1, 1);
     for i in 0..n {
-        o = with_agent(o, i, most);
+        o = with_scanner(o, i, most);
     }
     o
 }
 
 // One sheet in four has up to four scanners, one in four up to twelve, the others up to six.
-fn most_agents(k: usize) -> usize
+fn most_scanners(k: usize) -> usize
     ensures { λ n. ⌜ (1 ≤ n) × (n ≤ 12) ⌝ }
 {
     match k {
@@ -109,16 +109,16 @@ fn most_agents(k: usize) -> usize
 // Half of the sheets with up to six scanners have no more than three slots each.
 fn headed(state: u64) -> Draft {
     let d = stirred(blank(state));
-    let agents = most_agents(pick(d.state, 4));
+    let scanners = most_scanners(pick(d.state, 4));
     let d = stirred(d);
-    let n = 1 + pick(d.state, agents);
+    let n = 1 + pick(d.state, scanners);
     let d = stirred(d);
     if n <= 6 {
         if pick(d.state, 2) == 0 {
-            return with_agents(d, n, 3);
+            return with_scanners(d, n, 3);
         }
     }
-    with_agents(d, n, most_values(n))
+    with_scanners(d, n, most_slots(n))
 }
 
 // One sheet in three bans gaps.
@@ -148,12 +148,12 @@ fn with_pair(d: Draft, at: usize) -> Draft
 }
 
 // A slot for the scanner that is named at `at`, two bytes behind it.
-fn with_value(d: Draft, at: usize) -> Draft
+fn with_slot(d: Draft, at: usize) -> Draft
     requires { ⌜ at ≤ 977 ⌝ }
 {
     let d = stirred(d);
-    let agent = byte_at(d, at);
-    with_byte(d, at + 2, 1 + pick(d.state, byte_at(d, 7 + agent)))
+    let scanner = byte_at(d, at);
+    with_byte(d, at + 2, 1 + pick(d.state, byte_at(d, 7 + scanner)))
 }
 
 // No gap is above 7, for which 14 stands.
@@ -181,7 +181,7 @@ fn with_ban(d: Draft, r: usize) -> Draft {
     if byte_at(o, 1) == 2 {
         return with_gaps(o, at);
     }
-    with_value(with_value(o, at), at + 1)
+    with_slot(with_slot(o, at), at + 1)
 }
 
 // Record r says what record q says.

@@ -4,7 +4,7 @@
 mod choices;
 mod drafts;
 mod draws;
-mod networks;
+mod rails;
 mod reading;
 mod tallies;
 
@@ -14,9 +14,9 @@ use drafts::drawn;
 use draws::next;
 use draws::pick;
 use network::Network;
-use networks::at_rest;
-use networks::listed;
-use networks::taken;
+use rails::at_rest;
+use rails::listed;
+use rails::taken;
 use reading::fault;
 use reading::of_gaps;
 use run::Ending;
@@ -36,6 +36,7 @@ use tallies::judged;
 use tallies::report;
 use tallies::with_more;
 use tallies::with_one;
+use words::printing::Out;
 
 // The rounds that a run may use: 1,000, or one time in eight up to seven.
 fn allowed(state: u64) -> u64 {
@@ -58,16 +59,16 @@ fn ended(t: Tally, e: Ending, settled: bool, found: bool, s: &[u8]) -> Tally {
     }
 }
 
-fn with_run(t: Tally, network: Network, state: u64, found: bool, s: &[u8]) -> Tally {
-    let out = run::run(network, allowed(state));
+fn with_run(t: Tally, rail: Network, state: u64, found: bool, s: &[u8]) -> Tally {
+    let out = run::run(rail, allowed(state));
     let after = out.network;
     let ending = out.ending;
     ended(t, ending, settles(s, taken(after)), found, s)
 }
 
 // Where a list of deliveries has come to.
-fn list_ended(t: Tally, network: Network, found: bool, s: &[u8]) -> Tally {
-    if network.verdict {
+fn list_ended(t: Tally, rail: Network, found: bool, s: &[u8]) -> Tally {
+    if rail.verdict {
         return judged(
             t,
             AT_VERDICT,
@@ -76,11 +77,11 @@ fn list_ended(t: Tally, network: Network, found: bool, s: &[u8]) -> Tally {
             s,
         );
     }
-    if at_rest(network) {
+    if at_rest(rail) {
         return judged(
             t,
             AT_REST,
-            settles(s, taken(network)),
+            settles(s, taken(rail)),
             b"a rest that breaks a ban:",
             s,
         );
@@ -88,9 +89,9 @@ fn list_ended(t: Tally, network: Network, found: bool, s: &[u8]) -> Tally {
     with_one(t, CUT_SHORT)
 }
 
-fn with_list(t: Tally, network: Network, state: u64, found: bool, s: &[u8]) -> Tally {
-    let l = listed(network, state, 200);
-    let after = l.network;
+fn with_list(t: Tally, rail: Network, state: u64, found: bool, s: &[u8]) -> Tally {
+    let l = listed(rail, state, 200);
+    let after = l.rail;
     let t = with_more(with_more(t, DELIVERIES, l.accepted), REFUSALS, l.refused);
     let t = list_ended(t, after, found, s);
     if l.wrong == 0 {
@@ -102,7 +103,7 @@ fn with_list(t: Tally, network: Network, state: u64, found: bool, s: &[u8]) -> T
 // A sheet, which is refused with the right number, or whose rail is run and delivered on.
 fn with_sheet(t: Tally, state: u64, s: &[u8]) -> Tally {
     let out = start::start(s);
-    let network = out.network;
+    let rail = out.network;
     let number = fault(s);
     let t = judged(
         t,
@@ -117,8 +118,8 @@ fn with_sheet(t: Tally, state: u64, s: &[u8]) -> Tally {
     let t = if of_gaps(s) { with_one(t, GAPS) } else { t };
     let found = solvable(s);
     with_list(
-        with_run(t, network, state, found, s),
-        network,
+        with_run(t, rail, state, found, s),
+        rail,
         next(state),
         found,
         s,
@@ -134,7 +135,10 @@ fn with_bytes(t: Tally, state: u64, bytes: &[u8], length: usize) -> Tally {
 
 // So many sheets, from a fixed seed.
 fn tried(sheets: usize) -> Tally {
-    let mut t = Tally { of: [0u64; 16] };
+    let mut t = Tally {
+        of: [0u64; 16],
+        out: Out::new(),
+    };
     let mut state: u64 = 20030139;
     for k in 0..sheets {
         let d = drawn(state);

@@ -4,7 +4,7 @@
 // needed.
 ghost use Prim.Native.Nat.{_<_};
 use crate::choices::Choice;
-use crate::choices::value_of;
+use crate::choices::slot_of;
 
 // A byte as a number.
 pub fn wide(b: u8) -> usize
@@ -31,7 +31,7 @@ fn word(s: &[u8], k: usize) -> usize
 // ---- the header
 
 // The slot count of scanner i.
-pub fn domain(s: &[u8], i: usize) -> usize
+pub fn slots(s: &[u8], i: usize) -> usize
     requires { ⌜ i < 256 ⌝ }
     ensures { λ d. ⌜ d < 256 ⌝ }
 {
@@ -39,10 +39,10 @@ pub fn domain(s: &[u8], i: usize) -> usize
 }
 
 // It is 1 to 8, or 0 where there is no such scanner.
-fn domain_right(s: &[u8], i: usize) -> bool
+fn slots_right(s: &[u8], i: usize) -> bool
     requires { ⌜ i < 256 ⌝ }
 {
-    let d = domain(s, i);
+    let d = slots(s, i);
     if i <= byte(s, 0) {
         0 < d && d < 9
     } else {
@@ -50,9 +50,9 @@ fn domain_right(s: &[u8], i: usize) -> bool
     }
 }
 
-fn domains_right(s: &[u8]) -> bool {
+fn all_slots_right(s: &[u8]) -> bool {
     for i in 1..13 {
-        if !domain_right(s, i) {
+        if !slots_right(s, i) {
             return false;
         }
     }
@@ -71,7 +71,7 @@ fn header_right(s: &[u8]) -> bool {
     if word(s, 6) != 0 || word(s, 20) != 0 || word(s, 22) != 0 {
         return false;
     }
-    domains_right(s)
+    all_slots_right(s)
 }
 
 // ---- the chain
@@ -87,7 +87,7 @@ fn record_at(r: usize) -> usize
 fn owned(s: &[u8], i: usize, v: usize) -> bool
     requires { ⌜ i < 256 ⌝ }
 {
-    0 < v && v <= domain(s, i)
+    0 < v && v <= slots(s, i)
 }
 
 // The sheet bans gaps.
@@ -162,8 +162,8 @@ pub fn fault(s: &[u8]) -> u8 {
 // Record r bans these slots: they are the two that it names, or the higher's, 7 more, is as far above the lower's as its gaps say, 7 more.
 fn bans(s: &[u8], r: usize, c: Choice) -> bool {
     let at = record_at(r);
-    let low = value_of(c, byte(s, at));
-    let high = value_of(c, byte(s, at + 1));
+    let low = slot_of(c, byte(s, at));
+    let high = slot_of(c, byte(s, at + 1));
     if of_gaps(s) {
         return low + gap(s, at + 2) <= high + 7 && high + 7 <= low + gap(s, at + 3);
     }

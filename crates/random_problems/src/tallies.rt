@@ -1,8 +1,5 @@
 // How many of each kind were tried, and what failed.
-use words::printing::put;
-use words::printing::put_byte;
-use words::printing::put_line;
-use words::printing::put_number;
+use words::printing::Out;
 
 // Kinds 1 to 4 are the sheets that were refused with that number.
 pub const SHEETS: usize = 0;
@@ -31,6 +28,7 @@ pub const FAILED: usize = 15;
 
 pub struct Tally {
     pub of: [u64; 16],
+    pub out: Out,
 }
 
 pub fn with_more(t: Tally, kind: usize, more: u64) -> Tally {
@@ -52,65 +50,91 @@ pub fn with_one(t: Tally, kind: usize) -> Tally {
 // ---- what failed
 
 // The sheet in hexadecimal digits, to try it with.
-fn put_sheet(s: &[u8]) {
+fn put_sheet(o: Out, s: &[u8]) -> Out {
+    let mut out = o;
     for k in 0..s.len() {
-        put_byte(s[k]);
+        out = out.byte(s[k]);
     }
-    put(b"\n");
+    out.put(b"\n")
+}
+
+fn with_out(tally: Tally, out: Out) -> Tally {
+    let of = tally.of;
+    Tally { of, out }
 }
 
 // What was tried is right, or is printed with the sheet.
-pub fn judged(t: Tally, kind: usize, right: bool, words: &[u8], s: &[u8]) -> Tally {
-    let o = with_one(t, kind);
+pub fn judged(tally: Tally, kind: usize, right: bool, words: &[u8], s: &[u8]) -> Tally {
+    let t = with_one(tally, kind);
     if right {
-        return o;
+        return t;
     }
-    put(b"failed: ");
-    put(words);
-    put_sheet(s);
-    with_one(o, FAILED)
+    let o = t.out;
+    let out = put_sheet(o.put(b"failed: ").put(words), s);
+    with_one(with_out(t, out), FAILED)
 }
 
 // ---- the report
 
-// How many of a kind were tried; none at all is a failure. How many have failed so far comes back.
-fn counted(words: &[u8], tried: u64, failures: u64) -> u64 {
-    put_line(words, tried);
+// How many have failed so far.
+struct Account {
+    failures: u64,
+    out: Out,
+}
+
+// How many of a kind were tried; none at all is a failure.
+fn counted(r: Account, words: &[u8], tried: u64) -> Account {
+    let o = r.out;
+    let out = o.line(words, tried);
     if tried == 0 {
-        put(b"failed: nothing of this kind was tried\n");
-        return 1;
+        return Account {
+            failures: 1,
+            out: out.put(b"failed: nothing of this kind was tried\n"),
+        };
     }
-    failures
+    Account {
+        failures: r.failures,
+        out,
+    }
 }
 
-fn report_sheets(t: [u64; 16]) -> u64 {
-    let failures = counted(b"sheets ", t[SHEETS], t[FAILED]);
-    let failures = counted(b"of gaps, accepted ", t[GAPS], failures);
-    let failures = counted(b"refused 1: ", t[1], failures);
-    let failures = counted(b"refused 2: ", t[2], failures);
-    let failures = counted(b"refused 3: ", t[3], failures);
-    counted(b"refused 4: ", t[4], failures)
+fn report_sheets(r: Account, t: [u64; 16]) -> Account {
+    let sheets = counted(r, b"sheets ", t[SHEETS]);
+    let gaps = counted(sheets, b"of gaps, accepted ", t[GAPS]);
+    let first = counted(gaps, b"refused 1: ", t[1]);
+    let second = counted(first, b"refused 2: ", t[2]);
+    let third = counted(second, b"refused 3: ", t[3]);
+    counted(third, b"refused 4: ", t[4])
 }
 
-fn report_runs(t: [u64; 16], before: u64) -> u64 {
-    let failures = counted(b"runs to a plan ", t[PLANS], before);
-    let failures = counted(b"runs to none ", t[NONES], failures);
+fn report_runs(r: Account, t: [u64; 16]) -> Account {
+    let plans = counted(r, b"runs to a plan ", t[PLANS]);
+    let nones = counted(plans, b"runs to none ", t[NONES]);
     // rare: none of these sheets does
-    put_line(b"runs that jammed ", t[JAMMED]);
-    counted(b"runs left open ", t[OPEN], failures)
+    let o = nones.out;
+    let jammed = Account {
+        failures: nones.failures,
+        out: o.line(b"runs that jammed ", t[JAMMED]),
+    };
+    counted(jammed, b"runs left open ", t[OPEN])
 }
 
-fn report_lists(t: [u64; 16], before: u64) -> u64 {
-    let failures = counted(b"lists to rest ", t[AT_REST], before);
-    let failures = counted(b"lists to the verdict ", t[AT_VERDICT], failures);
-    let failures = counted(b"lists cut short ", t[CUT_SHORT], failures);
-    let failures = counted(b"deliveries accepted ", t[DELIVERIES], failures);
-    counted(b"deliveries refused ", t[REFUSALS], failures)
+fn report_lists(r: Account, t: [u64; 16]) -> Account {
+    let rests = counted(r, b"lists to rest ", t[AT_REST]);
+    let verdicts = counted(rests, b"lists to the verdict ", t[AT_VERDICT]);
+    let cut = counted(verdicts, b"lists cut short ", t[CUT_SHORT]);
+    let deliveries = counted(cut, b"deliveries accepted ", t[DELIVERIES]);
+    counted(deliveries, b"deliveries refused ", t[REFUSALS])
 }
 
 pub fn report(tally: Tally) {
     let t = tally.of;
-    let failures = report_lists(t, report_runs(t, report_sheets(t)));
-    put_number(failures);
-    put(b" failed\n");
+    let out = tally.out;
+    let r = Account {
+        failures: t[FAILED],
+        out,
+    };
+    let all = report_lists(report_runs(report_sheets(r, t), t), t);
+    let o = all.out;
+    o.number(all.failures).put(b" failed\n");
 }

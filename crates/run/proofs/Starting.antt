@@ -85,6 +85,10 @@ module _ (r : Network) (rows : List ℕ) (h : Rows (r .counts) rows) where
       let e = counted-channel r rows (λ i j b. held-if i j b) in
       λ k. record { problem = networkOf r .problem; verdict = r .verdict; agents = networkOf r .agents; channel = e k }
 
+-- the shape is that of the network with clean rows
+pub clean-shape : (r : Network) (rows : List ℕ) → Rows (r .counts) rows → (b : Bool) → inShape (networkOf (counted r rows)) ≡ b → inShape (networkOf r) ≡ b
+clean-shape r rows h b e = ap inShape (sym (rows-network r rows h)) ∙ e
+
 pub began-network : {once : Bool} {i j : ℕ} {r o : Network} {n number from rest : ℕ} → Began once i j r o n number from rest → networkOf o ≡ networkOf r
 began-network (broken s e n k f z) = ap networkOf e
 began-network {r = r} (running s b rows h e n k f z) = ap networkOf e ∙ rows-network r rows h

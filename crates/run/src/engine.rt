@@ -42,13 +42,13 @@ pub fn work(r: Network, once: bool, sender: u8, receiver: u8, allowed: u64) -> A
     // the sender whose lines are visited, and those of them yet to be visited, a digit for each receiver
     let mut from: u8 = 0;
     let mut rest: u64 = 0;
+    let counts = o.counts;
+    let rows = cleaned(counts);
+    o.counts = rows;
     if network::in_shape(o) {
         n = o.count;
         from = n;
         number = 0;
-        let counts = o.counts;
-        let rows = cleaned(counts);
-        o.counts = rows;
         if once {
             number = tested(n, o.verdict, &o.counts, sender, receiver);
             if number == 0 {
@@ -57,6 +57,8 @@ pub fn work(r: Network, once: bool, sender: u8, receiver: u8, allowed: u64) -> A
                 number = 10;
             }
         }
+    } else {
+        o.counts = counts;
     }
     let domains = o.domains;
     let bans = o.bans;

@@ -3,6 +3,7 @@ use mathlib.Core.Path.{_≡_, sym, ap, _∙_}
 use mathlib.Core.Bool.{true, false, false≢true}
 use Prim.Native.Nat.{ℕ, suc, _≤_, _<_}
 use native.Mathlib.Omega.{arith}
+use mathlib.Core.List.{List}
 use lib.ListN.{length, replicate, length-set, length-replicate}
 use Rattle.base.proofs.Tests.{test}
 use Rattle.problem.specs.Problem.{Problem}
@@ -10,6 +11,7 @@ use Rattle.protocol.specs.Network.{Network as Network′, begun, withStep}
 use Rattle.agent.specs.declared.Agent.{Agent}
 use Rattle.agent.specs.Entries.{BeginsAs}
 use Rattle.packed.specs.Packed.{members}
+use Rattle.network.specs.declared.Place.{Place}
 use Rattle.network.specs.declared.Network.{Network}
 use Rattle.network.specs.Abstract.{isChannel, noPlace, channelOf, networkOf}
 use Rattle.network.specs.Empty.{emptyAgent, emptyRecord}
@@ -28,7 +30,22 @@ pub record Opening (p : Problem) (m : ℕ) (r : Network) : Type 0 where
   pub counts : length (r .counts) ≡ 12
   pub places : length (r .places) ≡ 1056
 
--- nobody has begun
+-- nobody has begun: the record, as it is written
+pub not-begun : (n : ℕ) (domains bans : List ℕ) (a : Agent) (p : Place) → a ≡ emptyAgent → p ≡ noPlace
+    → record {
+      count = n;
+      domains = domains;
+      bans = bans;
+      verdict = false;
+      agents = replicate 12 a;
+      heads = replicate 12 0;
+      counts = replicate 12 0;
+      places = replicate 1056 p;
+    }
+    ≡ unbegun n domains bans
+unfolding unbegun emptyRecord
+not-begun n domains bans a p e f = rw (e, f)
+
 pub none-begun : (p : Problem) (r : Network) → r ≡ unbegun (p .count) (p .domains) (p .bans) → Opening p 0 r
 unfolding unbegun emptyRecord
 none-begun p r e =

@@ -4,8 +4,9 @@ ghost use Prim.Native.Nat.{_≤_};
 ghost use Rattle.problem.specs.Problem.{Problem as Problem′, linked};
 ghost use Rattle.protocol.specs.Network.{startSheet};
 ghost use Rattle.packed.specs.Packed.{members};
-ghost use Rattle.network.specs.Abstract.{networkOf};
-ghost use Rattle.start.specs.Started.{unbegun, StartsAs};
+ghost use Rattle.network.specs.Abstract.{noPlace};
+ghost use Rattle.network.specs.Empty.{emptyAgent};
+ghost use Rattle.start.specs.Started.{StartsAs};
 use agent::Agent;
 use agent::Counts;
 use agent::Lhs;
@@ -20,10 +21,10 @@ use packed::first;
 use packed::with_digit;
 use packed::without;
 
-// Number 0 and the network, or a fault's number, 1 to 4, and the empty network.
+// The network and number 0, or the empty network and a fault's number, 1 to 4.
 pub struct Started {
-    pub number: u8,
     pub network: Network,
+    pub number: u8,
 }
 
 // ---- links
@@ -60,16 +61,16 @@ fn informs(bans: &[u64; 66], i: u8) -> u16
 
 // ---- the start
 
-// The network of a problem, in which nobody has begun. All else is zero, and every place holds the same message.
-fn unbegun(n: u8, domains: [u8; 12], bans: [u64; 66]) -> Network
-    ensures { λ r. ⌜ r ≡ unbegun n domains bans ⌝ }
+// An agent that has not begun.
+fn nobody() -> Agent
+    ensures { λ a. ⌜ a ≡ emptyAgent ⌝ }
 {
     let none = Counts {
         infos: 0,
         backs: 0,
         links: 0,
     };
-    let nobody = Agent {
+    Agent {
         value: 0,
         stored: 0,
         listens: 0,
@@ -78,26 +79,20 @@ fn unbegun(n: u8, domains: [u8; 12], bans: [u64; 66]) -> Network
         nogoods: [0; 8],
         sent: none,
         received: none,
-    };
-    let agents = [nobody; 12];
-    let place = Place {
+    }
+}
+
+// A place where nothing waits.
+fn nothing() -> Place
+    ensures { λ p. ⌜ p ≡ noPlace ⌝ }
+{
+    Place {
         message: Message::AddLink,
-    };
-    let places = [place; 1056];
-    Network {
-        count: n,
-        domains: domains,
-        bans: bans,
-        verdict: false,
-        agents: agents,
-        heads: [0; 12],
-        counts: [0; 12],
-        places: places,
     }
 }
 
 // The start for a sheet: every agent of its problem begins, and what it sends waits, each message alone on its channel. A refused sheet has the empty
-// problem, in which nobody begins.
+// problem, in which nobody begins. The network is built once, where nobody has begun: all in it is zero, and every place holds the same message.
 pub fn start(sheet: &[u8]) -> Started
     ensures { λ r. ⌜ StartsAs (startSheet (now (sheet .entry))) r ⌝ }
 {
@@ -106,7 +101,18 @@ pub fn start(sheet: &[u8]) -> Started
     let n = p.count;
     let domains = p.domains;
     let bans = p.bans;
-    let mut r = unbegun(n, domains, bans);
+    let agents = [nobody(); 12];
+    let places = [nothing(); 1056];
+    let mut r = Network {
+        count: n,
+        domains: domains,
+        bans: bans,
+        verdict: false,
+        agents: agents,
+        heads: [0; 12],
+        counts: [0; 12],
+        places: places,
+    };
     let mut i: u8 = 0;
     while i < n {
         let at = i as usize;
@@ -131,7 +137,7 @@ pub fn start(sheet: &[u8]) -> Started
         r.counts[at] = row;
     }
     Started {
-        number: d.number,
         network: r,
+        number: d.number,
     }
 }

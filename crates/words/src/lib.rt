@@ -6,6 +6,7 @@ ghost use Rattle.io.specs.Counts.{Counts};
 ghost use Rattle.run.specs.Answers.{endingOf};
 
 pub mod printing;
+pub mod text;
 
 use run::Ending;
 

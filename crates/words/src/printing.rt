@@ -1,33 +1,76 @@
 // Printing, on standard output.
+ghost use mathlib.Core.Path.{_≡_};
+ghost use mathlib.Core.Bool.{true, false};
+use crate::text::append_number;
 use crate::word_for;
+use libc::STDERR_FILENO;
 use libc::STDOUT_FILENO;
 use run::Ending;
 
-pub fn put(s: &[u8]) {
-    io::write_all(STDOUT_FILENO, s);
+// Standard output, and whether something could not be written there.
+pub struct Out {
+    pub failed: bool,
 }
 
-pub fn put_number(n: u64) {
-    io::print_decimal(STDOUT_FILENO, n);
+// All of s on standard output, or one line on standard error that says that it cannot be written.
+fn written(s: &[u8]) -> bool {
+    if io::write_all(STDOUT_FILENO, s) {
+        return true;
+    }
+    io::write_all(STDERR_FILENO, b"cannot write\n");
+    false
 }
 
-// A line: what stands before the number, and the number.
-pub fn put_line(before: &[u8], n: u64) {
-    put(before);
-    put_number(n);
-    put(b"\n");
-}
+impl Out {
+    pub fn new() -> Out
+        ensures { λ o. ⌜ o .failed ≡ false ⌝ }
+    {
+        Out { failed: false }
+    }
 
-// A byte in two hexadecimal digits, behind a blank.
-pub fn put_byte(b: u8) {
-    put(b" ");
-    io::print_hex(STDOUT_FILENO, b as u64, 2);
-}
+    // What could not be written is said once: nothing more is written then.
+    pub fn put(self, s: &[u8]) -> Out
+        ensures { λ o. ⌜ (self .failed ≡ true → o .failed ≡ true) ⌝ }
+    {
+        if self.failed {
+            return self;
+        }
+        Out {
+            failed: !written(s),
+        }
+    }
 
-// The word for how a run ended.
-pub fn put_ending(e: Ending) {
-    let w = word_for(e);
-    let letters = w.letters;
-    let n = w.length;
-    put(&letters[..n]);
+    pub fn number(self, n: u64) -> Out
+        ensures { λ o. ⌜ (self .failed ≡ true → o .failed ≡ true) ⌝ }
+    {
+        let mut text = [0u8; 20];
+        let k = append_number(&mut text, 0, n);
+        self.put(&text[..k])
+    }
+
+    // A line: what stands before the number, and the number.
+    pub fn line(self, before: &[u8], n: u64) -> Out
+        ensures { λ o. ⌜ (self .failed ≡ true → o .failed ≡ true) ⌝ }
+    {
+        self.put(before).number(n).put(b"\n")
+    }
+
+    // A byte in two hexadecimal digits, behind a blank.
+    pub fn byte(self, b: u8) -> Out
+        ensures { λ o. ⌜ (self .failed ≡ true → o .failed ≡ true) ⌝ }
+    {
+        let mut text = [0u8; 16];
+        let k = io::hex(b as u64, 2, &mut text);
+        self.put(b" ").put(&text[..k])
+    }
+
+    // The word for how a run ended.
+    pub fn ending(self, e: Ending) -> Out
+        ensures { λ o. ⌜ (self .failed ≡ true → o .failed ≡ true) ⌝ }
+    {
+        let w = word_for(e);
+        let letters = w.letters;
+        let n = w.length;
+        self.put(&letters[..n])
+    }
 }

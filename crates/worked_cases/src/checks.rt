@@ -1,28 +1,28 @@
 // The checks: what a line finds on the rail of the case under hand, and what it must find.
 ghost use Prim.Native.Nat.{_<_};
-use crate::kinds::DELIVER;
-use crate::kinds::LINE;
-use crate::kinds::REFUSED;
-use crate::kinds::RUN;
-use crate::kinds::SAME;
-use crate::kinds::START;
-use crate::kinds::TAKEN;
-use crate::lines::Numbers;
-use crate::lines::small;
-use crate::networks::same_network;
-use crate::sheets::Sheet;
+use crate::rails::same_rail;
+use cases::kinds::DELIVER;
+use cases::kinds::LINE;
+use cases::kinds::REFUSED;
+use cases::kinds::RUN;
+use cases::kinds::SAME;
+use cases::kinds::START;
+use cases::kinds::TAKEN;
+use cases::lines::Numbers;
+use cases::lines::small;
+use cases::sheets::Sheet;
 use network::Network;
 use packed::digit;
 use run::Ending;
 use start::Started;
-use words::printing::put;
-use words::printing::put_ending;
+use words::printing::Out;
 
 // What a line finds: a number, whether all else is as the line says, and the rail after it.
 pub struct Found {
-    pub network: Network,
+    pub rail: Network,
     pub number: u64,
     pub right: bool,
+    pub out: Out,
 }
 
 // ---- the start
@@ -36,22 +36,24 @@ fn start_on(bytes: &[u8], n: usize) -> Started {
 }
 
 // A refused sheet gives the empty rail.
-fn started(s: Sheet) -> Found {
+fn started(out: Out, s: Sheet) -> Found {
     let bytes = s.bytes;
-    let out = start_on(&bytes, s.length);
-    let network = out.network;
-    let number = out.number;
+    let answer = start_on(&bytes, s.length);
+    let rail = answer.network;
+    let number = answer.number;
     if number == 0 {
         return Found {
-            network,
+            rail,
             number: 0,
             right: true,
+            out,
         };
     }
     Found {
-        network,
+        rail,
         number: number as u64,
-        right: same_network(network, network::empty()),
+        right: same_rail(rail, network::empty()),
+        out,
     }
 }
 
@@ -69,17 +71,20 @@ fn initial(e: Ending) -> u8 {
     }
 }
 
-// The line names the word, behind `run`; where it names another one, the word that came is printed.
+// The line names the word, behind `run`.
 fn ended(e: Ending, line: &[u8]) -> bool {
     if 4 < line.len() {
-        if line[4] == initial(e) {
-            return true;
-        }
+        return line[4] == initial(e);
     }
-    put(b"the run's word is ");
-    put_ending(e);
-    put(b"\n");
     false
+}
+
+// Where the line names another word, the one that came is printed.
+fn put_word(o: Out, e: Ending, right: bool) -> Out {
+    if right {
+        return o;
+    }
+    o.put(b"the run's word is ").ending(e).put(b"\n")
 }
 
 // The rounds that a line allows: its second number, or 100,000.
@@ -87,34 +92,37 @@ fn allowed(n: Numbers) -> u64 {
     if n.count == 1 { 100000 } else { n.values[1] }
 }
 
-fn ran(network: Network, n: Numbers, line: &[u8]) -> Found {
-    let out = run::run(network, allowed(n));
-    let after = out.network;
-    let ending = out.ending;
+fn ran(o: Out, rail: Network, n: Numbers, line: &[u8]) -> Found {
+    let answer = run::run(rail, allowed(n));
+    let after = answer.network;
+    let ending = answer.ending;
+    let right = ended(ending, line);
     Found {
-        network: after,
-        number: out.rounds,
-        right: ended(ending, line),
+        rail: after,
+        number: answer.rounds,
+        right,
+        out: put_word(o, ending, right),
     }
 }
 
-fn delivered(network: Network, n: Numbers) -> Found {
-    let out = run::deliver(network, small(n, 0), small(n, 1));
-    let after = out.network;
+fn delivered(out: Out, rail: Network, n: Numbers) -> Found {
+    let answer = run::deliver(rail, small(n, 0), small(n, 1));
+    let after = answer.network;
     Found {
-        network: after,
-        number: out.number as u64,
+        rail: after,
+        number: answer.number as u64,
         right: true,
+        out,
     }
 }
 
 // ---- looking
 
 // Scanner k + 1 has the slot that the line gives, or there is no such scanner and asking is refused.
-fn value_right(network: Network, n: Numbers, k: usize) -> bool
+fn slot_right(rail: Network, n: Numbers, k: usize) -> bool
     requires { ⌜ k < 12 ⌝ }
 {
-    let a = network::value(network, k as u8 + 1);
+    let a = network::value(rail, k as u8 + 1);
     if k < n.count {
         return a.number == 0 && a.value as u64 == n.values[k];
     }
@@ -122,9 +130,9 @@ fn value_right(network: Network, n: Numbers, k: usize) -> bool
 }
 
 // The first scanner whose slot is not right, and 0 where all are.
-fn first_wrong(network: Network, n: Numbers) -> u64 {
+fn first_wrong(rail: Network, n: Numbers) -> u64 {
     for k in 0..12 {
-        if !value_right(network, n, k) {
+        if !slot_right(rail, n, k) {
             return k as u64 + 1;
         }
     }
@@ -132,7 +140,7 @@ fn first_wrong(network: Network, n: Numbers) -> u64 {
 }
 
 // How many messages wait on the line between two scanners; none where there is no such line.
-fn held(network: Network, from: u8, to: u8) -> u64 {
+fn held(rail: Network, from: u8, to: u8) -> u64 {
     if from == 0 {
         return 0;
     }
@@ -148,19 +156,19 @@ fn held(network: Network, from: u8, to: u8) -> u64 {
     if from == to {
         return 0;
     }
-    digit(network.counts[from as usize - 1], to) as u64
+    digit(rail.counts[from as usize - 1], to) as u64
 }
 
 // How many messages wait on the line that a line of the text names.
-fn waiting(network: Network, n: Numbers) -> u64 {
-    held(network, small(n, 0), small(n, 1))
+fn waiting(rail: Network, n: Numbers) -> u64 {
+    held(rail, small(n, 0), small(n, 1))
 }
 
-fn looked(network: Network, kept: Network, kind: usize, n: Numbers) -> u64 {
+fn looked(rail: Network, kept: Network, kind: usize, n: Numbers) -> u64 {
     match kind {
-        TAKEN => first_wrong(network, n),
-        LINE => waiting(network, n),
-        SAME => same_network(network, kept) as u64,
+        TAKEN => first_wrong(rail, n),
+        LINE => waiting(rail, n),
+        SAME => same_rail(rail, kept) as u64,
         _ => 0,
     }
 }
@@ -169,7 +177,8 @@ fn looked(network: Network, kept: Network, kind: usize, n: Numbers) -> u64 {
 
 // What a line finds. A line that checks nothing leaves the rail as it is.
 pub fn tried(
-    network: Network,
+    out: Out,
+    rail: Network,
     kept: Network,
     s: Sheet,
     kind: usize,
@@ -177,14 +186,15 @@ pub fn tried(
     line: &[u8],
 ) -> Found {
     match kind {
-        START => started(s),
-        REFUSED => started(s),
-        RUN => ran(network, n, line),
-        DELIVER => delivered(network, n),
+        START => started(out, s),
+        REFUSED => started(out, s),
+        RUN => ran(out, rail, n, line),
+        DELIVER => delivered(out, rail, n),
         _ => Found {
-            network,
-            number: looked(network, kept, kind, n),
+            rail,
+            number: looked(rail, kept, kind, n),
             right: true,
+            out,
         },
     }
 }

@@ -18,42 +18,38 @@
 //   deliver 1-2 refused 7  the delivery is refused with this number
 //   line 2-4 holds 8       so many messages wait on a line
 mod checks;
-mod kinds;
-mod lines;
-mod networks;
-mod sheets;
+mod rails;
 
+use cases::kinds::CASE;
+use cases::kinds::DELIVER;
+use cases::kinds::FAILED;
+use cases::kinds::KEEP;
+use cases::kinds::LINE;
+use cases::kinds::REFUSED;
+use cases::kinds::RUN;
+use cases::kinds::SAME;
+use cases::kinds::START;
+use cases::kinds::TAKEN;
+use cases::kinds::UNKNOWN;
+use cases::kinds::kind_of;
+use cases::lines::line_end;
+use cases::lines::next_line;
+use cases::lines::numbers_in;
+use cases::sheets::Sheet;
+use cases::sheets::blank;
+use cases::sheets::built;
 use checks::expected;
 use checks::tried;
-use kinds::CASE;
-use kinds::DELIVER;
-use kinds::FAILED;
-use kinds::KEEP;
-use kinds::LINE;
-use kinds::REFUSED;
-use kinds::RUN;
-use kinds::SAME;
-use kinds::START;
-use kinds::TAKEN;
-use kinds::UNKNOWN;
-use kinds::kind_of;
 use libc::STDIN_FILENO;
-use lines::line_end;
-use lines::next_line;
-use lines::numbers_in;
 use network::Network;
-use sheets::Sheet;
-use sheets::blank;
-use sheets::built;
-use words::printing::put;
-use words::printing::put_line;
-use words::printing::put_number;
+use words::printing::Out;
 
 // ---- the tally
 
 // How many checks of each kind were made, and how many failed.
 struct Tally {
     of: [u64; 9],
+    out: Out,
 }
 
 // One more check of a kind, or one more failure. Lines that check nothing are not tallied.
@@ -68,62 +64,68 @@ fn tallied(tally: Tally, kind: usize) -> Tally {
     t
 }
 
+fn with_out(tally: Tally, out: Out) -> Tally {
+    let of = tally.of;
+    Tally { of, out }
+}
+
 // The tally after a line that must find a number, and found one.
 fn judged(tally: Tally, kind: usize, line: &[u8], must: u64, number: u64, right: bool) -> Tally {
     let t = tallied(tally, kind);
     if right && number == must && kind != UNKNOWN {
         return t;
     }
-    put(b"failed: ");
-    put(line);
-    put_line(b", but found ", number);
-    tallied(t, FAILED)
+    let out = t.out;
+    let said = out.put(b"failed: ").put(line).line(b", but found ", number);
+    tallied(with_out(t, said), FAILED)
 }
 
 // ---- the text
 
 // The title of a case is printed.
-fn titled(kind: usize, line: &[u8]) {
+fn titled(o: Out, kind: usize, line: &[u8]) -> Out {
     if kind == CASE {
-        put(line);
-        put(b"\n");
+        return o.put(line).put(b"\n");
     }
+    o
 }
 
-fn kept_after(network: Network, kept: Network, kind: usize) -> Network {
-    if kind == KEEP { network } else { kept }
+fn kept_after(rail: Network, kept: Network, kind: usize) -> Network {
+    if kind == KEEP { rail } else { kept }
 }
 
 // What lies on the desk: the sheet and the rail of the case under hand, the rail that is kept beside, and the tally.
 struct Desk {
     sheet: Sheet,
-    network: Network,
+    rail: Network,
     kept: Network,
     tally: Tally,
 }
 
 // The desk after a line.
 fn followed(d: Desk, line: &[u8]) -> Desk {
-    let network = d.network;
+    let rail = d.rail;
     let kept = d.kept;
     let n = numbers_in(line);
     let kind = kind_of(line, n.count);
-    titled(kind, line);
+    let before = d.tally;
+    let out = before.out;
     let sheet = built(d.sheet, kind, n, line);
-    let found = tried(network, kept, sheet, kind, n, line);
+    let found = tried(titled(out, kind, line), rail, kept, sheet, kind, n, line);
+    let said = found.out;
     let tally = judged(
-        d.tally,
+        with_out(before, said),
         kind,
         line,
         expected(kind, n),
         found.number,
         found.right,
     );
-    let after = found.network;
+    let after = found.rail;
     Desk {
         sheet,
-        network: after,
-        kept: kept_after(network, kept, kind),
+        rail: after,
+        kept: kept_after(rail, kept, kind),
         tally,
     }
 }
@@ -131,9 +133,12 @@ fn followed(d: Desk, line: &[u8]) -> Desk {
 fn play(text: &[u8]) -> Tally {
     let mut d = Desk {
         sheet: blank(),
-        network: network::empty(),
+        rail: network::empty(),
         kept: network::empty(),
-        tally: Tally { of: [0u64; 9] },
+        tally: Tally {
+            of: [0u64; 9],
+            out: Out::new(),
+        },
     };
     let mut at: usize = 0;
     while at < text.len() {
@@ -146,38 +151,54 @@ fn play(text: &[u8]) -> Tally {
 
 // ---- the report
 
-// How many checks of a kind were made; none at all is a failure. How many have failed so far comes back.
-fn counted(words: &[u8], made: u64, failures: u64) -> u64 {
-    put_line(words, made);
+// How many have failed so far.
+struct Account {
+    failures: u64,
+    out: Out,
+}
+
+// How many checks of a kind were made; none at all is a failure.
+fn counted(r: Account, words: &[u8], made: u64) -> Account {
+    let o = r.out;
+    let out = o.line(words, made);
     if made == 0 {
-        put(b"failed: nothing of this kind was checked\n");
-        return 1;
+        return Account {
+            failures: 1,
+            out: out.put(b"failed: nothing of this kind was checked\n"),
+        };
     }
-    failures
+    Account {
+        failures: r.failures,
+        out,
+    }
 }
 
-fn report_sheets(t: [u64; 9]) -> u64 {
-    let failures = counted(b"cases ", t[CASE], t[FAILED]);
-    let failures = counted(b"sheets accepted ", t[START], failures);
-    counted(b"sheets refused ", t[REFUSED], failures)
+fn report_sheets(r: Account, t: [u64; 9]) -> Account {
+    let cases = counted(r, b"cases ", t[CASE]);
+    let accepted = counted(cases, b"sheets accepted ", t[START]);
+    counted(accepted, b"sheets refused ", t[REFUSED])
 }
 
-fn report_moves(t: [u64; 9], before: u64) -> u64 {
-    let failures = counted(b"runs ", t[RUN], before);
-    counted(b"deliveries ", t[DELIVER], failures)
+fn report_moves(r: Account, t: [u64; 9]) -> Account {
+    counted(counted(r, b"runs ", t[RUN]), b"deliveries ", t[DELIVER])
 }
 
-fn report_looks(t: [u64; 9], before: u64) -> u64 {
-    let failures = counted(b"rails asked for their slots ", t[TAKEN], before);
-    let failures = counted(b"lines looked at ", t[LINE], failures);
-    counted(b"rails compared ", t[SAME], failures)
+fn report_looks(r: Account, t: [u64; 9]) -> Account {
+    let asked = counted(r, b"rails asked for their slots ", t[TAKEN]);
+    let held = counted(asked, b"lines looked at ", t[LINE]);
+    counted(held, b"rails compared ", t[SAME])
 }
 
 fn report(tally: Tally) {
     let t = tally.of;
-    let failures = report_looks(t, report_moves(t, report_sheets(t)));
-    put_number(failures);
-    put(b" failed\n");
+    let out = tally.out;
+    let r = Account {
+        failures: t[FAILED],
+        out,
+    };
+    let all = report_looks(report_moves(report_sheets(r, t), t), t);
+    let o = all.out;
+    o.number(all.failures).put(b" failed\n");
 }
 
 fn main() {

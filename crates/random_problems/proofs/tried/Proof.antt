@@ -10,6 +10,9 @@ Inv-loop sheets t₀ state₀ k₀ t state k = k ≤ sheets
 abbrev μ-loop : tie.MeasureT-loop
 μ-loop sheets t₀ state₀ k₀ t state k = sheets - k
 
+new-requires : tie.Need-new-requires Inv-loop μ-loop
+new-requires c κs = search needs
+
 loop-holds : tie.Need-loop-holds Inv-loop μ-loop
 loop-holds c = search needs
 
@@ -40,6 +43,7 @@ tried-spec =
     (tie.spec
     Inv-loop
     μ-loop
+    new-requires
     loop-holds
     drawn-requires
     slice-aggregate-with-bytes

@@ -19,7 +19,7 @@ use Rattle.sheet.specs.Abstract.{problemOf, outcomeOf}
 use Rattle.start.specs.Started.{unbegun}
 use Rattle.start.proofs.Telling.{Telling, telling-begins, telling-goes}
 use Rattle.start.proofs.Beginning.{begun-by, informs-below}
-use Rattle.start.proofs.Turns.{Opening, none-begun, told-channel, one-more}
+use Rattle.start.proofs.Turns.{Opening, not-begun, none-begun, told-channel, one-more}
 use Rattle.start.proofs.Opened.{opened, all-opened}
 use Rattle.start.proofs.Sheets.{number-known, network-known, refused-empty, problem-ranged, few-agents}
 use Rattle.start.proofs.start.Statement.{statement}
@@ -43,11 +43,14 @@ abbrev μ-loop : tie.MeasureT-loop
 decode-requires : tie.Need-decode-requires Inv-loop2 μ-loop2 Inv-loop μ-loop
 decode-requires c κs = search needs
 
-unbegun-requires : tie.Need-unbegun-requires Inv-loop2 μ-loop2 Inv-loop μ-loop
-unbegun-requires c κs = search needs
+nobody-requires : tie.Need-nobody-requires Inv-loop2 μ-loop2 Inv-loop μ-loop
+nobody-requires c κs = search needs
+
+nothing-requires : tie.Need-nothing-requires Inv-loop2 μ-loop2 Inv-loop μ-loop
+nothing-requires c κs = search needs
 
 loop-holds : tie.Need-loop-holds Inv-loop2 μ-loop2 Inv-loop μ-loop
-loop-holds c = (omega arith, none-begun (problem _ _ _) _ (c .unbegun .ensures), λ _. refl)
+loop-holds c = (omega arith, none-begun (problem _ _ _) _ (not-begun _ _ _ _ _ (c .before .nobody .ensures) (c .nothing .ensures)), λ _. refl)
 
 cast-at : tie.Need-cast-at Inv-loop2 μ-loop2 Inv-loop μ-loop
 cast-at c = search needs
@@ -56,14 +59,14 @@ cast-at c = search needs
 few : (c : tie.In-loop Inv-loop2 μ-loop2 Inv-loop μ-loop) → c .before .loop .i < 12
 unfolding outcomeOf problemOf
 few c =
-    let d = c .before .before .before .before .before .before .decode in
+    let d = c .before .before .before .before .before .before .before .decode in
     few-agents _ (outcomeOf (d .result)) (d .ensures .0) _ (c .loop-test .taken)
 
 add-i : tie.Need-add-i Inv-loop2 μ-loop2 Inv-loop μ-loop
 add-i c = search needs
 
-array-read-t22 : tie.Need-array-read-t22 Inv-loop2 μ-loop2 Inv-loop μ-loop
-array-read-t22 c = few c
+array-read-t27 : tie.Need-array-read-t27 Inv-loop2 μ-loop2 Inv-loop μ-loop
+array-read-t27 c = few c
 
 listens-requires : tie.Need-listens-requires Inv-loop2 μ-loop2 Inv-loop μ-loop
 listens-requires c κs = (omega arith, omega (arith, few (c .before)))
@@ -74,7 +77,7 @@ informs-requires c κs = (omega arith, omega (arith, few (c .before .before .bef
 begin-requires : tie.Need-begin-requires Inv-loop2 μ-loop2 Inv-loop μ-loop
 unfolding maxDomain problemOf outcomeOf domain
 begin-requires c κs =
-    let d = c .before .before .before .before .before .before .before .before .before .before .decode in
+    let d = c .before .before .before .before .before .before .before .before .before .before .before .decode in
     let p = problemOf (d .result .problem) in
     let i = c .before .before .before .before .before .loop .i in
     let r = problem-ranged _ (outcomeOf (d .result)) (d .ensures .0) i (c .before .before .before .before .loop-test .taken) in
@@ -86,10 +89,10 @@ begin-requires c κs =
 -- its step is the definition's, and those it informs are below
 begins : (c : tie.After-begin Inv-loop2 μ-loop2 Inv-loop μ-loop)
     → BeginsAs (c .begin .result)
-    (begun (problemOf (c .before .before .before .before .before .before .before .before .before .before .before .decode .result .problem)) (suc (c .before .before .before .before .before .before .loop .i)))
+    (begun (problemOf (c .before .before .before .before .before .before .before .before .before .before .before .before .decode .result .problem)) (suc (c .before .before .before .before .before .before .loop .i)))
 unfolding ownOf selfOf problemOf domain
 begins c =
-    let p = problemOf (c .before .before .before .before .before .before .before .before .before .before .before .decode .result .problem) in
+    let p = problemOf (c .before .before .before .before .before .before .before .before .before .before .before .before .decode .result .problem) in
     let i = c .before .before .before .before .before .before .loop .i in
     begun-by p (suc i) _ _ _ _ (c .begin .ensures (bansOf p (suc i))) (rw add-one refl)
     (rw add-one at (c .before .before .before .listens .ensures p refl)) (rw add-one at (c .before .informs .ensures p refl))
@@ -98,7 +101,7 @@ below : (c : tie.After-begin Inv-loop2 μ-loop2 Inv-loop μ-loop) (j : ℕ) → 
     → (suc (c .before .before .before .before .before .before .loop .i) < j) × (j ≤ 12)
 unfolding problemOf outcomeOf
 below c =
-    let d = c .before .before .before .before .before .before .before .before .before .before .before .decode in
+    let d = c .before .before .before .before .before .before .before .before .before .before .before .before .decode in
     let i = c .before .before .before .before .before .before .loop .i in
     let t = c .before .before .before .before .before .loop-test .taken in
     informs-below (problemOf (d .result .problem)) (suc i) _ (problem-ranged _ (outcomeOf (d .result)) (d .ensures .0) i t) (omega arith) t (begins c)
@@ -127,8 +130,8 @@ channel-at-requires c κs = informed c
 place-at-requires : tie.Need-place-at-requires Inv-loop2 μ-loop2 Inv-loop μ-loop
 place-at-requires c κs = (c .channel-at .ensures .1, omega arith, omega arith)
 
-mul-t35 : tie.Need-mul-t35 Inv-loop2 μ-loop2 Inv-loop μ-loop
-mul-t35 c = omega (arith, c .place-at .ensures .1)
+mul-t40 : tie.Need-mul-t40 Inv-loop2 μ-loop2 Inv-loop μ-loop
+mul-t40 c = omega (arith, c .place-at .ensures .1)
 
 element-set-from-r : tie.Need-element-set-from-r Inv-loop2 μ-loop2 Inv-loop μ-loop
 element-set-from-r c = c .place-at .ensures .1
@@ -179,7 +182,7 @@ loop-again c =
 returns : tie.Need-returns Inv-loop2 μ-loop2 Inv-loop μ-loop
 unfolding problemOf outcomeOf unbegun emptyRecord emptyProblem noBans maxAgents maxPairs
 returns c =
-    let d = c .before .before .before .before .before .before .decode in
+    let d = c .before .before .before .before .before .before .before .decode in
     let p = problemOf (d .result .problem) in
     let h = c .before .loop in
     let e : h .i ≡ p .count = omega arith in
@@ -189,7 +192,7 @@ returns c =
       refused = λ n.
           let q = refused-empty _ (outcomeOf (d .result)) (d .ensures .0) n in
           h .inv .2 (e ∙ ap (λ (x : Problem). x .count) q)
-          ∙ c .before .before .unbegun .ensures
+          ∙ not-begun _ _ _ _ _ (c .before .before .before .nobody .ensures) (c .before .before .nothing .ensures)
           ∙ ap (λ (x : Problem). unbegun (x .count) (x .domains) (x .bans)) q;
     }
 
@@ -202,11 +205,12 @@ start-spec =
     Inv-loop
     μ-loop
     decode-requires
-    unbegun-requires
+    nobody-requires
+    nothing-requires
     loop-holds
     cast-at
     add-i
-    array-read-t22
+    array-read-t27
     listens-requires
     informs-requires
     begin-requires
@@ -216,7 +220,7 @@ start-spec =
     first-requires
     channel-at-requires
     place-at-requires
-    mul-t35
+    mul-t40
     element-set-from-r
     with-digit-requires
     without-requires

@@ -20,6 +20,9 @@ empty-requires c κs = search needs
 empty-requires-2 : tie.Need-empty-requires-2 Inv-loop μ-loop
 empty-requires-2 c κs = search needs
 
+new-requires : tie.Need-new-requires Inv-loop μ-loop
+new-requires c κs = search needs
+
 loop-holds : tie.Need-loop-holds Inv-loop μ-loop
 loop-holds c = search needs
 
@@ -59,6 +62,7 @@ play-spec =
     blank-requires
     empty-requires
     empty-requires-2
+    new-requires
     loop-holds
     line-end-requires
     sub-followed

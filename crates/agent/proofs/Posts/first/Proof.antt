@@ -14,10 +14,10 @@ use Rattle.agent.proofs.Posts.first.Tie as tie
 
 -- the next Back, and who gets it
 abbrev whole : (c : tie.After-last-digit) → ℕ
-whole c = getD (c .before .before .before .before .before .before .args .backs .now) (c .before .before .before .before .before .before .args .self .next) 0
+whole c = getD (c .before .before .before .before .args .backs .now) (c .before .before .before .before .args .self .next) 0
 
 sendable : (c : tie.After-last-digit) → Sendable (whole c)
-sendable c = back-sendable (c .before .before .before .before .before .before .args .self) (c .before .before .before .before .before .before .args .backs .now) (c .before .before .before .before .before .before .pre .1) (c .before .before .before .before .if1 .left) (c .before .before .if2 .taken)
+sendable c = back-sendable (c .before .before .before .before .args .self) (c .before .before .before .before .args .backs .now) (c .before .before .before .before .pre .1) (c .before .before .before .if1 .left) (c .before .before .if2 .taken)
 
 receiver : (c : tie.After-last-digit) → (1 ≤ c .last-digit .result) × (c .last-digit .result ≤ 16)
 receiver c =
@@ -31,7 +31,7 @@ returns : tie.Need-returns
 unfolding postOf messageOf
 returns c =
     let (low, here, lo, hi) = c .first .ensures in
-    first-is _ _ _ _ refl (link-first (c .before .before .before .args .self) (c .before .before .before .args .backs .now) (c .before .before .before .pre .1) (c .first .result) low here lo hi _ refl)
+    first-is _ _ _ _ refl (link-first (c .before .before .args .self) (c .before .before .args .backs .now) (c .before .before .pre .1) (c .first .result) low here lo hi _ refl)
 
 cast-whole : tie.Need-cast-whole
 cast-whole c = search needs
@@ -57,11 +57,11 @@ pack-requires c κs = still-short _ _ _ (sendable (c .before .before) .short) (o
 returns-2 : tie.Need-returns-2
 returns-2 c =
     first-is _ _ _ _ (back-read _ _ _ _ _ (c .before .before .before .last-digit .ensures .0) (c .before .digit .ensures .0) (c .pack .ensures) (c .before .before .with-digit .ensures))
-    (back-first (c .before .before .before .before .before .before .before .before .before .args .self) (c .before .before .before .before .before .before .before .before .before .args .backs .now) (c .before .before .before .before .before .before .before .before .before .pre .1) (c .before .before .before .before .before .before .before .if1 .left) (c .before .before .before .before .before .if2 .taken))
+    (back-first (c .before .before .before .before .before .before .before .args .self) (c .before .before .before .before .before .before .before .args .backs .now) (c .before .before .before .before .before .before .before .pre .1) (c .before .before .before .before .before .before .if1 .left) (c .before .before .before .before .before .if2 .taken))
 
 first-requires-2 : tie.Need-first-requires-2
 first-requires-2 c κs =
-    let n = news-left (c .before .before .before .before .args .self) (c .before .before .before .before .pre .0) (c .before .before .if1 .left) (omega (arith, c .if2 .left, c .before .before .before .before .pre .1 .next)) in
+    let n = news-left (c .before .before .args .self) (c .before .before .pre .0) (c .before .if1 .left) (omega (arith, c .if2 .left, c .before .before .pre .1 .next)) in
     omega (arith, n)
 
 returns-3 : tie.Need-returns-3
@@ -69,7 +69,7 @@ unfolding postOf messageOf
 returns-3 c =
     let (low, here, lo, hi) = c .first2 .ensures in
     first-is _ _ _ _ refl
-    (news-first (c .before .before .before .before .before .args .self) (c .before .before .before .before .before .args .backs .now) (c .before .before .before .before .before .pre .1) (c .before .before .before .if1 .left) (omega (arith, c .before .if2 .left, c .before .before .before .before .before .pre .1 .next))
+    (news-first (c .before .before .before .args .self) (c .before .before .before .args .backs .now) (c .before .before .before .pre .1) (c .before .before .if1 .left) (omega (arith, c .before .if2 .left, c .before .before .before .pre .1 .next))
     (c .first2 .result) low here lo hi _ refl)
 
 pub first-spec : {M : Type 1} → statement M

@@ -13,8 +13,8 @@ abbrev μ-loop : tie.MeasureT-loop
 loop-holds : tie.Need-loop-holds Inv-loop μ-loop
 loop-holds c = search needs
 
-domain-requires : tie.Need-domain-requires Inv-loop μ-loop
-domain-requires c κs = search needs
+slots-requires : tie.Need-slots-requires Inv-loop μ-loop
+slots-requires c κs = search needs
 
 carried-requires : tie.Need-carried-requires Inv-loop μ-loop
 carried-requires c κs = search needs
@@ -38,7 +38,7 @@ advanced-spec =
     Inv-loop
     μ-loop
     loop-holds
-    domain-requires
+    slots-requires
     carried-requires
     add-i
     loop-less

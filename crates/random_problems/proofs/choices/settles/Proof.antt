@@ -13,8 +13,8 @@ abbrev μ-loop : tie.MeasureT-loop
 loop-holds : tie.Need-loop-holds Inv-loop μ-loop
 loop-holds c = search needs
 
-value-owned-requires : tie.Need-value-owned-requires Inv-loop μ-loop
-value-owned-requires c κs = search needs
+slot-owned-requires : tie.Need-slot-owned-requires Inv-loop μ-loop
+slot-owned-requires c κs = search needs
 
 returns : tie.Need-returns Inv-loop μ-loop
 returns c = search needs
@@ -41,7 +41,7 @@ settles-spec =
     Inv-loop
     μ-loop
     loop-holds
-    value-owned-requires
+    slot-owned-requires
     returns
     add-i
     loop-less

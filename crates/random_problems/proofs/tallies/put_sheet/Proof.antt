@@ -6,19 +6,19 @@ use Rattle.random_problems.proofs.tallies.put_sheet.Statement.{statemen
 use Rattle.random_problems.proofs.tallies.put_sheet.Tie as tie
 
 abbrev Inv-loop : tie.InvT-loop
-Inv-loop s k₀ t3 k-end k = k ≤ length s
+Inv-loop s out₀ k₀ t5 k-end out k = k ≤ length s
 
 abbrev μ-loop : tie.MeasureT-loop
-μ-loop s k₀ t3 k-end k = length s - k
+μ-loop s out₀ k₀ t5 k-end out k = length s - k
 
 loop-holds : tie.Need-loop-holds Inv-loop μ-loop
 loop-holds c = search needs
 
-shared-slice-read-put-byte : tie.Need-shared-slice-read-put-byte Inv-loop μ-loop
-shared-slice-read-put-byte c = search needs
+shared-slice-read-byte : tie.Need-shared-slice-read-byte Inv-loop μ-loop
+shared-slice-read-byte c = search needs
 
-put-byte-requires : tie.Need-put-byte-requires Inv-loop μ-loop
-put-byte-requires c κs = search needs
+byte-requires : tie.Need-byte-requires Inv-loop μ-loop
+byte-requires c κs = search needs
 
 add-k : tie.Need-add-k Inv-loop μ-loop
 add-k c = search needs
@@ -45,8 +45,8 @@ put-sheet-spec =
     Inv-loop
     μ-loop
     loop-holds
-    shared-slice-read-put-byte
-    put-byte-requires
+    shared-slice-read-byte
+    byte-requires
     add-k
     loop-less
     loop-again

@@ -11,6 +11,7 @@ use borrow.Author.Tests.{not-true, not-false}
 use Rattle.base.proofs.Tests.{both}
 use Rattle.packed.specs.Packed.{assignment}
 use Rattle.agent.specs.Posting.{postsLeft}
+use Rattle.protocol.specs.Shape.{inShape}
 use Rattle.protocol.specs.Run.{oneIf}
 use Rattle.network.specs.Abstract.{networkOf}
 use Rattle.network_laws.proofs.Changes.{FullArrays}
@@ -21,7 +22,7 @@ use Rattle.run.proofs.Ahead.{visit-less, passed-less, round-less}
 use Rattle.run.proofs.Barrings.{noAgent, Readied, had, worked, bars-ready}
 use Rattle.run.proofs.Testing.{fresh-line}
 use Rattle.run.proofs.Here.{Here, shape-few}
-use Rattle.run.proofs.Starting.{Began, broken, running, refused, found, began-network, began-untouched, begins}
+use Rattle.run.proofs.Starting.{Rows, Began, broken, running, refused, found, clean-shape, began-network, began-untouched, begins}
 use Rattle.run.proofs.Visiting.{passes-over, line-channel, line-ends, here, finds, meets-asking}
 use Rattle.run.proofs.Storing.{
   Storing,
@@ -69,17 +70,24 @@ sizes c =
       places = simp length-map at (c .good .0 .1 .1 .1 .1 .1 .1 .1 .1 .1 .0 .1 .0 .1);
     }
 
+-- the rows are clean before the shape is tested
+clean : (c : tie.After-cleaned Inv-loop2 μ-loop2 Inv-loop μ-loop) → Rows (c .before .before .args .r .counts) (c .cleaned .result)
+clean c = record { width = c .cleaned .ensures .0; held = c .cleaned .ensures .1 }
+
+shape : (c : tie.After-in-shape Inv-loop2 μ-loop2 Inv-loop μ-loop) → inShape (networkOf (c .before .before .before .args .r)) ≡ c .in-shape .result
+shape c = clean-shape (c .before .before .before .args .r) (c .before .cleaned .result) (clean (c .before)) _ (sym (c .in-shape .ensures))
+
 -- how the work begins
 began : (c : tie.Joined1 Inv-loop2 μ-loop2 Inv-loop μ-loop)
-    → Began (c .before .before .args .once) (c .before .before .args .sender) (c .before .before .args .receiver) (c .before .before .args .r) (c .if1 .o) (c .if1 .n) (c .if1 .number) (c .if1 .from) (c .if1 .rest)
+    → Began (c .before .before .before .before .args .once) (c .before .before .before .before .args .sender) (c .before .before .before .before .args .receiver) (c .before .before .before .before .args .r) (c .if1 .o) (c .if1 .n) (c .if1 .number) (c .if1 .from) (c .if1 .rest)
 began c =
     ⊎-elim
-    (λ a. found (sym (c .before .in-shape .ensures) ∙ a .0 .taken) (a .3 .taken) _ (record { width = a .2 .ensures .0; held = a .2 .ensures .1 }) (a .9) (a .10) _ (a .6 .ensures) (a .7 .taken) (a .11) (a .12) (ap assignment (a .13) ∙ a .8 .ensures))
+    (λ a. found (shape (c .before) ∙ a .0 .taken) (a .1 .taken) _ (clean (c .before .before)) (a .7) (a .8) _ (a .4 .ensures) (a .5 .taken) (a .9) (a .10) (ap assignment (a .11) ∙ a .6 .ensures))
     (⊎-elim
-    (λ a. refused (sym (c .before .in-shape .ensures) ∙ a .0 .taken) (a .3 .taken) _ (record { width = a .2 .ensures .0; held = a .2 .ensures .1 }) (a .8) (a .9) (a .10 ∙ a .6 .ensures) (λ z. a .7 .left (sym (a .10) ∙ z)) (a .11) (a .12))
+    (λ a. refused (shape (c .before) ∙ a .0 .taken) (a .1 .taken) _ (clean (c .before .before)) (a .6) (a .7) (a .8 ∙ a .4 .ensures) (λ z. a .5 .left (sym (a .8) ∙ z)) (a .9) (a .10))
     (⊎-elim
-    (λ a. running (sym (c .before .in-shape .ensures) ∙ a .0 .taken) (a .3 .left) _ (record { width = a .2 .ensures .0; held = a .2 .ensures .1 }) (a .4) (a .5) (a .6) (a .7) (a .8))
-    (λ a. broken (sym (c .before .in-shape .ensures) ∙ a .0 .left) (a .1) (a .2) (a .3) (a .4) (a .5))))
+    (λ a. running (shape (c .before) ∙ a .0 .taken) (a .1 .left) _ (clean (c .before .before)) (a .2) (a .3) (a .4) (a .5) (a .6))
+    (λ a. broken (shape (c .before) ∙ a .0 .left) (a .1) (a .2) (a .3) (a .4) (a .5))))
     (c .if1 .came)
 
 -- agent `to` has its bars, or they are worked out now
@@ -95,20 +103,20 @@ readied c =
 counted : (c : tie.Joined11 Inv-loop2 μ-loop2 Inv-loop μ-loop) → c .if11 .made ≡ c .before .before .before .before .before .loop .made + oneIf (not (c .before .before .before .before .before .loop .missed))
 counted c = ⊎-elim (λ a. one-more (c .before .before .before .before .before .loop .made) (c .if11 .made) (c .before .before .before .before .before .loop .missed) (a .0 .taken) (a .1)) (λ a. no-more (c .before .before .before .before .before .loop .made) (c .if11 .made) (c .before .before .before .before .before .loop .missed) (a .0 .left) (a .1)) (c .if11 .came)
 
-in-shape-requires : tie.Need-in-shape-requires Inv-loop2 μ-loop2 Inv-loop μ-loop
-in-shape-requires c κs = search needs
-
 cleaned-requires : tie.Need-cleaned-requires Inv-loop2 μ-loop2 Inv-loop μ-loop
 cleaned-requires c κs = search needs
 
+in-shape-requires : tie.Need-in-shape-requires Inv-loop2 μ-loop2 Inv-loop μ-loop
+in-shape-requires c κs = search needs
+
 tested-requires : tie.Need-tested-requires Inv-loop2 μ-loop2 Inv-loop μ-loop
-tested-requires c κs = shape-few _ (sym (c .before .before .before .before .before .before .in-shape .ensures) ∙ c .before .before .before .before .before .if1 .taken)
+tested-requires c κs = shape-few _ (sym (c .before .before .before .before .in-shape .ensures) ∙ c .before .before .before .if1 .taken)
 
 one-more-requires : tie.Need-one-more-requires Inv-loop2 μ-loop2 Inv-loop μ-loop
-one-more-requires c κs = (fresh-line _ _ _ _ _ _ (shape-few _ (sym (c .before .before .before .before .before .before .before .before .in-shape .ensures) ∙ c .before .before .before .before .before .before .before .if1 .taken)) (c .before .tested .ensures) (c .if3 .taken))
+one-more-requires c κs = (fresh-line _ _ _ _ _ _ (shape-few _ (sym (c .before .before .before .before .before .before .in-shape .ensures) ∙ c .before .before .before .before .before .if1 .taken)) (c .before .tested .ensures) (c .if3 .taken))
 
 loop-holds : tie.Need-loop-holds Inv-loop2 μ-loop2 Inv-loop μ-loop
-loop-holds c = begins (c .before .before .before .before .args .once) (c .before .before .before .before .args .sender) (c .before .before .before .before .args .receiver) (c .before .before .before .before .args .allowed) (c .before .before .before .before .pre .0) _ refl _ (began (c .before .before)) (sizes (c .before .before .before .before)) (c .before .before .before .before .pre .1) refl
+loop-holds c = begins (c .before .before .before .before .before .before .args .once) (c .before .before .before .before .before .before .args .sender) (c .before .before .before .before .before .before .args .receiver) (c .before .before .before .before .before .before .args .allowed) (c .before .before .before .before .before .before .pre .0) _ refl _ (began (c .before .before)) (sizes (c .before .before .before .before .before .before)) (c .before .before .before .before .before .before .pre .1) refl
 
 next-visit-requires : tie.Need-next-visit-requires Inv-loop2 μ-loop2 Inv-loop μ-loop
 next-visit-requires c κs = ((c .before .loop .inv) .high, (c .before .loop .inv) .agents)
@@ -379,8 +387,8 @@ work-spec =
     μ-loop2
     Inv-loop
     μ-loop
-    in-shape-requires
     cleaned-requires
+    in-shape-requires
     tested-requires
     one-more-requires
     loop-holds

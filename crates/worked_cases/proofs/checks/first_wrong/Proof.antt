@@ -5,16 +5,16 @@ use Rattle.worked_cases.proofs.checks.first_wrong.Statement.{statement}
 use Rattle.worked_cases.proofs.checks.first_wrong.Tie as tie
 
 abbrev Inv-loop : tie.InvT-loop
-Inv-loop network n k₀ k = k ≤ 12
+Inv-loop rail n k₀ k = k ≤ 12
 
 abbrev μ-loop : tie.MeasureT-loop
-μ-loop network n k₀ k = 12 - k
+μ-loop rail n k₀ k = 12 - k
 
 loop-holds : tie.Need-loop-holds Inv-loop μ-loop
 loop-holds c = search needs
 
-value-right-requires : tie.Need-value-right-requires Inv-loop μ-loop
-value-right-requires c κs = search needs
+slot-right-requires : tie.Need-slot-right-requires Inv-loop μ-loop
+slot-right-requires c κs = search needs
 
 add-result : tie.Need-add-result Inv-loop μ-loop
 add-result c = search needs
@@ -41,7 +41,7 @@ first-wrong-spec =
     Inv-loop
     μ-loop
     loop-holds
-    value-right-requires
+    slot-right-requires
     add-result
     returns
     add-k

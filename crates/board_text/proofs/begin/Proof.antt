@@ -1,0 +1,27 @@
+-- The start's contract, for the whole input. Assumes nothing.
+use mathlib.Core.Path.{_≡_, sym, ap, _∙_}
+use Rattle.protocol.specs.Network.{Started, startSheet}
+use Rattle.dock_text.proofs.Cut.{start-cut}
+use borrow.Author.Needs.{needs}
+use Rattle.board_text.proofs.begin.Statement.{statement}
+use Rattle.board_text.proofs.begin.Tie as tie
+
+start-requires : tie.Need-start-requires
+start-requires c κs = search needs
+
+put-start-requires : tie.Need-put-start-requires
+put-start-requires c κs = search needs
+
+returns : tie.Need-returns
+returns c =
+    let e = c .before .before .start .ensures in
+    record {
+      numbered = e .number;
+      started = e .network;
+      whole = λ input h.
+          let s : startSheet _ ≡ startSheet input = ap startSheet (sym h) ∙ start-cut input in
+          (e .number ∙ ap (λ (x : Started). x .number) s, e .network ∙ ap (λ (x : Started). x .network) s);
+    }
+
+pub begin-spec : {M : Type 1} → statement M
+begin-spec = tie.close (tie.spec start-requires put-start-requires returns)

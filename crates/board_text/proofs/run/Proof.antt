@@ -1,0 +1,73 @@
+-- The run's contract. Assumes nothing.
+use borrow.Author.Needs.{needs}
+use Rattle.board_text.proofs.run.Statement.{statement}
+use Rattle.board_text.proofs.run.Tie as tie
+
+run-requires : tie.Need-run-requires
+run-requires c κs = search needs
+
+slice-aggregate-put : tie.Need-slice-aggregate-put
+slice-aggregate-put c = search needs
+
+put-requires : tie.Need-put-requires
+put-requires c κs = search needs
+
+put-requires-2 : tie.Need-put-requires-2
+put-requires-2 c κs = search needs
+
+put-refused-requires : tie.Need-put-refused-requires
+put-refused-requires c κs = search needs
+
+returns : tie.Need-returns
+returns c = search needs
+
+slice-aggregate-put-2 : tie.Need-slice-aggregate-put-2
+slice-aggregate-put-2 c = search needs
+
+put-requires-3 : tie.Need-put-requires-3
+put-requires-3 c κs = search needs
+
+ending-requires : tie.Need-ending-requires
+ending-requires c κs = search needs
+
+slice-aggregate-put-3 : tie.Need-slice-aggregate-put-3
+slice-aggregate-put-3 c = search needs
+
+put-requires-4 : tie.Need-put-requires-4
+put-requires-4 c κs = search needs
+
+number-requires : tie.Need-number-requires
+number-requires c κs = search needs
+
+slice-aggregate-put-4 : tie.Need-slice-aggregate-put-4
+slice-aggregate-put-4 c = search needs
+
+put-requires-5 : tie.Need-put-requires-5
+put-requires-5 c κs = search needs
+
+put-board-requires : tie.Need-put-board-requires
+put-board-requires c κs = search needs
+
+returns-2 : tie.Need-returns-2
+returns-2 c = c .before .before .before .before .before .before .before .before .before .before .before .before .before .before .before .run .ensures .network
+
+pub run-spec : {M : Type 1} → statement M
+run-spec =
+    tie.close
+    (tie.spec
+    run-requires
+    slice-aggregate-put
+    put-requires
+    put-requires-2
+    put-refused-requires
+    returns
+    slice-aggregate-put-2
+    put-requires-3
+    ending-requires
+    slice-aggregate-put-3
+    put-requires-4
+    number-requires
+    slice-aggregate-put-4
+    put-requires-5
+    put-board-requires
+    returns-2)

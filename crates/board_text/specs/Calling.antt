@@ -1,0 +1,26 @@
+-- What the start of a sheet gives, and what a call of the command line does to the network.
+use Prim.Native.Nat.{ℕ, suc}
+use mathlib.Core.Path.{_≡_}
+use mathlib.Core.List.{List}
+use lib.ListN.{take}
+use Rattle.problem.specs.Sheet.{longestSheet}
+use Rattle.protocol.specs.Network.{Network, startSheet}
+use Rattle.protocol.specs.Delivery.{deliver}
+use Rattle.protocol.specs.Run.{run}
+use Rattle.network.specs.declared.Network.{Network as Record}
+use Rattle.network.specs.Abstract.{networkOf}
+use Rattle.board_text.specs.declared.calls.Call.{Call}
+use Rattle.board_text.specs.declared.calls.Call.the-variants.{Deliver, Run, Unknown}
+
+-- number and network are the start's for the sheet; and for every input that begins with the sheet where it is cut behind one byte more than the longest
+-- sheet has
+pub record BeginsAs (sheet : List ℕ) (number : ℕ) (r : Record) : Type 0 where
+  pub numbered : number ≡ startSheet sheet .number
+  pub started : networkOf r ≡ startSheet sheet .network
+  pub whole : (input : List ℕ) → take (suc longestSheet) input ≡ sheet → (number ≡ startSheet input .number) × (networkOf r ≡ startSheet input .network)
+
+-- the network after the call; a word that is no call leaves it
+unfoldable pub afterCall : Call → Network → Network
+afterCall (Deliver from to) w = deliver w from to .network
+afterCall (Run rounds) w = run rounds w .network
+afterCall Unknown w = w

@@ -1,0 +1,102 @@
+// What a line asks for, by the first two letters of its word and how many numbers it has.
+
+// Checks, which are tallied, and the failures.
+pub const CASE: usize = 0;
+
+pub const START: usize = 1;
+
+pub const REFUSED: usize = 2;
+
+pub const SAME: usize = 3;
+
+pub const RUN: usize = 4;
+
+pub const TAKEN: usize = 5;
+
+pub const DELIVER: usize = 6;
+
+pub const LINE: usize = 7;
+
+pub const FAILED: usize = 8;
+
+// Other lines.
+pub const SLOTS: usize = 9;
+
+pub const BAN: usize = 10;
+
+pub const EACH: usize = 11;
+
+pub const HEX: usize = 12;
+
+pub const ZEROS: usize = 13;
+
+pub const KEEP: usize = 14;
+
+pub const EMPTY: usize = 15;
+
+pub const UNKNOWN: usize = 16;
+
+// What the programs print.
+pub const DOCK: usize = 17;
+
+pub const BOARD: usize = 18;
+
+pub const WORD: usize = 19;
+
+// The kind of a line whose word begins with s and then this letter.
+fn kind_by_second(b: u8) -> usize {
+    match b {
+        b'l' => SLOTS,
+        b't' => START,
+        b'a' => SAME,
+        _ => UNKNOWN,
+    }
+}
+
+// The kind of a line whose word begins with the letters a and b.
+fn kind_by(a: u8, b: u8) -> usize {
+    match a {
+        b'c' => CASE,
+        b's' => kind_by_second(b),
+        b'b' => if b == b'o' { BOARD } else { BAN },
+        b'e' => EACH,
+        b'h' => HEX,
+        b'z' => ZEROS,
+        b'r' => if b == b'u' { RUN } else { REFUSED },
+        b'k' => KEEP,
+        b't' => TAKEN,
+        b'd' => if b == b'o' { DOCK } else { DELIVER },
+        b'l' => LINE,
+        b'w' => WORD,
+        _ => UNKNOWN,
+    }
+}
+
+// A line of this kind can have so many numbers.
+fn numbers_fit(kind: usize, numbers: usize) -> bool {
+    match kind {
+        REFUSED => numbers == 1,
+        RUN => numbers == 1 || numbers == 2,
+        DELIVER => numbers == 2 || numbers == 3,
+        LINE => numbers == 3,
+        BAN => numbers == 4,
+        EACH => numbers == 5,
+        ZEROS => numbers == 1,
+        DOCK => numbers == 1,
+        TAKEN => numbers <= 12,
+        SLOTS => numbers <= 12,
+        _ => true,
+    }
+}
+
+pub fn kind_of(line: &[u8], numbers: usize) -> usize {
+    if line.len() < 2 {
+        return EMPTY;
+    }
+    let kind = kind_by(line[0], line[1]);
+    if numbers_fit(kind, numbers) {
+        kind
+    } else {
+        UNKNOWN
+    }
+}

@@ -1,0 +1,4 @@
+pub mod Cut
+mod Refused
+mod Lines
+mod Printed

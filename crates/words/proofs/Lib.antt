@@ -1,0 +1,2 @@
+pub mod Appending
+mod Digits
