@@ -1,6 +1,6 @@
 -- Whom to blame for an own value, read off the bytes and the words of the nogoods.
 -- The words stored are laid over each other; of the agents that this names, the lowest whose byte bars the value; else the lowest whose byte does.
-use Prim.Native.Nat.{ℕ, zero, suc, pred, _+_, _-_, _/_, _%_, _^_, _≤_, _<_}
+use Prim.Native.Nat.{ℕ, zero, suc, pred, _-_, _/_, _%_, _^_, _≤_, _<_}
 use mathlib.Core.Path.{_≡_, refl, sym, ap, _∙_, fun-ext, subst}
 use mathlib.Core.Logic.{_≢_}
 use mathlib.Core.Bool.{Bool, true, false, _&&_, _||_, and-false, false≢true}
@@ -13,11 +13,11 @@ use lib.ListN.{getD}
 use borrow.Author.Tests.{eq-eqb, ne-eqb}
 use Rattle.base.specs.Bits.{bit}
 use Rattle.base.specs.Finite.{at, fromOne, lowest, isSome}
-use Rattle.base.proofs.Tests.{test, eq-test, opt, both}
-use Rattle.base.proofs.Search.{at-same, at-other, lowest-some, lowest-range, lowest-before}
+use Rattle.base.proofs.Tests.{eq-test, opt, both}
+use Rattle.base.proofs.Search.{at-other, lowest-some, lowest-range, lowest-before}
 use Rattle.base.proofs.Searches.{lowest-is, lowest-empty, isSome-first, isSome-passes}
 use Rattle.problem.specs.Problem.{maxDomain}
-use Rattle.agent_rules.specs.Message.{Assignment, known, nobody}
+use Rattle.agent_rules.specs.Message.{known, nobody}
 use Rattle.agent_rules.specs.Agent.{Nogoods}
 use Rattle.agent_rules.specs.Choosing.{lhsOf, named, blame}
 use Rattle.agent_rules.specs.Shape.{maxNamed}

@@ -10,7 +10,7 @@ use native.Mathlib.Omega.{arith}
 use lib.Dec.{eqb}
 use borrow.Author.Tests.{eqb-true, eqb-false, ne-eqb}
 use Rattle.base.specs.Finite.{at, highest}
-use Rattle.base.proofs.Tests.{test, eq-test, opt}
+use Rattle.base.proofs.Tests.{test, eq-test}
 use Rattle.base.proofs.Search.{highest-some, at-same, at-other}
 use Rattle.agent_rules.specs.Message.{Assignment, known, Post}
 use Rattle.agent_rules.specs.Agent.{Self, Bans, Nogoods, Agent, Step, above}

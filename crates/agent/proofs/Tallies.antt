@@ -2,9 +2,8 @@
 -- A set is gone through bit by bit.
 use Prim.Native.Nat.{ℕ, zero, suc, _+_, _*_, _-_, _/_, _%_, _^_, _≤_, _<_}
 use mathlib.Core.Path.{_≡_, refl, sym, ap, _∙_}
-use mathlib.Core.Bool.{true, false}
 use mathlib.Core.List.{List, [], _∷_, _++_, map}
-use native.Mathlib.Nat.{pow-suc, pow-succ', div-div-eq-div-mul, div-one}
+use native.Mathlib.Nat.{pow-suc, div-div-eq-div-mul, div-one}
 use native.Mathlib.Omega.{arith}
 use lib.Count.{ones, ones-step}
 use lib.ListN.{length, take, drop, length-drop}

@@ -10,7 +10,7 @@ use lib.ListN.{length, getD, List·getD-eq-default}
 use borrow.Author.Tests.{lt-ltb, le-leb, lt-leb, ltb-true, ltb-false, leb-true, leb-false}
 use Rattle.base.specs.Finite.{fromOne, within, allTo}
 use Rattle.base.proofs.Tests.{test, eq-test, to-within}
-use Rattle.problem.specs.Problem.{Problem, maxAgents, maxDomain, domain, owns, wordAt, countInRange, domainInRange, wordOwned, bansOwned, sized, inRange}
+use Rattle.problem.specs.Problem.{Problem, maxAgents, maxDomain, domain, wordAt, countInRange, domainInRange, wordOwned, bansOwned, sized, inRange}
 use Rattle.problem.proofs.Range.{Ranged}
 use Rattle.packed.specs.Packed.{assignment}
 use Rattle.packed.proofs.Digits.{assigned-first, assigned-next, digit-above}

@@ -1,5 +1,5 @@
 -- What a record says, of either edition: the test of its fields and what it bans. Nothing here knows of bytes and places. docs/RULES.md, 'The
--- sheet', for edition 1.
+-- sheet'.
 use Prim.Native.Nat.{ℕ}
 use mathlib.Core.Bool.{Bool, false, cond, _&&_, _||_}
 use mathlib.Core.List.{List, [], _∷_}

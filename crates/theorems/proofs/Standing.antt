@@ -7,31 +7,14 @@ use mathlib.Core.List.{List, [], _∷_, _++_, map, append-nil, append-assoc, hea
 use Prim.Native.Nat.{ℕ, _+_, _≤_}
 use native.Mathlib.Omega.{arith}
 use lib.ListN.{length}
-use Rattle.base.specs.Finite.{any, isSome}
+use Rattle.base.specs.Finite.{isSome}
 use Rattle.base.proofs.Tests.{test, or-left, or-right, or-false-both}
 use Rattle.base.proofs.Lists.{All}
 use Rattle.base.proofs.Counting.{countIf, count-append}
 use Rattle.protocol.specs.Network.{Network}
 use Rattle.protocol.specs.Shape.{inShape}
 use Rattle.protocol.specs.Delivery.{rejectionNumber, Answer, Accepted, Rejected, isAccepted, Delivery, numbersGood, deliver}
-use Rattle.protocol.specs.Run.{
-  Line,
-  Try,
-  visits,
-  Sweep,
-  beginRound,
-  stopped,
-  isNoRoom,
-  passedBy,
-  passedOver,
-  stopFor,
-  tally,
-  skipped,
-  attempt,
-  sweep,
-  round,
-  isLine,
-}
+use Rattle.protocol.specs.Run.{Line, Try, visits, Sweep, beginRound, stopped, isNoRoom, passedOver, stopFor, tally, skipped, attempt, sweep, round, isLine}
 use Rattle.shape_laws.proofs.Lines.{line-ends}
 use Rattle.shape_laws.proofs.Outcome.{numbers}
 use Rattle.shape_laws.proofs.Visits.{visits-least}

@@ -58,8 +58,7 @@ RoundBound p =
     → markedIn marking ≤ mostRounds p
 
 -- Demand 3: "the full rounds of all runs in a list are one way to mark them off": a marking of all that the list tries, with as many rounds as its
--- runs return
--- together.
+-- runs return together.
 pub record RunsMarked (p : Problem) (calls : List Call) : Type 0 where
   pub marking : List Stretch
   pub lines : linesOf marking ≡ triedByAll calls (start p)

@@ -1,6 +1,6 @@
 -- `blamed` is whom the rule blames.
 -- Where another byte bars the value too, the words stored are looked at; else there is one to blame.
-use Prim.Native.Nat.{pred, _≤_}
+use Prim.Native.Nat.{pred}
 use mathlib.Core.Path.{_≡_, sym, _∙_}
 use mathlib.Core.Option.{some}
 use native.Mathlib.Omega.{arith}

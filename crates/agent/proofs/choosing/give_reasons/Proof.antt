@@ -8,12 +8,8 @@ use native.Mathlib.Omega.{arith}
 use lib.Bits.{or-lt}
 use lib.ListN.{length, length-set}
 use borrow.Author.Needs.{needs}
-use mathlib.Core.Option.{some}
-use Rattle.base.specs.Bits.{bit}
-use Rattle.base.specs.Finite.{lowest}
 use Rattle.agent_rules.specs.Shape.{maxNamed}
 use Rattle.packed.specs.Packed.{assignment}
-use Rattle.agent.specs.Abstract.{byteOf}
 use Rattle.agent_rules.specs.Choosing.{union}
 use Rattle.agent.specs.Parts.{nogoodsOf, Reasoned}
 use Rattle.agent.proofs.Reasons.{reasons-none, reasons-kept, barred-by, reasons-given, joined-none, joined-kept, joined-given}

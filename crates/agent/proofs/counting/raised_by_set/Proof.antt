@@ -1,9 +1,9 @@
 -- `raised_by_set` counts the agents of a set.
-use mathlib.Core.Path.{sym, ap, _∙_}
+use mathlib.Core.Path.{sym}
 use native.Mathlib.Omega.{arith}
 use borrow.Author.Needs.{needs}
 use lib.Count.{ones-le}
-use Rattle.agent_rules.specs.Counts.{top, raised}
+use Rattle.agent_rules.specs.Counts.{top}
 use Rattle.agent_rules.proofs.Counts.{raised-none}
 use Rattle.agent.proofs.Tallies.{ones-none}
 use Rattle.agent.proofs.counting.raised_by_set.Statement.{statement}
