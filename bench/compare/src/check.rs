@@ -1,11 +1,11 @@
-//! Both sides give the same answers: through the entries, and as the programs print.
+//! Both sides give the same answers: through the entries, under both rules, and as the programs print.
 
 use std::io::Write;
 use std::path::Path;
 use std::process::{Command, Stdio};
 
 use plain::random::Random;
-use plain::PROGRAM_ROUNDS;
+use plain::{Rule, PROGRAM_ROUNDS};
 
 use crate::sheets;
 use crate::sides::{Plain, Proved, Side};
@@ -14,28 +14,42 @@ use crate::sides::{Plain, Proved, Side};
 pub fn entries(measured: &[(String, Vec<u8>)]) -> Result<usize, String> {
     let mut compared = Compared { proved: Proved, plain: Plain::new(), count: 0 };
     for (name, sheet) in measured {
-        compared.on(name, sheet)?;
         for word in 0..67 {
             compared.same(name, |side| side.decode(sheet, word))?;
         }
-        for sender in 0..13 {
-            compared.same(name, |side| side.start(sheet, sender))?;
+        for rule in Rule::BOTH {
+            let calls = sheets::calls(rule, sheet, 500);
+            let rule = rule.number();
+            let name = format!("{name}, rule {rule}");
+            compared.on(&name, rule, sheet)?;
+            for sender in 0..13 {
+                compared.same(&name, |side| side.start(rule, sheet, sender))?;
+            }
+            compared.same(&name, |side| side.deliver(rule, sheet, &calls))?;
         }
-        let calls = sheets::calls(sheet, 500);
-        compared.same(name, |side| side.deliver(sheet, &calls))?;
     }
     let mut random = Random::new(11);
     let small = sheets::random(4_000, 5, 4, 20, 40, 21);
     let mixed = sheets::random(1_000, 12, 8, 10, 40, 22);
     for (number, sheet) in small.iter().chain(&mixed).enumerate() {
         let name = format!("random sheet {number}");
-        compared.on(&name, sheet)?;
         let (word, sender) = (random.below(66), random.below(12));
         compared.same(&name, |side| side.decode(sheet, word))?;
-        compared.same(&name, |side| side.start(sheet, sender))?;
         // Any numbers, so that most calls are refused.
         let calls: Vec<u8> = (0..120).map(|_| random.below(7) as u8).collect();
-        compared.same(&name, |side| side.deliver(sheet, &calls))?;
+        for rule in Rule::BOTH.map(Rule::number) {
+            let name = format!("{name}, rule {rule}");
+            compared.on(&name, rule, sheet)?;
+            compared.same(&name, |side| side.start(rule, sheet, sender))?;
+            compared.same(&name, |side| side.deliver(rule, sheet, &calls))?;
+        }
+        // A number that is no rule comes before any fault of the sheet.
+        let wrong = [0, 3, 255][random.below(3)];
+        let name = format!("{name}, rule {wrong}");
+        compared.same(&name, |side| side.start(wrong, sheet, sender))?;
+        compared.same(&name, |side| side.settle(wrong, sheet, 5))?;
+        compared.same(&name, |side| side.deliver(wrong, sheet, &calls))?;
+        compared.same(&name, |side| side.counts(wrong, sheet, 5, sender))?;
     }
     Ok(compared.count)
 }
@@ -47,12 +61,12 @@ struct Compared {
 }
 
 impl Compared {
-    fn on(&mut self, name: &str, sheet: &[u8]) -> Result<(), String> {
+    fn on(&mut self, name: &str, rule: u8, sheet: &[u8]) -> Result<(), String> {
         for rounds in [0, 1, 2, 5, 37, 1_000, PROGRAM_ROUNDS] {
-            self.same(name, |side| side.settle(sheet, rounds))?;
+            self.same(name, |side| side.settle(rule, sheet, rounds))?;
         }
         for agent in 0..13 {
-            self.same(name, |side| side.counts(sheet, 1_000, agent))?;
+            self.same(name, |side| side.counts(rule, sheet, 1_000, agent))?;
         }
         Ok(())
     }

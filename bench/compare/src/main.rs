@@ -12,7 +12,7 @@ use std::hint::black_box;
 use std::path::{Path, PathBuf};
 use std::process::{Command, Stdio};
 
-use plain::PROGRAM_ROUNDS;
+use plain::{Rule, PROGRAM_ROUNDS};
 
 use crate::sides::{Plain, Proved, Side};
 use crate::timing::{alternately, Clock, Times};
@@ -32,28 +32,37 @@ fn main() -> Result<(), String> {
     println!("same output: {} sheets, by the programs", check::programs(proved, plain, &measured)?);
 
     let long = &open[open.len() - 1].1;
+    let deepest = &deep[deep.len() - 1].1;
+    let small = sheets::random(20_000, 5, 4, 20, 0, 7);
     println!("\n{:<58} {:>12} {:>12} {:>7}", "what, and for each", "Rust", "ours", "ratio");
-    run_row("long run, 12 scanners, 8 slots, 100,000 rounds", long);
-    run_row("deepest search that ends, 73,855 rounds", &deep[deep.len() - 1].1);
-    bulk_row("small sheets in bulk", &sheets::random(20_000, 5, 4, 20, 0, 7));
+    for rule in Rule::BOTH {
+        let under = format!("rule {}", rule.number());
+        run_row(&format!("long run, 12 scanners, 8 slots, 100,000 rounds, {under}"), rule, long);
+        run_row(&format!("deepest search that ends, 73,855 rounds, {under}"), rule, deepest);
+        bulk_row(&format!("small sheets in bulk, {under}"), rule, &small);
+    }
     row("decoding alone, 4,224 records", both(|side| side.decode(&longest.1, black_box(65))), 1);
     row("decoding alone, 4,224 records of gaps", both(|side| side.decode(&gaps.1, black_box(65))), 1);
-    row("decoding and start of the long run's sheet", both(|side| side.start(long, black_box(0))), 1);
+    row(
+        "decoding and start of the long run's sheet",
+        both(|side| side.start(Rule::Loud.number(), long, black_box(0))),
+        1,
+    );
     delivery_row("a delivery by the public entry, 12 scanners", long);
-    delivery_row("a delivery by the public entry, 6 scanners", &deep[deep.len() - 1].1);
+    delivery_row("a delivery by the public entry, 6 scanners", deepest);
     program_row("the program on the long run's sheet", plain, proved, long)?;
 
     println!("\ngrowth with n, 100,000 rounds of eight slots each");
     for (n, (_, sheet)) in (7..).zip(&open) {
-        run_row(&format!("  {n} scanners"), sheet);
+        run_row(&format!("  {n} scanners"), Rule::Loud, sheet);
     }
     println!("\ngrowth with rounds");
     for rounds in [100, 1_000, 10_000, 100_000] {
-        let times = both(|side| side.settle(long, rounds));
+        let times = both(|side| side.settle(Rule::Loud.number(), long, rounds));
         row(&format!("  long run's sheet, {rounds} rounds, a round"), times, rounds as usize);
     }
     for (k, (_, sheet)) in (1..).zip(&deep) {
-        run_row(&format!("  deep search of {} scanners", k + 1), sheet);
+        run_row(&format!("  deep search of {} scanners", k + 1), Rule::Loud, sheet);
     }
     Ok(())
 }
@@ -78,21 +87,23 @@ fn row(what: &str, times: Times, parts: usize) {
 }
 
 /// A whole run, and the same for each delivery.
-fn run_row(what: &str, sheet: &[u8]) {
-    let times = both(|side| side.settle(sheet, black_box(PROGRAM_ROUNDS)));
-    let deliveries = sheets::deliveries(sheet, PROGRAM_ROUNDS);
+fn run_row(what: &str, rule: Rule, sheet: &[u8]) {
+    let times = both(|side| side.settle(rule.number(), sheet, black_box(PROGRAM_ROUNDS)));
+    let deliveries = sheets::deliveries(rule, sheet, PROGRAM_ROUNDS);
     row(what, times, 1);
     row(&format!("    each of {deliveries} deliveries"), times, deliveries);
 }
 
-fn bulk_row(what: &str, sheets: &[Vec<u8>]) {
-    let times = both(|side| sheets.iter().fold(0, |sum, sheet| sum ^ side.settle(sheet, PROGRAM_ROUNDS)));
+fn bulk_row(what: &str, rule: Rule, sheets: &[Vec<u8>]) {
+    let rule = rule.number();
+    let times =
+        both(|side| sheets.iter().fold(0, |sum, sheet| sum ^ side.settle(rule, sheet, PROGRAM_ROUNDS)));
     row(&format!("{what}, a sheet"), times, sheets.len());
 }
 
 fn delivery_row(what: &str, sheet: &[u8]) {
-    let calls = sheets::calls(sheet, 4_000);
-    row(what, both(|side| side.deliver(sheet, &calls)), calls.len() / 2);
+    let calls = sheets::calls(Rule::Loud, sheet, 4_000);
+    row(what, both(|side| side.deliver(Rule::Loud.number(), sheet, &calls)), calls.len() / 2);
 }
 
 fn program_row(what: &str, plain: &Path, proved: &Path, sheet: &[u8]) -> Result<(), String> {

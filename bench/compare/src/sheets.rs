@@ -4,7 +4,7 @@ use plain::random::Random;
 use plain::sheet::{
     damage, encode, encode_shuffled, random_bans, random_bans_between, random_gaps, Ban, Gaps, Rows,
 };
-use plain::{Network, Problem, Word, PROGRAM_ROUNDS};
+use plain::{Network, Problem, Rule, Word, PROGRAM_ROUNDS};
 
 /// k agents with eight values, and a last one with k values: value i of the last is banned
 /// against all eight values of agent i. With k = 5 it is the deepest search that ends (`none`,
@@ -16,10 +16,10 @@ pub fn deep(k: u8) -> Vec<u8> {
     encode(&domains, Rows::Slots(&bans))
 }
 
-/// A sheet of n agents with eight values that is `open` after all the program's rounds: of
-/// some random ones the one with the most deliveries. Each of the last agents (hubs) has each
-/// of its values banned against all values of one agent above, which makes the search deep;
-/// other bans are random.
+/// A sheet of n agents with eight values that is `open` after all the program's rounds under
+/// rule 1: of some random ones the one with the most deliveries. Each of the last agents (hubs)
+/// has each of its values banned against all values of one agent above, which makes the search
+/// deep; other bans are random.
 pub fn open(n: usize) -> Vec<u8> {
     const CANDIDATES: u64 = 40;
     let domains = vec![8u8; n];
@@ -45,7 +45,7 @@ pub fn open(n: usize) -> Vec<u8> {
         bans.sort_unstable();
         bans.dedup();
         let problem = Problem::new(&domains, &bans);
-        let run = Network::start(&problem).run(PROGRAM_ROUNDS).expect("a start is in shape");
+        let run = Network::start(Rule::Loud, &problem).run(PROGRAM_ROUNDS).expect("a start is in shape");
         if run.word == Word::Open && run.rounds == PROGRAM_ROUNDS {
             let deliveries = first_deliveries(&problem);
             if deliveries > best.0 {
@@ -57,10 +57,10 @@ pub fn open(n: usize) -> Vec<u8> {
     best.1
 }
 
-/// Deliveries in the first rounds of a run.
+/// Deliveries in the first rounds of a run under rule 1.
 fn first_deliveries(problem: &Problem) -> usize {
     const ROUNDS: usize = 20_000;
-    let mut network = Network::start(problem);
+    let mut network = Network::start(Rule::Loud, problem);
     let mut total = 0;
     for _ in 0..ROUNDS {
         total += waiting(&network).len();
@@ -138,8 +138,8 @@ fn waiting(network: &Network) -> Vec<[u8; 2]> {
 }
 
 /// The first deliveries of a run on a sheet, as calls: two bytes for each.
-pub fn calls(sheet: &[u8], most: usize) -> Vec<u8> {
-    let mut network = Network::start(&Problem::decode(sheet).expect("an accepted sheet"));
+pub fn calls(rule: Rule, sheet: &[u8], most: usize) -> Vec<u8> {
+    let mut network = Network::start_sheet(rule.number(), sheet).expect("an accepted sheet");
     let mut calls = Vec::new();
     while calls.len() < 2 * most {
         let heads = waiting(&network);
@@ -158,8 +158,8 @@ pub fn calls(sheet: &[u8], most: usize) -> Vec<u8> {
 }
 
 /// How many deliveries the full rounds of a run with so many rounds make.
-pub fn deliveries(sheet: &[u8], rounds: u64) -> usize {
-    let mut network = Network::start(&Problem::decode(sheet).expect("an accepted sheet"));
+pub fn deliveries(rule: Rule, sheet: &[u8], rounds: u64) -> usize {
+    let mut network = Network::start_sheet(rule.number(), sheet).expect("an accepted sheet");
     let mut total = 0;
     for _ in 0..rounds {
         let waiting = waiting(&network).len();

@@ -1,31 +1,44 @@
 //! The two sides, each with the same five entries: the proved libraries behind `bench_entry`, and
 //! the plain one.
 
-use plain::{Network, Problem, Word};
+use plain::{Network, Problem, Rejection, Rule, Word};
 
-/// One side. What each entry gives is said at `crates/bench_entry/specs/Giving.antt`.
+/// One side. What each entry gives is said at `crates/bench_entry/specs/Giving.antt`. A rule is its
+/// number, and may be a wrong one.
 pub trait Side {
     /// Decoding alone.
     fn decode(&mut self, sheet: &[u8], word: usize) -> u64;
     /// Decoding and the start.
-    fn start(&mut self, sheet: &[u8], sender: usize) -> u64;
+    fn start(&mut self, rule: u8, sheet: &[u8], sender: usize) -> u64;
     /// Decoding, the start and a run.
-    fn settle(&mut self, sheet: &[u8], rounds: u64) -> u64;
+    fn settle(&mut self, rule: u8, sheet: &[u8], rounds: u64) -> u64;
     /// Decoding, the start and deliveries through the public entry.
-    fn deliver(&mut self, sheet: &[u8], calls: &[u8]) -> u64;
+    fn deliver(&mut self, rule: u8, sheet: &[u8], calls: &[u8]) -> u64;
     /// Decoding, the start and a run: one agent's counts after it, in one number. Agents are
     /// counted from 0.
-    fn counts(&mut self, sheet: &[u8], rounds: u64, agent: usize) -> u64;
+    fn counts(&mut self, rule: u8, sheet: &[u8], rounds: u64, agent: usize) -> u64;
 }
 
 mod entry {
     // A byte slice is passed as its address and its length.
     extern "C" {
         pub fn bench_entry_decode(sheet: *const u8, length: usize, word: usize) -> u64;
-        pub fn bench_entry_start(sheet: *const u8, length: usize, sender: usize) -> u64;
-        pub fn bench_entry_settle(sheet: *const u8, length: usize, rounds: u64) -> u64;
-        pub fn bench_entry_deliver(sheet: *const u8, length: usize, calls: *const u8, bytes: usize) -> u64;
-        pub fn bench_entry_counts(sheet: *const u8, length: usize, rounds: u64, agent: usize) -> u64;
+        pub fn bench_entry_start(rule: u8, sheet: *const u8, length: usize, sender: usize) -> u64;
+        pub fn bench_entry_settle(rule: u8, sheet: *const u8, length: usize, rounds: u64) -> u64;
+        pub fn bench_entry_deliver(
+            rule: u8,
+            sheet: *const u8,
+            length: usize,
+            calls: *const u8,
+            bytes: usize,
+        ) -> u64;
+        pub fn bench_entry_counts(
+            rule: u8,
+            sheet: *const u8,
+            length: usize,
+            rounds: u64,
+            agent: usize,
+        ) -> u64;
     }
 }
 
@@ -38,20 +51,20 @@ impl Side for Proved {
         unsafe { entry::bench_entry_decode(sheet.as_ptr(), sheet.len(), word) }
     }
 
-    fn start(&mut self, sheet: &[u8], sender: usize) -> u64 {
-        unsafe { entry::bench_entry_start(sheet.as_ptr(), sheet.len(), sender) }
+    fn start(&mut self, rule: u8, sheet: &[u8], sender: usize) -> u64 {
+        unsafe { entry::bench_entry_start(rule, sheet.as_ptr(), sheet.len(), sender) }
     }
 
-    fn settle(&mut self, sheet: &[u8], rounds: u64) -> u64 {
-        unsafe { entry::bench_entry_settle(sheet.as_ptr(), sheet.len(), rounds) }
+    fn settle(&mut self, rule: u8, sheet: &[u8], rounds: u64) -> u64 {
+        unsafe { entry::bench_entry_settle(rule, sheet.as_ptr(), sheet.len(), rounds) }
     }
 
-    fn deliver(&mut self, sheet: &[u8], calls: &[u8]) -> u64 {
-        unsafe { entry::bench_entry_deliver(sheet.as_ptr(), sheet.len(), calls.as_ptr(), calls.len()) }
+    fn deliver(&mut self, rule: u8, sheet: &[u8], calls: &[u8]) -> u64 {
+        unsafe { entry::bench_entry_deliver(rule, sheet.as_ptr(), sheet.len(), calls.as_ptr(), calls.len()) }
     }
 
-    fn counts(&mut self, sheet: &[u8], rounds: u64, agent: usize) -> u64 {
-        unsafe { entry::bench_entry_counts(sheet.as_ptr(), sheet.len(), rounds, agent) }
+    fn counts(&mut self, rule: u8, sheet: &[u8], rounds: u64, agent: usize) -> u64 {
+        unsafe { entry::bench_entry_counts(rule, sheet.as_ptr(), sheet.len(), rounds, agent) }
     }
 }
 
@@ -64,6 +77,15 @@ pub struct Plain {
 impl Plain {
     pub fn new() -> Plain {
         Plain { problem: Problem::EMPTY, network: Network::EMPTY }
+    }
+
+    /// The start on a sheet, over what is there: the rule is looked at first.
+    #[inline(always)]
+    fn begin(&mut self, rule: u8, sheet: &[u8]) -> Result<(), Rejection> {
+        let rule = Rule::numbered(rule)?;
+        self.problem.decode_over(sheet)?;
+        self.network.restart(rule, &self.problem);
+        Ok(())
     }
 }
 
@@ -81,11 +103,10 @@ impl Side for Plain {
     }
 
     #[inline(never)]
-    fn start(&mut self, sheet: &[u8], sender: usize) -> u64 {
-        if let Err(rejection) = self.problem.decode_over(sheet) {
+    fn start(&mut self, rule: u8, sheet: &[u8], sender: usize) -> u64 {
+        if let Err(rejection) = self.begin(rule, sheet) {
             return u64::from(rejection.number());
         }
-        self.network.restart(&self.problem);
         if sender < 12 {
             (0..12).fold(0, |row, to| row | (self.network.waiting(sender, to) as u64) << (4 * to))
         } else {
@@ -94,11 +115,10 @@ impl Side for Plain {
     }
 
     #[inline(never)]
-    fn settle(&mut self, sheet: &[u8], rounds: u64) -> u64 {
-        if let Err(rejection) = self.problem.decode_over(sheet) {
+    fn settle(&mut self, rule: u8, sheet: &[u8], rounds: u64) -> u64 {
+        if let Err(rejection) = self.begin(rule, sheet) {
             return 8 + u64::from(rejection.number());
         }
-        self.network.restart(&self.problem);
         let (ending, rounds) = match self.network.run(rounds) {
             Ok(run) => (ending_number(run.word), run.rounds),
             Err(_) => (5, 0),
@@ -112,12 +132,9 @@ impl Side for Plain {
     }
 
     #[inline(never)]
-    fn deliver(&mut self, sheet: &[u8], calls: &[u8]) -> u64 {
-        let refused = match self.problem.decode_over(sheet) {
-            Ok(()) => {
-                self.network.restart(&self.problem);
-                0
-            }
+    fn deliver(&mut self, rule: u8, sheet: &[u8], calls: &[u8]) -> u64 {
+        let refused = match self.begin(rule, sheet) {
+            Ok(()) => 0,
             Err(rejection) => {
                 self.network = Network::EMPTY;
                 rejection.number()
@@ -135,11 +152,10 @@ impl Side for Plain {
     }
 
     #[inline(never)]
-    fn counts(&mut self, sheet: &[u8], rounds: u64, agent: usize) -> u64 {
-        if self.problem.decode_over(sheet).is_err() {
+    fn counts(&mut self, rule: u8, sheet: &[u8], rounds: u64, agent: usize) -> u64 {
+        if self.begin(rule, sheet).is_err() {
             return 0;
         }
-        self.network.restart(&self.problem);
         let _ = self.network.run(rounds);
         let Some(agent) = self.network.agents().nth(agent) else {
             return 0;

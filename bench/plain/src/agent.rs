@@ -32,6 +32,8 @@ fn raise(count: &mut u64, by: u64) {
 pub struct Agent {
     /// Its value (slot), 0 for none.
     pub(crate) value: u8,
+    /// The last value that it took, 0 for none yet.
+    pub(crate) last: u8,
     /// Own values that have a nogood, bit v - 1 for value v.
     pub(crate) stored: u8,
     /// All own values, as such a mask.
@@ -68,6 +70,7 @@ impl Agent {
     /// No value, no links, nothing known.
     pub(crate) const BLANK: Agent = Agent {
         value: 0,
+        last: 0,
         stored: 0,
         values: 0,
         listens: AgentSet::EMPTY,
@@ -93,7 +96,8 @@ impl Agent {
     /// Is there nothing in the record, and no ban?
     pub(crate) fn is_blank(&self) -> bool {
         let words = self.listens.0 | self.informs.0 | self.view.0;
-        let nothing = self.value | self.stored == 0 && self.bans.iter().fold(words, |all, word| all | word) == 0;
+        let bytes = self.value | self.last | self.stored;
+        let nothing = bytes == 0 && self.bans.iter().fold(words, |all, word| all | word) == 0;
         nothing && self.sent == Counts::NONE && self.received == Counts::NONE
     }
 
@@ -168,9 +172,10 @@ impl Agent {
     }
 
     /// Takes a message from `sender` and sends what it sends. An AddLink comes only from an
-    /// agent not yet informed.
+    /// agent not yet informed. `QUIET` is the network's rule; it is known before the code runs,
+    /// so that neither rule pays for the other.
     #[inline(always)]
-    pub(crate) fn receive<const CHECKED: bool>(
+    pub(crate) fn receive<const QUIET: bool, const CHECKED: bool>(
         &mut self,
         sender: usize,
         message: Message,
@@ -179,11 +184,11 @@ impl Agent {
         match message {
             Message::Info { value } => {
                 raise(&mut self.received.infos, 1);
-                self.info::<CHECKED>(sender, value, out)
+                self.info::<QUIET, CHECKED>(sender, value, out)
             }
             Message::Back { lhs, refused } => {
                 raise(&mut self.received.backs, 1);
-                self.back::<CHECKED>(sender, lhs, refused, out)
+                self.back::<QUIET, CHECKED>(sender, lhs, refused, out)
             }
             Message::AddLink => {
                 raise(&mut self.received.links, 1);
@@ -203,7 +208,7 @@ impl Agent {
 
     /// News.
     #[inline(always)]
-    fn info<const CHECKED: bool>(
+    fn info<const QUIET: bool, const CHECKED: bool>(
         &mut self,
         sender: usize,
         value: u8,
@@ -218,7 +223,7 @@ impl Agent {
             }
         }
         if self.is_banned(u32::from(self.value - 1)) {
-            self.choose::<CHECKED>(out)
+            self.choose::<QUIET, CHECKED>(AgentSet::EMPTY, out)
         } else {
             Ok(Step::Settled)
         }
@@ -226,7 +231,7 @@ impl Agent {
 
     /// Refusal.
     #[inline(always)]
-    fn back<const CHECKED: bool>(
+    fn back<const QUIET: bool, const CHECKED: bool>(
         &mut self,
         sender: usize,
         lhs: Assignment,
@@ -247,12 +252,29 @@ impl Agent {
         }
         self.nogoods[usize::from(refused - 1) & 7] = lhs;
         self.stored |= bit(refused);
-        self.choose::<CHECKED>(out)
+        self.choose::<QUIET, CHECKED>(AgentSet::one(sender), out)
+    }
+
+    /// Whom it tells that it takes `value`. The refuser is the sender of the Back being worked,
+    /// if there is one.
+    #[inline(always)]
+    fn told<const QUIET: bool>(&self, refuser: AgentSet, value: u8) -> AgentSet {
+        if !QUIET {
+            self.informs
+        } else if value == self.last {
+            refuser
+        } else {
+            self.informs.union(refuser)
+        }
     }
 
     /// Choosing and backing up, until a value is taken or the verdict falls.
     #[inline(always)]
-    fn choose<const CHECKED: bool>(&mut self, out: &mut Channels) -> Result<Step, Full> {
+    fn choose<const QUIET: bool, const CHECKED: bool>(
+        &mut self,
+        refuser: AgentSet,
+        out: &mut Channels,
+    ) -> Result<Step, Full> {
         loop {
             let banned = self.banned_values() & !self.stored;
             let free = self.values & !self.stored & !banned;
@@ -266,9 +288,11 @@ impl Agent {
                 blaming &= blaming - 1;
             }
             if free != 0 {
-                self.value = free.trailing_zeros() as u8 + 1;
-                out.send::<CHECKED>(self.informs, Message::Info { value: self.value })?;
-                raise(&mut self.sent.infos, self.informs.len());
+                let value = free.trailing_zeros() as u8 + 1;
+                let told = self.told::<QUIET>(refuser, value);
+                (self.value, self.last) = (value, value);
+                out.send::<CHECKED>(told, Message::Info { value })?;
+                raise(&mut self.sent.infos, told.len());
                 return Ok(Step::Settled);
             }
             let union = self.union();

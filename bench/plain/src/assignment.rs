@@ -129,6 +129,11 @@ impl AgentSet {
     }
 
     #[inline(always)]
+    pub fn union(self, other: AgentSet) -> AgentSet {
+        AgentSet(self.0 | other.0)
+    }
+
+    #[inline(always)]
     pub fn minus(self, other: AgentSet) -> AgentSet {
         AgentSet(self.0 & !other.0)
     }

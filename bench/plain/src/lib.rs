@@ -3,7 +3,7 @@
 //!
 //! The field's terms stand for the dock's words: agent (scanner), value (slot), domain (slot
 //! count), network (rail), channel (line), Info (news), Back (refusal), AddLink (link request),
-//! nogood (stored reason), lhs (left side), rejection (the numbers 1 to 10).
+//! nogood (stored reason), lhs (left side), rejection (the numbers 1 to 11).
 
 mod agent;
 mod assignment;
@@ -11,6 +11,7 @@ mod channel;
 mod network;
 mod problem;
 pub mod random;
+mod rule;
 mod shape;
 pub mod sheet;
 
@@ -19,6 +20,7 @@ pub use assignment::{AgentSet, Assignment, MAX_AGENTS, MAX_DOMAIN};
 pub use channel::{Message, CAPACITY};
 pub use network::{Network, Run, Word};
 pub use problem::{Problem, HEADER, MAX_RECORDS, MAX_SHEET, RECORD};
+pub use rule::Rule;
 
 /// Rounds that the program allows.
 pub const PROGRAM_ROUNDS: u64 = 100_000;
@@ -47,6 +49,8 @@ pub enum Rejection {
     Linked = 9,
     /// No room.
     Room = 10,
+    /// A rule other than 1 or 2.
+    Rule = 11,
 }
 
 impl Rejection {

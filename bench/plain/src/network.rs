@@ -6,6 +6,7 @@ use crate::agent::{Agent, Counts, Step};
 use crate::assignment::{AgentSet, Assignment, MAX_AGENTS};
 use crate::channel::{Channels, Full, Message, Packed};
 use crate::problem::{domain_mask, Problem};
+use crate::rule::Rule;
 use crate::Rejection;
 
 /// Rounds that a run uses at most.
@@ -23,6 +24,8 @@ pub(crate) struct Node {
 #[derive(Clone)]
 pub struct Network {
     pub(crate) n: usize,
+    /// None in the empty network alone.
+    pub(crate) rule: Option<Rule>,
     /// Domain of each agent (slot count), as packed digits; 0 beyond n.
     pub(crate) domains: Assignment,
     /// The verdict "none" stands.
@@ -104,23 +107,31 @@ impl Network {
     /// The empty network: n = 0, all else zero.
     pub const EMPTY: Network = Network {
         n: 0,
+        rule: None,
         domains: Assignment::EMPTY,
         verdict: false,
         nodes: [Node { agent: Agent::BLANK, out: Channels::EMPTY }; MAX_AGENTS],
     };
 
+    /// The start on a sheet, under the rule of a number: the rule is looked at first.
+    pub fn start_sheet(rule: u8, sheet: &[u8]) -> Result<Network, Rejection> {
+        let rule = Rule::numbered(rule)?;
+        Ok(Network::start(rule, &Problem::decode(sheet)?))
+    }
+
     /// The start: all views are unknown, each agent chooses.
-    pub fn start(problem: &Problem) -> Network {
+    pub fn start(rule: Rule, problem: &Problem) -> Network {
         let mut network = Network::EMPTY;
-        network.restart(problem);
+        network.restart(rule, problem);
         network
     }
 
     /// A fresh start over a network already there.
-    pub fn restart(&mut self, problem: &Problem) {
+    pub fn restart(&mut self, rule: Rule, problem: &Problem) {
         // What lies beyond n is blank already.
         let used = self.n.max(problem.n);
         self.n = problem.n;
+        self.rule = Some(rule);
         self.domains = problem.domains;
         self.verdict = false;
         let mut informs = [AgentSet::EMPTY; MAX_AGENTS];
@@ -133,9 +144,12 @@ impl Network {
                     informs[above].add(number);
                 }
             }
-            // Unknown agents ban nothing: each takes its lowest value, and there is room.
+            // Unknown agents ban nothing: each takes its lowest value, and there is room. Nobody has
+            // taken a value before, so all that are informed are told, whatever the rule.
+            let value = u8::from(number < problem.n);
             *agent = Agent {
-                value: u8::from(number < problem.n),
+                value,
+                last: value,
                 values: domain_mask(problem.domain(number)),
                 listens,
                 informs: informs[number],
@@ -156,6 +170,11 @@ impl Network {
     /// The number of values (slots) of an agent, counted from 0.
     pub(crate) fn domain(&self, agent: usize) -> u8 {
         self.domains.get(agent)
+    }
+
+    /// Is the rule the quiet one?
+    fn is_quiet(&self) -> bool {
+        self.rule == Some(Rule::Quiet)
     }
 
     /// Does the verdict "none" stand?
@@ -193,7 +212,12 @@ impl Network {
         if self.waiting(from, to) == 0 {
             return Err(Rejection::Empty);
         }
-        self.deliver_waiting(from, to).map(|_| ())
+        let delivered = if self.is_quiet() {
+            self.deliver_waiting::<true>(from, to)
+        } else {
+            self.deliver_waiting::<false>(from, to)
+        };
+        delivered.map(|_| ())
     }
 
     /// The value (slot) of an agent, by its number; 0 for one that the verdict left without.
@@ -212,10 +236,14 @@ impl Network {
         if !self.has_shape() {
             return Err(Rejection::Shape);
         }
-        Ok(self.run_in_shape(rounds))
+        Ok(if self.is_quiet() {
+            self.run_in_shape::<true>(rounds)
+        } else {
+            self.run_in_shape::<false>(rounds)
+        })
     }
 
-    fn run_in_shape(&mut self, rounds: u64) -> Run {
+    fn run_in_shape<const QUIET: bool>(&mut self, rounds: u64) -> Run {
         let mut left = rounds.min(MAX_ROUNDS);
         let mut made = 0;
         let mut senders = Senders(0);
@@ -233,7 +261,7 @@ impl Network {
                 break Word::Open;
             }
             left -= 1;
-            let round = self.round(&mut senders);
+            let round = self.round::<QUIET>(&mut senders);
             made += u64::from(round.full);
             if round.faulty {
                 break Word::Faulty;
@@ -247,7 +275,7 @@ impl Network {
 
     /// One round: the channels by sender, then receiver, upward; of each as many messages as
     /// it held when the round began. It stops at a verdict and at a 9.
-    fn round(&mut self, senders: &mut Senders) -> Round {
+    fn round<const QUIET: bool>(&mut self, senders: &mut Senders) -> Round {
         let visited = *senders;
         let mut quotas = [0; MAX_AGENTS];
         for from in visited {
@@ -255,7 +283,7 @@ impl Network {
         }
         let mut round = Round { full: true, moved: false, faulty: false };
         for from in visited {
-            if self.deliver_from(from, quotas[from], senders, &mut round).is_break() {
+            if self.deliver_from::<QUIET>(from, quotas[from], senders, &mut round).is_break() {
                 round.full &= quotas[from + 1..].iter().all(|&quota| quota == 0);
                 break;
             }
@@ -266,7 +294,7 @@ impl Network {
     /// One sender's part of a round: as many messages of each of its channels as the digits of
     /// `quota` say. A channel that is refused with 10 is passed over for the rest of the round.
     #[inline(never)]
-    fn deliver_from(
+    fn deliver_from<const QUIET: bool>(
         &mut self,
         from: usize,
         mut quota: u64,
@@ -277,7 +305,7 @@ impl Network {
             let at = quota.trailing_zeros() & !3;
             let to = at as usize / 4;
             quota -= 1 << at;
-            match self.deliver_waiting(from, to) {
+            match self.deliver_waiting::<QUIET>(from, to) {
                 Ok(step) => {
                     round.moved = true;
                     if step == Step::Verdict {
@@ -303,7 +331,7 @@ impl Network {
     /// Delivers the head of a channel that is not empty, on a network in shape with no
     /// verdict. Refuses with 9 and 10 only.
     #[inline(always)]
-    fn deliver_waiting(&mut self, from: usize, to: usize) -> Result<Step, Rejection> {
+    fn deliver_waiting<const QUIET: bool>(&mut self, from: usize, to: usize) -> Result<Step, Rejection> {
         let message = self.nodes[from].out.head(to);
         let Node { agent, out } = &mut self.nodes[to];
         // A delivery sends at most one message on a channel, but two, an AddLink and a Back, where
@@ -312,12 +340,12 @@ impl Network {
         let step = if matches!(message.unpack(), Message::AddLink) && agent.informs.has(from) {
             return Err(Rejection::Linked);
         } else if out.none_is_full() {
-            match agent.receive::<false>(from, message.unpack(), out) {
+            match agent.receive::<QUIET, false>(from, message.unpack(), out) {
                 Ok(step) => step,
                 Err(Full) => unreachable!(),
             }
         } else {
-            self.nodes[to].receive_or_undo(from, message)?
+            self.nodes[to].receive_or_undo::<QUIET>(from, message)?
         };
         self.nodes[from].out.pop(to);
         if step == Step::Verdict {
@@ -331,10 +359,14 @@ impl Node {
     /// Where a channel is full: each message is checked, and the first that finds no
     /// room undoes the delivery.
     #[inline(never)]
-    fn receive_or_undo(&mut self, from: usize, message: Packed) -> Result<Step, Rejection> {
+    fn receive_or_undo<const QUIET: bool>(
+        &mut self,
+        from: usize,
+        message: Packed,
+    ) -> Result<Step, Rejection> {
         let Node { agent, out } = self;
         let before = (*agent, out.counts, out.tails);
-        agent.receive::<true>(from, message.unpack(), out).map_err(|Full| {
+        agent.receive::<QUIET, true>(from, message.unpack(), out).map_err(|Full| {
             // What was written lies in unused places.
             (*agent, out.counts, out.tails) = before;
             Rejection::Room

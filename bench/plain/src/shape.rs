@@ -10,8 +10,9 @@ impl Network {
     /// Is the network in shape?
     pub fn has_shape(&self) -> bool {
         let n = self.n;
-        // n and domains in range.
+        // n, rule and domains in range.
         if !(1..=MAX_AGENTS).contains(&n)
+            || self.rule.is_none()
             || self.domains.agents() != AgentSet::above(n)
             || !self.domains.at_most(Assignment(MAX_DOMAIN as u64 * ONES))
         {
@@ -40,7 +41,10 @@ impl Network {
         let below = AgentSet::above(self.n).minus(AgentSet::above(number + 1));
         // It holds an owned value; only under a verdict may it have none.
         let holds = agent.value <= domain && (agent.value != 0 || self.verdict);
+        // The last one that it took is owned, and the one held if one is.
+        let took = 1 <= agent.last && agent.last <= domain && (agent.value == 0 || agent.value == agent.last);
         holds
+            && took
             && agent.listens.within(AgentSet::above(number))
             && agent.informs.within(below)
             // The view names only agents listened to, with values they own.

@@ -24,6 +24,7 @@ abbrev pub agentWhole : State → List ℕ → Counts → Counts → Agent
 agentWhole s nogoods sent received =
     record {
       value = s .value;
+      last = s .last;
       stored = s .stored;
       listens = s .listens;
       informs = s .informs;

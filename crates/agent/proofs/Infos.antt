@@ -17,7 +17,7 @@ use Rattle.base.proofs.Search.{at-same, at-other, allTo-at, to-allTo}
 use Rattle.problem.specs.Problem.{maxDomain}
 use Rattle.agent_rules.specs.Message.{Assignment, known, Info as Info′}
 use Rattle.agent_rules.specs.Agent.{Self, Nogoods, above, agrees}
-use Rattle.agent_rules.specs.Choosing.{after}
+use Rattle.agent_rules.specs.Choosing.{noRefuser, after}
 use Rattle.agent_rules.specs.Receiving.{agreeing, updated, conflicts, onInfo}
 use Rattle.agent_rules.specs.Shape.{maxNamed, anyValue}
 use Rattle.packed.specs.Packed.{assignment, members}
@@ -28,6 +28,7 @@ use Rattle.agent.specs.declared.Bars.{Bars}
 use Rattle.agent.specs.declared.Own.{Own}
 use Rattle.agent.specs.declared.State.{State}
 use Rattle.agent.proofs.Barrings.{first-barring, seen as seen-bytes, barred-at-bits}
+use Rattle.agent.proofs.Telling.{no-refuser}
 use Rattle.agent.proofs.ToSet.{none-in, links-none, news-none}
 use Rattle.agent.proofs.Fits.{member-range, fits-sound}
 use Rattle.agent.proofs.Records.{nogoods-beyond}
@@ -101,7 +102,7 @@ module _ (own : Own) (words : List ℕ) (s : State) (nogoods : List ℕ) (from v
       (seen-now : assignment view ≡ at (assignment (s .view)) from v)
       (changed : (j : ℕ) → 1 ≤ j → j ≤ 16 → byteOf b j ≡ at (byteOf (s .bars)) from (barredAt (getD words (from - 1) 0) v) j) where
     abbrev now : State
-    now = record { value = s .value; stored = stored; listens = s .listens; informs = s .informs; view = view; bars = b }
+    now = record { value = s .value; last = s .last; stored = stored; listens = s .listens; informs = s .informs; view = view; bars = b }
 
     coherent : Coherent own (at (assignment (s .view)) from v) (nogoodsOf stored nogoods)
     unfolding maxDomain
@@ -123,6 +124,7 @@ module _ (own : Own) (words : List ℕ) (s : State) (nogoods : List ℕ) (from v
         let near : from ≤ pred (own .number) = omega (arith, sender .1) in
         ap₂ (λ (f : Assignment) (n : Nogoods). record {
           value = s .value;
+          last = s .last;
           listens = members (s .listens);
           informs = members (s .informs);
           view = f;
@@ -134,14 +136,14 @@ module _ (own : Own) (words : List ℕ) (s : State) (nogoods : List ℕ) (from v
 
     -- the own value is barred, or not
     taken : (chooses : Bool) → chooses ≡ conflicts (selfOf own) (bansIn words) (at (agentIn s nogoods .view) from v) (agentIn s nogoods .value)
-        → takenAs (selfOf own) (bansIn words) record { state = now; chooses = chooses; links = 0; told = 0 } nogoods
+        → takenAs (selfOf own) (bansIn words) record { state = now; chooses = chooses; links = 0; refuser = 0; told = 0 } nogoods
         ≡ onInfo (selfOf own) (bansIn words) (agentIn s nogoods) from v
-    unfolding takenAs onInfo after
+    unfolding takenAs onInfo after noRefuser
     taken true q = rw (← q, onInfo, ← is-updated, links-none)
     taken false q = rw (← q, onInfo, ← is-updated, news-none (s .value))
 
     pub takes-info : (chooses : Bool) → chooses ≡ isSome (lowest maxNamed 1 (λ k. bit (byteOf b k) (pred (s .value))))
-        → Takes own (bansIn words) record { state = now; chooses = chooses; links = 0; told = 0 } nogoods
+        → Takes own (bansIn words) record { state = now; chooses = chooses; links = 0; refuser = 0; told = 0 } nogoods
         (onInfo (selfOf own) (bansIn words) (agentIn s nogoods) from v)
     unfolding conflicts agentOf assigned maxDomain
     takes-info chooses e =
@@ -153,5 +155,6 @@ module _ (own : Own) (words : List ℕ) (s : State) (nogoods : List ℕ) (from v
           sound = record { places = h .places; coherent = rw seen-now coherent; downward = sound .downward };
           barring = rw seen-now barring;
           links = none-in _;
+          refuser = no-refuser own;
           told = none-in _;
         }

@@ -9,6 +9,7 @@ pub mod Named
 pub mod Sending
 pub mod Tallies
 pub mod Cursor
+pub mod Telling
 pub mod Steps
 pub mod Start
 pub mod Fits

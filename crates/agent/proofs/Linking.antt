@@ -18,11 +18,11 @@ use Rattle.agent.proofs.Steps.{takes-answer}
 
 abbrev withInforms : State → ℕ → State
 withInforms s m =
-    record { value = s .value; stored = s .stored; listens = s .listens; informs = m; view = s .view; bars = s .bars }
+    record { value = s .value; last = s .last; stored = s .stored; listens = s .listens; informs = m; view = s .view; bars = s .bars }
 
 pub takes-link : (own : Own) (bans : List ℕ) (s : State) (nogoods : List ℕ) (m told from : ℕ) → Handed own bans s nogoods from AddLink′
     → members m ≡ at (members (s .informs)) from true → members told ≡ at (members 0) from true
-    → Takes own (bansIn bans) record { state = withInforms s m; chooses = false; links = 0; told = told } nogoods
+    → Takes own (bansIn bans) record { state = withInforms s m; chooses = false; links = 0; refuser = 0; told = told } nogoods
     (onAddLink (agentIn s nogoods) from)
 unfolding onAddLink informing agentOf selfOf answer
 takes-link own bans s nogoods m told from h e f =

@@ -13,7 +13,7 @@ use Rattle.base.specs.Finite.{at, highest}
 use Rattle.base.proofs.Tests.{test, eq-test}
 use Rattle.base.proofs.Search.{highest-some, at-same, at-other}
 use Rattle.agent_rules.specs.Message.{Assignment, known, Post}
-use Rattle.agent_rules.specs.Agent.{Self, Bans, Nogoods, Agent, Step, above}
+use Rattle.agent_rules.specs.Agent.{Self, Bans, Nogoods, Agent, Step, withLast, above}
 use Rattle.agent_rules.specs.Choosing.{Choice, choice, infos, chosen, took, union, failed, refusing, dropIf, without, forget, after, settle}
 use Rattle.agent_rules.specs.Receiving.{keepIf}
 use Rattle.agent_rules.specs.Shape.{maxNamed}
@@ -36,37 +36,37 @@ after-after ps qs t = rw (append-assoc ps qs (t .sent))
 abbrev pub whom : Self → Nogoods → Option ℕ
 whom s nogoods = highest (above s) (λ k. known (union (s .domain) nogoods k))
 
-module _ (times : ℕ) (s : Self) (bans : Bans) (a : Agent) (ps : List Post) (new : Nogoods) where
+module _ (times : ℕ) (s : Self) (bans : Bans) (refuser : ℕ) (a : Agent) (ps : List Post) (new : Nogoods) where
   -- the turn that follows a choice
   turnOf : Choice → Step
   turnOf c =
       elim (c .value) [
-        | some v ↦ took s a v (c .nogoods)
+        | some v ↦ took s refuser a v (c .nogoods)
         | none ↦ elim (whom s (c .nogoods)) [
           | none ↦ failed a (c .nogoods)
-          | some k ↦ after (refusing k (union (s .domain) (c .nogoods)) ∷ []) (settle times s bans (forget k a (c .nogoods)))
+          | some k ↦ after (refusing k (union (s .domain) (c .nogoods)) ∷ []) (settle times s bans refuser (forget k a (c .nogoods)))
         ]
       ]
 
-  turns : (c : Choice) → choice s bans a ≡ c → settle (suc times) s bans a ≡ turnOf c
+  turns : (c : Choice) → choice s bans a ≡ c → settle (suc times) s bans refuser a ≡ turnOf c
   unfolding settle turnOf
   turns c e = ap turnOf e
 
   pub turn-took : (v : ℕ) → choice s bans a ≡ record { value = some v; nogoods = new }
-      → after ps (settle (suc times) s bans a) ≡ record { agent = chosen a v new; sent = ps ++ infos s a v; verdict = false }
+      → after ps (settle (suc times) s bans refuser a) ≡ record { agent = withLast (chosen a v new) v; sent = ps ++ infos s a refuser v; verdict = false }
   unfolding turnOf after took
   turn-took v e = ap (after ps) (turns _ e)
 
   module _ (e : choice s bans a ≡ record { value = none; nogoods = new }) where
-    pub turn-failed : whom s new ≡ none → after ps (settle (suc times) s bans a) ≡ record { agent = chosen a 0 new; sent = ps; verdict = true }
+    pub turn-failed : whom s new ≡ none → after ps (settle (suc times) s bans refuser a) ≡ record { agent = chosen a 0 new; sent = ps; verdict = true }
     unfolding turnOf after failed
     turn-failed f = ap (after ps) (turns _ e) ∙ rw (f, turnOf, append-nil ps)
 
     pub turn-back : (k : ℕ) → whom s new ≡ some k
-        → after ps (settle (suc times) s bans a) ≡ after (ps ++ (refusing k (union (s .domain) new) ∷ [])) (settle times s bans (forget k a new))
+        → after ps (settle (suc times) s bans refuser a) ≡ after (ps ++ (refusing k (union (s .domain) new) ∷ [])) (settle times s bans refuser (forget k a new))
     unfolding turnOf
     turn-back k f =
-        ap (after ps) (turns _ e) ∙ rw (f, turnOf) (after-after ps (refusing k (union (s .domain) new) ∷ []) (settle times s bans (forget k a new)))
+        ap (after ps) (turns _ e) ∙ rw (f, turnOf) (after-after ps (refusing k (union (s .domain) new) ∷ []) (settle times s bans refuser (forget k a new)))
 
 -- forgetting an agent keeps what a view without it keeps
 pub without-keeping : (k : ℕ) (o : Option Assignment) → without k o ≡ keeping k 0 o

@@ -10,8 +10,8 @@ use Rattle.base.specs.Finite.{fromOne}
 use Rattle.base.proofs.Bits.{bit-of-zero}
 use Rattle.base.proofs.Searches.{lowest-empty}
 use Rattle.agent_rules.specs.Message.{Assignment, known, nobody}
-use Rattle.agent_rules.specs.Agent.{Self, Bans, Nogoods, noNogoods, unusedAgent, above, withCounts}
-use Rattle.agent_rules.specs.Choosing.{bars, named, blame, blaming, reasonOf, reason, choose, choice, chosen, took, settle, checkView, infos}
+use Rattle.agent_rules.specs.Agent.{Self, Bans, Nogoods, noNogoods, unusedAgent, above, withLast, withCounts}
+use Rattle.agent_rules.specs.Choosing.{bars, named, blame, blaming, reasonOf, reason, choose, choice, noRefuser, chosen, took, settle, checkView, infos}
 use Rattle.agent_rules.specs.Receiving.{fresh, begin, counted}
 use Rattle.agent_rules.specs.Counts.{Sort, Infos, Backs, AddLinks, Counts as Counts′, noCounts, number, messagesIn, top, raised, counting}
 use Rattle.packed.specs.Packed.{members}
@@ -23,6 +23,7 @@ use Rattle.agent.specs.declared.Counts.{Counts}
 use Rattle.agent.specs.declared.Own.{Own}
 use Rattle.agent.specs.declared.Posts.{Posts}
 use Rattle.packed.proofs.Digits.{nobody-assigned}
+use Rattle.agent.proofs.Telling.{all-told}
 use Rattle.agent.proofs.ToSet.{none-in, links-none, news-infos}
 
 -- ---- the rule
@@ -49,18 +50,18 @@ choice-first s bans listens informs h =
     ap (λ (d : ℕ). choose d 1 s bans nobody noNogoods) e ∙ takes-first (pred (s .domain)) s bans
 
 settles-first : (n : ℕ) (s : Self) (bans : Bans) (listens informs : ℕ → Bool) → 1 ≤ s .domain
-    → settle (suc n) s bans (fresh listens informs) ≡ took s (fresh listens informs) 1 noNogoods
+    → settle (suc n) s bans noRefuser (fresh listens informs) ≡ took s noRefuser (fresh listens informs) 1 noNogoods
 unfolding settle
 settles-first n s bans listens informs h =
     let e = choice-first s bans listens informs h in rw (e, settle, e)
 
 begins : (s : Self) (bans : Bans) (listens informs : ℕ → Bool) → 1 ≤ s .number → 1 ≤ s .domain
-    → begin s bans listens informs ≡ counted (fresh listens informs) [] (took s (fresh listens informs) 1 noNogoods)
+    → begin s bans listens informs ≡ counted (fresh listens informs) [] (took s noRefuser (fresh listens informs) 1 noNogoods)
 unfolding begin checkView
 begins s bans listens informs l h =
     let e : s .number ≡ suc (pred (s .number)) = omega arith in
     ap (counted (fresh listens informs) [])
-    (ap (λ (n : ℕ). settle n s bans (fresh listens informs)) e ∙ settles-first (pred (s .number)) s bans listens informs h)
+    (ap (λ (n : ℕ). settle n s bans noRefuser (fresh listens informs)) e ∙ settles-first (pred (s .number)) s bans listens informs h)
 
 -- ---- the code's record
 
@@ -77,6 +78,7 @@ abbrev first : ℕ → ℕ → List ℕ → Counts → Agent
 first listens informs l sent =
     record {
       value = 1;
+      last = 1;
       stored = 0;
       listens = listens;
       informs = informs;
@@ -110,9 +112,11 @@ none-got = refl
 module _ (own : Own) (bans : Bans) (listens informs : ℕ) (l : List ℕ) (sent : Counts) (fits : OwnFits own) (below : Below own informs)
     (counted-news : (backs : List ℕ) → Ready (news informs) backs → (x : Sort)
     → countOf sent x ≡ raised (countOf noneCounted x) (number x (messagesIn (postsLeft (news informs) backs)))) where
-  told : newsTo 1 informs ≡ infos (selfOf own) (fresh (members listens) (members informs)) 1
+  told : newsTo 1 informs ≡ infos (selfOf own) (fresh (members listens) (members informs)) noRefuser 1
   unfolding fresh unusedAgent selfOf
-  told = news-infos (selfOf own) (fresh (members listens) (members informs)) 1 informs (fits .last) refl below
+  told =
+      news-infos (selfOf own) (fresh (members listens) (members informs)) noRefuser 1 informs (fits .last)
+      (all-told (selfOf own) (members listens) (members informs)) below
 
   ready : Ready (news informs) no-backs
   unfolding no-backs
@@ -126,7 +130,7 @@ module _ (own : Own) (bans : Bans) (listens informs : ℕ) (l : List ℕ) (sent 
         wholes = λ i h. absurd (not-suc-le-zero h);
       }
 
-  counts : countsOf sent noneCounted ≡ counting noCounts [] (infos (selfOf own) (fresh (members listens) (members informs)) 1)
+  counts : countsOf sent noneCounted ≡ counting noCounts [] (infos (selfOf own) (fresh (members listens) (members informs)) noRefuser 1)
   unfolding countsOf counting noCounts number
   counts =
       ap₂ (λ (f g : Sort → ℕ). record { sent = f; received = g })
@@ -141,13 +145,14 @@ module _ (own : Own) (bans : Bans) (listens informs : ℕ) (l : List ℕ) (sent 
         agent =
             ap₂ (λ (f : Assignment) (n : Nogoods). record {
               value = 1;
+              last = 1;
               listens = members listens;
               informs = members informs;
               view = f;
               nogoods = n;
               counts = countsOf sent noneCounted;
             }) nobody-assigned (none-stored l)
-            ∙ ap (λ (c : Counts′). withCounts (chosen (fresh (members listens) (members informs)) 1 noNogoods) c) counts;
+            ∙ ap (λ (c : Counts′). withCounts (withLast (chosen (fresh (members listens) (members informs)) 1 noNogoods) 1) c) counts;
         sent = told;
         verdict = refl;
       })

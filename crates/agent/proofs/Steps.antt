@@ -21,6 +21,7 @@ use Rattle.agent.specs.declared.Own.{Own}
 use Rattle.agent.specs.declared.State.{State}
 use Rattle.agent.specs.declared.Taken.{Taken}
 use Rattle.agent.proofs.Sending.{steps-as}
+use Rattle.agent.proofs.Telling.{no-refuser}
 use Rattle.agent.proofs.ToSet.{none-in, one-in, links-none, news-one}
 
 pub steps-quiet : (own : Own) (bans : Bans) (s : State) (nogoods backs : List ℕ) (told : ℕ) → OwnFits own → length backs ≡ 11 → Below own told
@@ -51,7 +52,7 @@ steps-quiet own bans s nogoods backs told fits long below barring =
 -- the same, left to do
 pub takes-quiet : (own : Own) (bans : Bans) (s : State) (nogoods : List ℕ) (told : ℕ) (ps : List Post′) → Sound own s nogoods
     → Barring bans (assignment (s .view)) (s .bars) → Below own told → newsTo (s .value) told ≡ ps
-    → Takes own bans record { state = s; chooses = false; links = 0; told = told } nogoods (quiet (agentIn s nogoods) ps)
+    → Takes own bans record { state = s; chooses = false; links = 0; refuser = 0; told = told } nogoods (quiet (agentIn s nogoods) ps)
 unfolding takenAs
 takes-quiet own bans s nogoods told ps sound barring below e =
     record {
@@ -59,13 +60,14 @@ takes-quiet own bans s nogoods told ps sound barring below e =
       sound = sound;
       barring = barring;
       links = none-in _;
+      refuser = no-refuser own;
       told = below;
     }
 
 -- the own value, told to one agent below
 pub takes-answer : (own : Own) (bans : Bans) (s : State) (nogoods : List ℕ) (told from : ℕ) → own .number < from → from ≤ maxAgents
     → members told ≡ at (members 0) from true → Sound own s nogoods → Barring bans (assignment (s .view)) (s .bars)
-    → Takes own bans record { state = s; chooses = false; links = 0; told = told } nogoods
+    → Takes own bans record { state = s; chooses = false; links = 0; refuser = 0; told = told } nogoods
     (quiet (agentIn s nogoods) (answer (agentIn s nogoods) from))
 unfolding answer agentOf maxAgents
 takes-answer own bans s nogoods told from l h e sound barring =
@@ -74,7 +76,7 @@ takes-answer own bans s nogoods told from l h e sound barring =
 -- ---- what is left to do, done
 
 pub chooses-step : (s : Self) (bans : Bans) (t : Taken) (nogoods : List ℕ) → t .chooses ≡ true
-    → takenAs s bans t nogoods ≡ after (linksTo (t .links)) (checkView s bans (agentIn (t .state) nogoods))
+    → takenAs s bans t nogoods ≡ after (linksTo (t .links)) (checkView s bans (t .refuser) (agentIn (t .state) nogoods))
 unfolding takenAs
 chooses-step s bans t nogoods e = rw (e, takenAs)
 

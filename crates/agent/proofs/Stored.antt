@@ -65,7 +65,7 @@ module _ (own : Own) (words : List ℕ) (s : State) (nogoods : List ℕ) (from x
   -- ---- where it does not hold
 
   pub takes-other : v ≢ s .value
-      → Takes own (bansIn words) record { state = s; chooses = false; links = 0; told = 0 } nogoods
+      → Takes own (bansIn words) record { state = s; chooses = false; links = 0; refuser = 0; told = 0 } nogoods
       (onBack (selfOf own) (bansIn words) (agentIn s nogoods) from lhs v)
   unfolding onBack holds outdated agentOf
   takes-other n =
@@ -80,7 +80,7 @@ module _ (own : Own) (words : List ℕ) (s : State) (nogoods : List ℕ) (from x
     held = rw (eq-eqb v (s .value) own-value) (sym (hears .holds))
 
     pub takes-outdated : (told : ℕ) → r .holds ≡ false → members told ≡ at (members 0) from true
-        → Takes own (bansIn words) record { state = s; chooses = false; links = 0; told = told } nogoods
+        → Takes own (bansIn words) record { state = s; chooses = false; links = 0; refuser = 0; told = told } nogoods
         (onBack (selfOf own) (bansIn words) (agentIn s nogoods) from lhs v)
     unfolding onBack outdated agentOf selfOf
     takes-outdated told q m =
@@ -95,6 +95,7 @@ module _ (own : Own) (words : List ℕ) (s : State) (nogoods : List ℕ) (from x
       now =
           record {
             value = 0;
+            last = s .last;
             stored = bitOr (s .stored) (1 * 2 ^ (v - 1) % 2 ^ 8);
             listens = bitOr (s .listens) (r .links);
             informs = s .informs;
@@ -124,6 +125,7 @@ module _ (own : Own) (words : List ℕ) (s : State) (nogoods : List ℕ) (from x
           ap₃
           (λ (l : ℕ → Bool) (f : Assignment) (n : Nogoods). record {
             value = 0;
+            last = s .last;
             listens = l;
             informs = members (s .informs);
             view = f;
@@ -141,7 +143,7 @@ module _ (own : Own) (words : List ℕ) (s : State) (nogoods : List ℕ) (from x
       above-all k lo hi e =
           upward k lo hi (both (known (lhs k)) (not (members (s .listens) k)) (sym (hears .links q k) ∙ e) .0) .0
 
-      pub takes-held : Takes own (bansIn words) record { state = now; chooses = true; links = r .links; told = 0 } words-now
+      pub takes-held : Takes own (bansIn words) record { state = now; chooses = true; links = r .links; refuser = from; told = 0 } words-now
           (onBack (selfOf own) (bansIn words) (agentIn s nogoods) from lhs v)
       unfolding takenAs onBack selfOf unheard agentOf
       takes-held =
@@ -162,5 +164,6 @@ module _ (own : Own) (words : List ℕ) (s : State) (nogoods : List ℕ) (from x
                 };
             barring = hears .barring q;
             links = above-all;
+            refuser = λ n. (h .message .0, h .message .1);
             told = none-in _;
           }

@@ -10,7 +10,7 @@ use Rattle.base.proofs.Tests.{test, eq-test}
 use Rattle.problem.specs.Problem.{maxAgents}
 use Rattle.agent_rules.specs.Message.{Assignment, Message as Message′, Info as Info′, AddLink as AddLink′}
 use Rattle.agent_rules.specs.Agent.{Self, Agent as Agent′, above}
-use Rattle.agent_rules.specs.Choosing.{infoTo, infos}
+use Rattle.agent_rules.specs.Choosing.{tells, infoTo, infos}
 use Rattle.agent_rules.specs.Receiving.{unheard, addLinkTo, addLinks}
 use Rattle.agent_rules.specs.Shape.{maxNamed, EachIn}
 use Rattle.packed.specs.Packed.{members}
@@ -50,13 +50,14 @@ news-one v m k lo hi e =
     (λ j n. rw (e, at-other (members 0) k true j n, no-members j))
     ∙ rw (e, at-same (members 0) k true)
 
--- ---- to those informed
+-- ---- to those told
 
-pub news-infos : (s : Self) (a : Agent′) (v m : ℕ) → s .number ≤ 12 → a .informs ≡ members m
-    → EachIn (members m) (λ k. (s .number < k) × (k ≤ maxAgents)) → newsTo v m ≡ infos s a v
+pub news-infos : (s : Self) (a : Agent′) (refuser v m : ℕ) → s .number ≤ 12 → ((k : ℕ) → 1 ≤ k → members m k ≡ tells s a refuser v k)
+    → EachIn (members m) (λ k. (s .number < k) × (k ≤ maxAgents)) → newsTo v m ≡ infos s a refuser v
 unfolding newsTo postsTo infos maxAgents maxNamed infoTo postIf
-news-infos s a v m last e below =
-    gather-high (s .number) 12 _ last (λ j lo hi. nothing j lo hi) ∙ gather-same (12 - s .number) (suc (s .number)) _ _ (λ j l u. same j)
+news-infos s a refuser v m last e below =
+    gather-high (s .number) 12 _ last (λ j lo hi. nothing j lo hi)
+    ∙ gather-same (12 - s .number) (suc (s .number)) _ _ (λ j l u. same j (omega arith))
   where
     nothing : (j : ℕ) → 1 ≤ j → j ≤ s .number → postIf (members m j) (Info′ v) j ≡ []
     nothing j lo hi =
@@ -64,8 +65,8 @@ news-infos s a v m last e below =
         (λ t. absurd (omega (arith, below j lo (omega arith) t .0)))
         (λ t. rw t)
 
-    same : (j : ℕ) → postIf (members m j) (Info′ v) j ≡ infoTo a v j
-    same j = test (members m j) (λ t. rw (e, t, infoTo)) (λ t. rw (e, t, infoTo))
+    same : (j : ℕ) → 1 ≤ j → postIf (members m j) (Info′ v) j ≡ infoTo s a refuser v j
+    same j l = rw (e j l) (test (tells s a refuser v j) (λ t. rw (t, infoTo)) (λ t. rw (t, infoTo)))
 
 -- ---- to those not listened to
 

@@ -15,14 +15,14 @@ use Rattle.base.specs.Finite.{at, highest}
 use Rattle.base.proofs.Tests.{eq-test}
 use Rattle.problem.specs.Problem.{maxAgents}
 use Rattle.agent_rules.specs.Message.{Assignment, known, Post as Post′}
-use Rattle.agent_rules.specs.Agent.{Bans, Nogoods, Agent as Agent′}
-use Rattle.agent_rules.specs.Choosing.{choice, chosen, union, refusing, forget, after, settle, checkView}
+use Rattle.agent_rules.specs.Agent.{Bans, Nogoods, Agent as Agent′, withLast}
+use Rattle.agent_rules.specs.Choosing.{choice, tells, chosen, union, refusing, forget, after, settle, checkView}
 use Rattle.agent_rules.specs.Shape.{maxNamed}
 use Rattle.packed.specs.Packed.{assignment, members, numberOf, maskFrom}
 use Rattle.agent.specs.Abstract.{byteOf, assigned, noneCounted, countsOf, agentOf, selfOf}
 use Rattle.agent.specs.Posting.{linksTo, newsTo, backOf, backsFrom, postsLeft, stepOf}
 use Rattle.agent.specs.Entries.{OwnFits, Above, Below, Barring, StepsAs}
-use Rattle.agent.specs.Parts.{nogoodsOf, agentIn, stepWith, Sound, valueOf, Chose, ended, keeping}
+use Rattle.agent.specs.Parts.{nogoodsOf, agentIn, stepWith, Sound, Refuser, valueOf, Chose, ended, keeping, listener}
 use Rattle.agent.specs.declared.Bars.{Bars}
 use Rattle.agent.specs.declared.Own.{Own}
 use Rattle.agent.specs.declared.State.{State}
@@ -33,26 +33,27 @@ use Rattle.agent.proofs.Spared.{spares}
 use Rattle.agent.proofs.Views.{kept-other}
 use Rattle.agent.proofs.Settling.{namedTo, named-le, named-forget, named-above, whom, refuses-nobody, refuses-one, refused-known, after-after, turn-took, turn-failed, turn-back, without-keeping}
 use Rattle.agent.proofs.Sending.{Refuses, Addressed, refuses, backs-more, steps-as}
+use Rattle.agent.proofs.Telling.{tells-below}
 use Rattle.agent.proofs.ToSet.{none-in, news-none, news-infos}
 
 -- what bans and view bar, and what is left to do
-pub record Here (own : Own) (bans : Bans) (a₀ : Agent′) (s : State) (nogoods : List ℕ) (backs : List ℕ) (count : ℕ) : Type 0 where
+pub record Here (own : Own) (bans : Bans) (refuser : ℕ) (a₀ : Agent′) (s : State) (nogoods : List ℕ) (backs : List ℕ) (count : ℕ) : Type 0 where
   pub barring : Barring bans (assignment (s .view)) (s .bars)
-  pub goes-on : checkView (selfOf own) bans a₀
-      ≡ after (backsFrom 0 count backs) (settle (own .number - count) (selfOf own) bans (agentIn s nogoods))
+  pub goes-on : checkView (selfOf own) bans refuser a₀
+      ≡ after (backsFrom 0 count backs) (settle (own .number - count) (selfOf own) bans refuser (agentIn s nogoods))
 
 -- the agents that are known and the Backs sent are together no more than the agents above, so there are turns left
-pub record Turning (own : Own) (s₀ : State) (nogoods₀ : List ℕ) (s : State) (nogoods : List ℕ) (backs : List ℕ) (count : ℕ) : Type 0 where
+pub record Turning (own : Own) (refuser : ℕ) (s₀ : State) (nogoods₀ : List ℕ) (s : State) (nogoods : List ℕ) (backs : List ℕ) (count : ℕ) : Type 0 where
   pub sound : Sound own s nogoods
   pub left : count + namedTo (own .number - 1) (assignment (s .view)) ≤ own .number - 1
   pub places : length backs ≡ 11
   pub sent : (i : ℕ) → i < count → Refuses own (getD backs i 0)
-  pub here : (bans : Bans) → Barring bans (assignment (s₀ .view)) (s₀ .bars) → Here own bans (agentIn s₀ nogoods₀) s nogoods backs count
+  pub here : (bans : Bans) → Barring bans (assignment (s₀ .view)) (s₀ .bars) → Here own bans refuser (agentIn s₀ nogoods₀) s nogoods backs count
 
-pub turn-begin : (own : Own) (s : State) (nogoods backs : List ℕ) → Sound own s nogoods → length backs ≡ 11
-    → Turning own s nogoods s nogoods backs 0
+pub turn-begin : (own : Own) (refuser : ℕ) (s : State) (nogoods backs : List ℕ) → Sound own s nogoods → length backs ≡ 11
+    → Turning own refuser s nogoods s nogoods backs 0
 unfolding checkView selfOf after backsFrom
-turn-begin own s nogoods backs sound long =
+turn-begin own refuser s nogoods backs sound long =
     let n : own .number - 0 ≡ own .number = omega arith in
     record {
       sound = sound;
@@ -62,12 +63,12 @@ turn-begin own s nogoods backs sound long =
       here = λ bans barring. record { barring = barring; goes-on = rw n };
     }
 
-abbrev withValue : State → ℕ → State
-withValue s v = record { value = v; stored = s .stored; listens = s .listens; informs = s .informs; view = s .view; bars = s .bars }
+abbrev withValue : State → ℕ → ℕ → State
+withValue s v last = record { value = v; last = last; stored = s .stored; listens = s .listens; informs = s .informs; view = s .view; bars = s .bars }
 
 abbrev withStored : State → ℕ → State
 withStored s stored =
-    record { value = s .value; stored = stored; listens = s .listens; informs = s .informs; view = s .view; bars = s .bars }
+    record { value = s .value; last = s .last; stored = stored; listens = s .listens; informs = s .informs; view = s .view; bars = s .bars }
 
 unknown-none : known 0 ≡ false
 unfolding known
@@ -83,8 +84,8 @@ value-some zero h = absurd (h refl)
 value-some (suc v) h = refl
 
 -- a turn: what choosing came to
-module _ (own : Own) (fits : OwnFits own) (s₀ : State) (nogoods₀ : List ℕ) (s : State) (nogoods backs : List ℕ) (count : ℕ)
-    (t : Turning own s₀ nogoods₀ s nogoods backs count) (v stored : ℕ) (new : List ℕ)
+module _ (own : Own) (fits : OwnFits own) (refuser : ℕ) (s₀ : State) (nogoods₀ : List ℕ) (s : State) (nogoods backs : List ℕ) (count : ℕ)
+    (t : Turning own refuser s₀ nogoods₀ s nogoods backs count) (v stored : ℕ) (new : List ℕ)
     (c : Chose own (assignment (s .view)) (s .bars) (nogoodsOf (s .stored) nogoods) v (nogoodsOf stored new)) where
   -- there are turns left
   times : own .number - count ≡ suc (own .number - count - 1)
@@ -101,71 +102,79 @@ module _ (own : Own) (fits : OwnFits own) (s₀ : State) (nogoods₀ : List ℕ)
   -- ---- the turns that end
 
   module _ (links : ℕ) (up : Above own links) (bans : Bans) (barring : Barring bans (assignment (s₀ .view)) (s₀ .bars)) where
-    here : Here own bans (agentIn s₀ nogoods₀) s nogoods backs count
+    here : Here own bans refuser (agentIn s₀ nogoods₀) s nogoods backs count
     here = t .here bans barring
 
-    goes : after (linksTo links) (checkView (selfOf own) bans (agentIn s₀ nogoods₀))
-        ≡ after (linksTo links ++ backsFrom 0 count backs) (settle (suc (own .number - count - 1)) (selfOf own) bans (agentIn s nogoods))
+    goes : after (linksTo links) (checkView (selfOf own) bans refuser (agentIn s₀ nogoods₀))
+        ≡ after (linksTo links ++ backsFrom 0 count backs) (settle (suc (own .number - count - 1)) (selfOf own) bans refuser (agentIn s nogoods))
     goes =
         ap (after (linksTo links)) (rw times at (here .goes-on))
-        ∙ after-after (linksTo links) (backsFrom 0 count backs) (settle (suc (own .number - count - 1)) (selfOf own) bans (agentIn s nogoods))
+        ∙ after-after (linksTo links) (backsFrom 0 count backs) (settle (suc (own .number - count - 1)) (selfOf own) bans refuser (agentIn s nogoods))
 
     addressed : (told : ℕ) → Below own told → Addressed own record { links = links; told = told; value = v; next = 0; count = count } backs
     addressed told down = record { links = up; told = down; next = refl; few = few; places = t .places; wholes = t .sent }
 
     -- what is sent, where choosing comes to an end
-    ends : (told : ℕ) (verdict : Bool) (sent : List Post′) → Below own told → newsTo v told ≡ sent
-        → after (linksTo links) (checkView (selfOf own) bans (agentIn s₀ nogoods₀))
+    ends : (told last : ℕ) (verdict : Bool) (sent : List Post′) → Below own told → newsTo v told ≡ sent
+        → after (linksTo links) (checkView (selfOf own) bans refuser (agentIn s₀ nogoods₀))
         ≡ record {
-          agent = chosen (agentIn s nogoods) v (nogoodsOf stored new);
+          agent = withLast (chosen (agentIn s nogoods) v (nogoodsOf stored new)) last;
           sent = linksTo links ++ backsFrom 0 count backs ++ sent;
           verdict = verdict;
         }
         → StepsAs own bans
         (stepWith
         record {
-          state = withValue (withStored s stored) v;
+          state = withValue (withStored s stored) v last;
           posts = record { links = links; told = told; value = v; next = 0; count = count };
           verdict = verdict;
         }
         new backs)
-        (after (linksTo links) (checkView (selfOf own) bans (agentIn s₀ nogoods₀)))
+        (after (linksTo links) (checkView (selfOf own) bans refuser (agentIn s₀ nogoods₀)))
     unfolding stepOf postsLeft agentOf assigned chosen nogoodsOf
-    ends told verdict sent down e is =
+    ends told last verdict sent down e is =
         steps-as own bans _ _ fits (addressed told down)
         (ap (λ (l : List Post′). record {
-          agent = chosen (agentIn s nogoods) v (nogoodsOf stored new);
+          agent = withLast (chosen (agentIn s nogoods) v (nogoodsOf stored new)) last;
           sent = linksTo links ++ backsFrom 0 count backs ++ l;
           verdict = verdict;
         }) e ∙ sym is)
         (here .barring)
 
-    pub took-step : v ≢ 0
-        → StepsAs own bans (stepWith (ended (withStored s stored) v links count) new backs)
-        (after (linksTo links) (checkView (selfOf own) bans (agentIn s₀ nogoods₀)))
-    unfolding agentOf selfOf
-    took-step h =
+    pub took-step : v ≢ 0 → Refuser own refuser → (told : ℕ)
+        → ((k : ℕ) → 1 ≤ k → members told k ≡ tells (selfOf own) (listener (withStored s stored)) refuser v k)
+        → StepsAs own bans (stepWith (ended (withStored s stored) v told links count) new backs)
+        (after (linksTo links) (checkView (selfOf own) bans refuser (agentIn s₀ nogoods₀)))
+    unfolding tells agentOf selfOf
+    took-step h below told e =
         let k : known v ≡ true = known-from v (omega (arith, h)) in
+        let down : Below own told = tells-below own (withStored s stored) refuser v told (t .sound .downward) below e in
         rw k
-        (ends (s .informs) false _ (t .sound .downward)
-        (news-infos (selfOf own) (agentIn s nogoods) v (s .informs) (fits .last) refl (t .sound .downward))
-        (goes ∙ turn-took (own .number - count - 1) (selfOf own) bans (agentIn s nogoods) (linksTo links ++ backsFrom 0 count backs) (nogoodsOf stored new) v
-        (rw (value-some v h) at (chooses bans (here .barring)))))
+        (ends told v false _ down (news-infos (selfOf own) (agentIn s nogoods) refuser v told (fits .last) e down)
+        (goes
+        ∙ turn-took (own .number - count - 1) (selfOf own) bans refuser (agentIn s nogoods) (linksTo links ++ backsFrom 0 count backs) (nogoodsOf stored new)
+        v (rw (value-some v h) at (chooses bans (here .barring)))))
 
     pub failed-step : v ≡ 0 → whom (selfOf own) (nogoodsOf stored new) ≡ none
-        → StepsAs own bans (stepWith (ended (withStored s stored) 0 links count) new backs)
-        (after (linksTo links) (checkView (selfOf own) bans (agentIn s₀ nogoods₀)))
+        → StepsAs own bans (stepWith (ended (withStored s stored) 0 0 links count) new backs)
+        (after (linksTo links) (checkView (selfOf own) bans refuser (agentIn s₀ nogoods₀)))
+    unfolding chosen agentOf
     failed-step z e =
         subst
         (λ (w : ℕ).
-        StepsAs own bans (stepWith (ended (withStored s stored) w links count) new backs)
-        (after (linksTo links) (checkView (selfOf own) bans (agentIn s₀ nogoods₀))))
+        StepsAs own bans (stepWith (ended (withStored s stored) w 0 links count) new backs)
+        (after (linksTo links) (checkView (selfOf own) bans refuser (agentIn s₀ nogoods₀))))
         z
         (rw (ap known z ∙ unknown-none)
-        (ends 0 true [] (none-in (λ k. (own .number < k) × (k ≤ maxAgents))) (news-none v)
-        (goes ∙ turn-failed (own .number - count - 1) (selfOf own) bans (agentIn s nogoods) (linksTo links ++ backsFrom 0 count backs) (nogoodsOf stored new)
+        (ends 0 (s .last) true [] (none-in (λ k. (own .number < k) × (k ≤ maxAgents))) (news-none v)
+        (goes
+        ∙ turn-failed (own .number - count - 1) (selfOf own) bans refuser (agentIn s nogoods) (linksTo links ++ backsFrom 0 count backs) (nogoodsOf stored new)
         (chooses bans (here .barring) ∙ ap (λ (o : Option ℕ). record { value = o; nogoods = nogoodsOf stored new }) (ap valueOf z ∙ value-none)) e
-        ∙ ap₂ (λ (w : ℕ) (l : List Post′). record { agent = chosen (agentIn s nogoods) w (nogoodsOf stored new); sent = l; verdict = true }) (sym z)
+        ∙ ap₂ (λ (w : ℕ) (l : List Post′). record {
+          agent = withLast (chosen (agentIn s nogoods) w (nogoodsOf stored new)) (s .last);
+          sent = l;
+          verdict = true;
+        }) (sym z)
         (sym (append-nil (linksTo links ++ backsFrom 0 count backs))))))
 
   -- ---- a turn that refuses
@@ -212,7 +221,7 @@ module _ (own : Own) (fits : OwnFits own) (s₀ : State) (nogoods₀ : List ℕ)
           (changed : (j : ℕ) → 1 ≤ j → j ≤ 16 → byteOf b j ≡ at (byteOf (s .bars)) k 0 j) where
         abbrev next : State
         next =
-            record { value = s .value; stored = bitAnd stored mask; listens = s .listens; informs = s .informs; view = view; bars = b }
+            record { value = s .value; last = s .last; stored = bitAnd stored mask; listens = s .listens; informs = s .informs; view = view; bars = b }
 
         kept : nogoodsOf (bitAnd stored mask) new ≡ (λ w. keeping k 0 (nogoodsOf stored new w))
         kept =
@@ -224,6 +233,7 @@ module _ (own : Own) (fits : OwnFits own) (s₀ : State) (nogoods₀ : List ℕ)
         forgets =
             ap₂ (λ (f : Assignment) (n : Nogoods). record {
               value = s .value;
+              last = s .last;
               listens = members (s .listens);
               informs = members (s .informs);
               view = f;
@@ -232,7 +242,7 @@ module _ (own : Own) (fits : OwnFits own) (s₀ : State) (nogoods₀ : List ℕ)
             }) seen-now (kept ∙ fun-ext λ w. sym (without-keeping k (nogoodsOf stored new w)))
 
         next-here : (bans : Bans) → Barring bans (assignment (s₀ .view)) (s₀ .bars)
-            → Here own bans (agentIn s₀ nogoods₀) next new (set backs count whole) (count + 1)
+            → Here own bans refuser (agentIn s₀ nogoods₀) next new (set backs count whole) (count + 1)
         unfolding selfOf
         next-here bans barring =
             let h = t .here bans barring in
@@ -244,12 +254,12 @@ module _ (own : Own) (fits : OwnFits own) (s₀ : State) (nogoods₀ : List ℕ)
               goes-on =
                   rw (backs-more count backs whole (omega (arith, room, t .places)), the-post, n, forgets)
                   ((rw times at (h .goes-on))
-                  ∙ turn-back (own .number - count - 1) (selfOf own) bans (agentIn s nogoods) (backsFrom 0 count backs) (nogoodsOf stored new)
+                  ∙ turn-back (own .number - count - 1) (selfOf own) bans refuser (agentIn s nogoods) (backsFrom 0 count backs) (nogoodsOf stored new)
                   (chooses bans (h .barring) ∙ ap (λ (o : Option ℕ). record { value = o; nogoods = nogoodsOf stored new }) (ap valueOf none-free ∙ value-none))
                   k (refuses-one own fits (assignment (s .view)) (nogoodsOf stored new) (c .coherent) k top one));
             }
 
-        pub next-turn : whole < 2 ^ 64 → length new ≡ 8 → Turning own s₀ nogoods₀ next new (set backs count whole) (count + 1)
+        pub next-turn : whole < 2 ^ 64 → length new ≡ 8 → Turning own refuser s₀ nogoods₀ next new (set backs count whole) (count + 1)
         unfolding known
         next-turn small long =
             record {

@@ -13,7 +13,7 @@ use Rattle.agent_facts.proofs.Uncounted.{react-uncounted}
 -- a record in shape, and a message that fits it
 pub fits-recounted : (owns : ℕ → ℕ → Bool) (s : Self) (a : Agent) (c : Counts) → RecordFits owns s a → RecordFits owns s (withCounts a c)
 fits-recounted owns s a c f =
-    record { valued = f .valued; upward = f .upward; downward = f .downward; viewed = f .viewed; agreed = f .agreed }
+    record { valued = f .valued; kept = f .kept; upward = f .upward; downward = f .downward; viewed = f .viewed; agreed = f .agreed }
 
 pub message-recounted : (owns : ℕ → ℕ → Bool) (s : Self) (a : Agent) (c : Counts) (from : ℕ) (m : Message) → MessageFits owns s a from m
     → MessageFits owns s (withCounts a c) from m

@@ -65,6 +65,7 @@ unfoldable pub agentOf : Agent → Agent′
 agentOf a =
     record {
       value = a .value;
+      last = a .last;
       listens = members (a .listens);
       informs = members (a .informs);
       view = assigned (a .view);
@@ -73,7 +74,7 @@ agentOf a =
     }
 
 unfoldable pub selfOf : Own → Self
-selfOf o = record { number = o .number; domain = o .domain }
+selfOf o = record { number = o .number; domain = o .domain; rule = o .rule }
 
 -- the bans that name an agent: a word for each agent above it, bit 8 * (its value - 1) + own value - 1
 unfoldable pub bansIn : List ℕ → Bans

@@ -1,6 +1,7 @@
 -- What the parts of an agent's code compute or need, where the rules have no name for it. A primed name is the definitions'.
 use Prim.Native.Nat.{ℕ, zero, suc, pred, _*_, _-_, _/_, _%_, _^_, _≤_, _<_}
 use mathlib.Core.Path.{_≡_}
+use mathlib.Core.Logic.{_≢_}
 use mathlib.Core.Bool.{Bool, true, false, not, cond, _||_}
 use mathlib.Core.Option.{Option, none, some}
 use mathlib.Core.List.{List, []}
@@ -8,16 +9,16 @@ use lib.Dec.{eqb}
 use lib.ListN.{length}
 use Rattle.base.specs.Finite.{fromOne, allTo, isSome, lowest}
 use Rattle.base.specs.Bits.{bit}
-use Rattle.problem.specs.Problem.{maxDomain}
+use Rattle.problem.specs.Problem.{maxAgents, maxDomain}
 use Rattle.agent_rules.specs.Message.{Assignment, known, Message as Message′}
 use Rattle.agent_rules.specs.Agent.{Self, Bans, Nogoods, Agent as Agent′, Step as Step′, above}
-use Rattle.agent_rules.specs.Choosing.{blame, choose, after, checkView}
+use Rattle.agent_rules.specs.Choosing.{blame, choose, noRefuser, after, checkView}
 use Rattle.agent_rules.specs.Receiving.{keepIf, quiet, matches, unheard}
 use Rattle.agent_rules.specs.Shape.{maxNamed, EachNamed, RecordFits, MessageFits, anyValue}
 use Rattle.packed.specs.Packed.{assignment, members}
 use Rattle.agent.specs.Abstract.{nogoodAt, noneCounted, agentOf, selfOf, bansIn, byteOf}
 use Rattle.agent.specs.Posting.{linksTo, newsTo}
-use Rattle.agent.specs.Entries.{OwnFits, Able, ViewFits, Above, Below, Barring}
+use Rattle.agent.specs.Entries.{Able, ViewFits, Above, Below, Barring}
 use Rattle.agent.specs.declared.Agent.{Agent}
 use Rattle.agent.specs.declared.Bars.{Bars}
 use Rattle.agent.specs.declared.Own.{Own}
@@ -41,6 +42,7 @@ abbrev pub apart : Agent → Bars → State
 apart a b =
     record {
       value = a .value;
+      last = a .last;
       stored = a .stored;
       listens = a .listens;
       informs = a .informs;
@@ -53,6 +55,7 @@ abbrev pub agentWith : State → List ℕ → Agent
 agentWith s nogoods =
     record {
       value = s .value;
+      last = s .last;
       stored = s .stored;
       listens = s .listens;
       informs = s .informs;
@@ -93,6 +96,10 @@ pub record Sound (own : Own) (s : State) (nogoods : List ℕ) : Type 0 where
   pub coherent : Coherent own (assignment (s .view)) (nogoodsOf (s .stored) nogoods)
   pub downward : Below own (s .informs)
 
+-- the agent whose refusal is being worked, if there is one, is below
+abbrev pub Refuser : Own → ℕ → Type 0
+Refuser own refuser = refuser ≢ noRefuser → (own .number < refuser) × (refuser ≤ maxAgents)
+
 -- ---- choosing
 
 -- own value v has no stored reason, and no byte bars it
@@ -127,20 +134,21 @@ pub record Chose (own : Own) (view : Assignment) (b : Bars) (old : Nogoods) (v :
   pub choice : (bans : Bans) → Barring bans view b
       → choose (own .domain) 1 (selfOf own) bans view old ≡ record { value = valueOf v; nogoods = new }
 
--- the step that ends with value v, 0 for the verdict
-abbrev pub ended : State → ℕ → ℕ → ℕ → Done
-ended s v links count =
+-- the step that ends with value v, told to the agents of a set; 0 for the verdict
+abbrev pub ended : State → ℕ → ℕ → ℕ → ℕ → Done
+ended s v told links count =
     record {
       state =
           record {
             value = v;
+            last = cond (known v) v (s .last);
             stored = s .stored;
             listens = s .listens;
             informs = s .informs;
             view = s .view;
             bars = s .bars;
           };
-      posts = record { links = links; told = cond (known v) (s .informs) 0; value = v; next = 0; count = count };
+      posts = record { links = links; told = told; value = v; next = 0; count = count };
       verdict = not (known v);
     }
 
@@ -180,7 +188,7 @@ pub record Handed (own : Own) (bans : List ℕ) (s : State) (nogoods : List ℕ)
 unfoldable pub takenAs : Self → Bans → Taken → List ℕ → Step′
 takenAs s bans t nogoods =
     elim (t .chooses) [
-      | true ↦ after (linksTo (t .links)) (checkView s bans (agentIn (t .state) nogoods))
+      | true ↦ after (linksTo (t .links)) (checkView s bans (t .refuser) (agentIn (t .state) nogoods))
       | false ↦ quiet (agentIn (t .state) nogoods) (newsTo (t .state .value) (t .told))
     ]
 
@@ -190,4 +198,5 @@ pub record Takes (own : Own) (bans : Bans) (t : Taken) (nogoods : List ℕ) (ste
   pub sound : Sound own (t .state) nogoods
   pub barring : Barring bans (assignment (t .state .view)) (t .state .bars)
   pub links : Above own (t .links)
+  pub refuser : Refuser own (t .refuser)
   pub told : Below own (t .told)

@@ -8,18 +8,19 @@ ghost use Rattle.base.specs.Bits.{bit};
 ghost use Rattle.base.specs.Finite.{lowest, isSome};
 ghost use Rattle.agent_rules.specs.Agent.{Bans};
 ghost use Rattle.agent_rules.specs.Message.{known};
-ghost use Rattle.agent_rules.specs.Choosing.{lhsOf, union, after, checkView};
+ghost use Rattle.agent_rules.specs.Choosing.{lhsOf, union, tells, after, checkView};
 ghost use Rattle.agent_rules.specs.Receiving.{quiet};
 ghost use Rattle.agent_rules.specs.Shape.{maxNamed};
-ghost use Rattle.packed.specs.Packed.{assignment, maskFrom};
+ghost use Rattle.packed.specs.Packed.{assignment, members, maskFrom};
 ghost use Rattle.agent.specs.Abstract.{byteOf, selfOf};
 ghost use Rattle.agent.specs.Posting.{linksTo, newsTo};
 ghost use Rattle.agent.specs.Entries.{OwnFits, Above, Below, Barring, StepsAs};
-ghost use Rattle.agent.specs.Parts.{nogoodsOf, agentIn, stepWith, Coherent, Sound, leftFree, Barred, Blames, Reasoned, Chose, ended};
+ghost use Rattle.agent.specs.Parts.{nogoodsOf, agentIn, listener, stepWith, Coherent, Sound, Refuser, leftFree, Barred, Blames, Reasoned, Chose, ended};
 use crate::Bars;
 use crate::Own;
 use crate::Posts;
 use crate::State;
+use packed::add;
 use packed::digit;
 use packed::last_digit;
 use packed::with_digit;
@@ -178,15 +179,33 @@ impl State {
         }
     }
 
-    // The value taken: "News of it goes to all that it informs, even if the slot is the old one". None, 0: the verdict falls, and nobody is told.
-    fn ending(self, value: u8, links: u16, count: u8) -> Done
-        ensures { λ r. ⌜ r ≡ ended self value links count ⌝ }
+    // The set of those that get the news of a value. Rule 1: "all that it informs, even if the slot is the old one". Rule 2: nobody where the
+    // value is the last that it took; but the agent whose refusal is being worked, if there is one, in any case.
+    fn tells(self, own: Own, refuser: u8, value: u8) -> u16
+        requires { ⌜ refuser ≤ 16 ⌝ }
+        ensures { λ r. ⌜ ((k : ℕ) → 1 ≤ k → members r k ≡ tells (selfOf own) (listener self) refuser value k) ⌝ }
+    {
+        if own.rule != 2 {
+            return self.informs;
+        }
+        let mut told: u16 = 0;
+        if value != self.last {
+            told = self.informs;
+        }
+        if refuser != 0 {
+            told = add(told, refuser);
+        }
+        told
+    }
+
+    // The value taken, which is the last one taken from now on, with whom it is told. None, 0: the verdict falls, and the last one taken stays.
+    fn ending(self, value: u8, told: u16, links: u16, count: u8) -> Done
+        ensures { λ r. ⌜ r ≡ ended self value told links count ⌝ }
     {
         let mut s = self;
         s.value = value;
-        let mut told: u16 = 0;
         if value != 0 {
-            told = self.informs;
+            s.last = value;
         }
         let posts = Posts {
             links: links,
@@ -204,19 +223,22 @@ impl State {
 
     // Choosing, with backing up: "Where no slot is free, all left sides are joined. .. Otherwise the highest-numbered scanner in the join gets a refusal ..
     // The sender sets that scanner to unknown, drops every reason that names it, and chooses again, until a slot is taken." The Backs are put into `backs`,
-    // each as the whole nogood. Link requests to the agents of the set `links` are sent before.
+    // each as the whole nogood. Link requests to the agents of the set `links` are sent before. `refuser` is the agent whose refusal is being
+    // worked, 0 where none is: it stays the same throughout.
     pub(crate) fn settle(
         self,
         own: Own,
         nogoods: &mut [u64; 8],
         backs: &mut [u64; 11],
         links: u16,
+        refuser: u8,
     ) -> Done
         requires { ⌜ OwnFits own ⌝ }
         requires { ⌜ Sound own self (now nogoods) ⌝ }
         requires { ⌜ length (now backs) ≡ 11 ⌝ }
         requires { ⌜ Above own links ⌝ }
-        ensures { λ r. ⌜ ((bans : Bans) → Barring bans (assignment (self .view)) (self .bars) → StepsAs own bans (stepWith r (now (nogoods .exit)) (now (backs .exit))) (after (linksTo links) (checkView (selfOf own) bans (agentIn self (now (nogoods .entry)))))) ⌝ }
+        requires { ⌜ Refuser own refuser ⌝ }
+        ensures { λ r. ⌜ ((bans : Bans) → Barring bans (assignment (self .view)) (self .bars) → StepsAs own bans (stepWith r (now (nogoods .exit)) (now (backs .exit))) (after (linksTo links) (checkView (selfOf own) bans refuser (agentIn self (now (nogoods .entry)))))) ⌝ }
     {
         let mut s = self;
         let mut count: u8 = 0;
@@ -225,11 +247,12 @@ impl State {
             let c = choose(nogoods, own, s.view, bars, s.stored);
             s.stored = c.stored;
             if c.value != 0 {
-                return s.ending(c.value, links, count);
+                let told = s.tells(own, refuser, c.value);
+                return s.ending(c.value, told, links, count);
             }
             let k = last_digit(c.whole);
             if k == 0 {
-                return s.ending(0, links, count);
+                return s.ending(0, 0, links, count);
             }
             backs[count as usize] = c.whole;
             count += 1;

@@ -43,9 +43,11 @@ pub struct Counts {
 }
 
 // Bit k - 1 of `listens` and `informs` is agent k. Bit v - 1 of `stored` says whether own value v has a stored reason (nogood): the left side
-// whose digits stand at place v - 1 of `nogoods`. An empty left side is a reason too. The messages that it sent and received are counted.
+// whose digits stand at place v - 1 of `nogoods`. An empty left side is a reason too. `last` is the last value that it took, whether it still
+// holds it or not. The messages that it sent and received are counted.
 pub struct Agent {
     pub value: u8,
+    pub last: u8,
     pub stored: u8,
     pub listens: u16,
     pub informs: u16,
@@ -55,10 +57,11 @@ pub struct Agent {
     pub received: Counts,
 }
 
-// An agent's number and domain (slot count).
+// An agent's number and domain (slot count), and the network's rule.
 pub struct Own {
     pub number: u8,
     pub domain: u8,
+    pub rule: u8,
 }
 
 // What an agent's view bars, worked out from the view and the bans: bit w - 1 of byte k - 1 says that agent k has a known value that bans own
@@ -97,6 +100,7 @@ pub struct Step {
 // An agent taken apart: all of it but the words of its nogoods, with what its view bars.
 struct State {
     pub value: u8,
+    pub last: u8,
     pub stored: u8,
     pub listens: u16,
     pub informs: u16,
@@ -104,12 +108,13 @@ struct State {
     pub bars: Bars,
 }
 
-// An agent with a message taken in. Either it has to choose, after link requests to the agents of the set `links`; or it is done, with an Info of its value
-// to the agents of the set `told`.
+// An agent with a message taken in. Either it has to choose, after link requests to the agents of the set `links`, `refuser` being the agent
+// whose refusal is worked, 0 where none is; or it is done, with an Info of its value to the agents of the set `told`.
 struct Taken {
     pub state: State,
     pub chooses: bool,
     pub links: u16,
+    pub refuser: u8,
     pub told: u16,
 }
 
@@ -120,6 +125,7 @@ impl Agent {
     {
         State {
             value: self.value,
+            last: self.last,
             stored: self.stored,
             listens: self.listens,
             informs: self.informs,
@@ -156,7 +162,7 @@ impl Agent {
         let state = t.state;
         let mut done = state.telling(t.told);
         if t.chooses {
-            done = state.settle(own, &mut nogoods, &mut backs, t.links);
+            done = state.settle(own, &mut nogoods, &mut backs, t.links, t.refuser);
         }
         let end = done.state;
         let now = end.bars;
@@ -165,6 +171,7 @@ impl Agent {
         Step {
             agent: Agent {
                 value: end.value,
+                last: end.last,
                 stored: end.stored,
                 listens: end.listens,
                 informs: end.informs,
@@ -181,7 +188,7 @@ impl Agent {
     }
 
     // The start: "All views are unknown, and each scanner chooses." Nothing is known, so nothing is barred, the lowest value is free, and an Info of it goes
-    // to all that are informed.
+    // to all that are informed, under either rule: no value was taken before.
     pub fn begin(own: Own, listens: u16, informs: u16) -> Agent
         requires { ⌜ OwnFits own ⌝ }
         requires { ⌜ Below own informs ⌝ }
@@ -201,6 +208,7 @@ impl Agent {
         };
         Agent {
             value: 1,
+            last: 1,
             stored: 0,
             listens: listens,
             informs: informs,

@@ -33,12 +33,13 @@ struct Heard {
 impl State {
     // The agent as it is need not choose, and tells its value to the agents of a set.
     fn done(self, told: u16) -> Taken
-        ensures { λ r. ⌜ r ≡ (record { state = self; chooses = false; links = 0; told = told }) ⌝ }
+        ensures { λ r. ⌜ r ≡ (record { state = self; chooses = false; links = 0; refuser = 0; told = told }) ⌝ }
     {
         Taken {
             state: self,
             chooses: false,
             links: 0,
+            refuser: 0,
             told: told,
         }
     }
@@ -69,6 +70,7 @@ impl State {
             state: s,
             chooses: now.bars(self.value),
             links: 0,
+            refuser: 0,
             told: 0,
         }
     }
@@ -142,6 +144,7 @@ impl State {
         let bars = h.bars;
         let state = State {
             value: 0,
+            last: self.last,
             stored: self.stored | place,
             listens: self.listens | h.links,
             informs: self.informs,
@@ -152,6 +155,7 @@ impl State {
             state: state,
             chooses: true,
             links: h.links,
+            refuser: from,
             told: 0,
         }
     }

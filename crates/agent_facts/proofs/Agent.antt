@@ -8,7 +8,7 @@ use Rattle.agent_rules.specs.Message.{Assignment, Message, Info, Back, AddLink}
 use Rattle.agent_rules.specs.Agent.{Self, Bans, Agent, unusedAgent}
 use Rattle.agent_rules.specs.Receiving.{quiet, informing, onAddLink, receive, begin, react, counted, fresh}
 use Rattle.agent_rules.specs.Sorts.{IsBack}
-use Rattle.agent_rules.specs.Choosing.{checkView}
+use Rattle.agent_rules.specs.Choosing.{noRefuser, checkView}
 use Rattle.agent_facts.specs.Facts.{Setting, Good, Handed, Facts, AgentFacts}
 use Rattle.agent_facts.proofs.Posts.{answer-sent, answer-some}
 use Rattle.agent_facts.proofs.Links.{react-links}
@@ -26,6 +26,7 @@ add-link-facts S s bans a from G =
       good = record {
         low = G .low;
         high = G .high;
+        kept = G .kept;
         free = G .free;
         fresh = G .fresh;
         agree = G .agree;
@@ -73,5 +74,5 @@ agent-facts =
       runs = λ S s bans a from m problem heard G z. facts-counted a _ _ (react-facts S s bans a from m problem heard G z);
       ends = λ S s bans a from m problem heard G z. react-ends S s bans a from m problem heard G z;
       begins = λ s bans listens informs l d. begun-counted (fresh listens informs) _ _ (first-facts s bans listens informs l d);
-      starts = λ s bans listens informs. step-counted (fresh listens informs) [] (checkView s bans (fresh listens informs));
+      starts = λ s bans listens informs. step-counted (fresh listens informs) [] (checkView s bans noRefuser (fresh listens informs));
     }

@@ -70,7 +70,7 @@ module _ (S : Assignment → Type 0) (s : Self) (bans : Bans) (a : Agent) (from 
       go (nothing e _) = rw e
       go (once e _ _) = rw e
 
-  back-chooses : holds s a lhs v ≡ true → (t : Step) → ValueTaken S s bans (accepting a lhs v) t → SameLinks (accepting a lhs v) t
+  back-chooses : holds s a lhs v ≡ true → (t : Step) → ValueTaken S s bans from (accepting a lhs v) t → SameLinks (accepting a lhs v) t
       → Facts S s bans a from (Back lhs v) (after (addLinks s a lhs) t)
   unfolding after accepting unheard isSome
   back-chooses c t T L =
@@ -90,10 +90,13 @@ module _ (S : Assignment → Type 0) (s : Self) (bans : Bans) (a : Agent) (from 
               rw (split y)
               (All-append _ (sentTo y (addLinks s a lhs)) (sentTo y (t .sent))
               (gets-all (requests-get s a lhs y) (Sends S a from (Back lhs v) (after (addLinks s a lhs) t) y) (λ _ _. tt))
-              (taken-sends S a (accepting a lhs v) from (Back lhs v) (after (addLinks s a lhs) t)
+              (taken-sends S from a (accepting a lhs v) from (Back lhs v) (after (addLinks s a lhs) t) (λ y e _. (e, tt))
               (λ x. refl) refl (L .listens) y (sentTo y (t .sent)) (T .sent y)));
           tells = λ y l h i.
-              inl (λ u. rw (split y, seen-append u (sentTo y (addLinks s a lhs)) (sentTo y (t .sent)), links-told u y) (T .tells y l h i u));
+              ⊎-elim
+              (λ told. inl (λ u. told-too y u ∙ told u))
+              (λ (same, none, other). inr (same ∙ G .kept, (λ u. told-too y u ∙ none u), other))
+              (T .tells y l h i);
           grows = λ _ none-back.
               let g = T .grows (λ y. All-right _ (sentTo y (addLinks s a lhs)) _ (rw (split y) at (none-back y))) in (
                 (λ w h. g w
@@ -106,6 +109,9 @@ module _ (S : Assignment → Type 0) (s : Self) (bans : Bans) (a : Agent) (from 
     where
       split : (y : ℕ) → sentTo y (addLinks s a lhs ++ t .sent) ≡ sentTo y (addLinks s a lhs) ++ sentTo y (t .sent)
       split y = sentTo-append y (addLinks s a lhs) (t .sent)
+
+      told-too : (y u : ℕ) → seen u (sentTo y (addLinks s a lhs ++ t .sent)) ≡ seen u (sentTo y (t .sent))
+      told-too y u = rw (split y, seen-append u (sentTo y (addLinks s a lhs)) (sentTo y (t .sent)), links-told u y)
 
   -- ---- it does not hold
 
@@ -138,9 +144,9 @@ module _ (S : Assignment → Type 0) (s : Self) (bans : Bans) (a : Agent) (from 
   back-facts z =
       test (holds s a lhs v)
       (λ c. rw (c, onBack)
-      (back-chooses c (checkView s bans (accepting a lhs v))
-      (checks S s bans problem (accepting a lhs v) (accepting-ready c) .taken (rw (c, onBack) at z))
-      (check-same s bans (accepting a lhs v))))
+      (back-chooses c (checkView s bans from (accepting a lhs v))
+      (checks S s bans problem from (accepting a lhs v) (accepting-ready c) .taken (rw (c, onBack) at z))
+      (check-same s bans from (accepting a lhs v))))
       (λ c. rw (c, onBack)
       (test (eqb v (a .value))
       (λ h. rw (h, outdated)
@@ -151,5 +157,5 @@ module _ (S : Assignment → Type 0) (s : Self) (bans : Bans) (a : Agent) (from 
   unfolding onBack outdated quiet after
   back-ends z =
       test (holds s a lhs v)
-      (λ c. checks S s bans problem (accepting a lhs v) (accepting-ready c) .hopeless (rw (c, onBack) at z))
+      (λ c. checks S s bans problem from (accepting a lhs v) (accepting-ready c) .hopeless (rw (c, onBack) at z))
       (λ c. absurd (false≢true (rw (c, onBack) at z)))

@@ -1,7 +1,7 @@
 -- Choosing, with backing up, from a record with sound nogoods. No verdict: the record is good, and what is sent is as the facts want it. A
 -- verdict: no assignment counts. One induction over `settle`; each time one agent more is unknown, so its bound is never used up.
 use mathlib.Core.Path.{_≡_, refl, sym, ap, _∙_}
-use mathlib.Core.Logic.{_⊎_, inl, inr, ⊎-elim}
+use mathlib.Core.Logic.{_≢_, _⊎_, inl, inr, ⊎-elim}
 use mathlib.Core.List.{List, [], _∷_}
 use mathlib.Core.Bool.{true, false, false≢true}
 use mathlib.Core.Option.{none, some}
@@ -16,11 +16,12 @@ use Rattle.base.proofs.Search.{highest-some, highest-none, highest-max, at-same
 use Rattle.base.proofs.Lists.{All, All-map, Any}
 use Rattle.agent_rules.specs.Message.{Assignment, known, Message, Info, Back, AddLink, sentTo}
 use Rattle.agent_rules.specs.Agent.{Self, Bans, Nogoods, Agent, Step, above}
-use Rattle.agent_rules.specs.Choosing.{Choice, choice, chosen, took, union, failed, refusing, forget, after, settle, checkView}
+use Rattle.agent_rules.specs.Choosing.{Choice, choice, noRefuser, tells, chosen, took, union, failed, refusing, forget, after, settle, checkView}
 use Rattle.agent_rules.specs.Sorts.{IsBack, Not, Refuses, afterOne, seen}
 use Rattle.agent_rules.proofs.Assignments.{unknown, unknown-zero, to-above, from-above, knownTo, knownTo-le, knownTo-less}
 use Rattle.agent_facts.specs.Facts.{Setting, Good, busyView, Backs, Sends}
-use Rattle.agent_facts.proofs.Posts.{gets-all, gets-one, infos-get}
+use Rattle.agent_facts.proofs.Posts.{gets-all, gets-one, gets-none, infos-get}
+use Rattle.agent_facts.proofs.Telling.{MayHear, told-may, left-out}
 use Rattle.agent_facts.proofs.Walk.{conflicts-false, Walked, walked}
 use Rattle.agent_facts.proofs.Reasons.{Sound, NoneFree, walked-sound, union-view, no-value, back-implied, forget-sound}
 
@@ -30,35 +31,41 @@ pub record Ready (S : Assignment → Type 0) (s : Self) (a : Agent) : Type 0 whe
   pub viewed : (k : ℕ) → known (a .view k) ≡ true → a .listens k ≡ true
   pub upward : (k : ℕ) → a .listens k ≡ true → (1 ≤ k) × (k < s .number)
 
--- what may be sent to agent y
-abbrev pub Posted : (Assignment → Type 0) → Agent → ℕ → Message → Type 0
-Posted S a y (Info v) = a .informs y ≡ true
-Posted S a y (Back lhs v) = (a .listens y ≡ true) × Backs S (a .view) y lhs v
-Posted S a y AddLink = Unit {0}
+-- what may be sent to agent y, while a refusal of `refuser` is worked
+abbrev pub Posted : (Assignment → Type 0) → ℕ → Agent → ℕ → Message → Type 0
+Posted S refuser a y (Info v) = MayHear a refuser y
+Posted S refuser a y (Back lhs v) = (a .listens y ≡ true) × Backs S (a .view) y lhs v
+Posted S refuser a y AddLink = Unit {0}
+
+-- agent y is told the value taken; or, where that is the last one taken and y is not the refuser, told nothing
+abbrev pub Learns : ℕ → Agent → Step → ℕ → Type 0
+Learns refuser a t y =
+    ((v : ℕ) → seen v (sentTo y (t .sent)) ≡ t .agent .value)
+    ⊎ ((t .agent .value ≡ a .last) × ((v : ℕ) → seen v (sentTo y (t .sent)) ≡ v) × (y ≢ refuser))
 
 -- a value was taken
-pub record ValueTaken (S : Assignment → Type 0) (s : Self) (bans : Bans) (a : Agent) (t : Step) : Type 0 where
+pub record ValueTaken (S : Assignment → Type 0) (s : Self) (bans : Bans) (refuser : ℕ) (a : Agent) (t : Step) : Type 0 where
   pub good : Good S s bans (t .agent)
   pub view : (x : ℕ)
       → (t .agent .view x ≡ a .view x) ⊎ ((t .agent .view x ≡ 0) × Any (Refuses (a .view x)) (sentTo x (t .sent)))
-  pub sent : (y : ℕ) → All (Posted S a y) (sentTo y (t .sent))
-  pub tells : (y : ℕ) → s .number < y → y ≤ maxAgents → a .informs y ≡ true → (v : ℕ) → seen v (sentTo y (t .sent)) ≡ t .agent .value
+  pub sent : (y : ℕ) → All (Posted S refuser a y) (sentTo y (t .sent))
+  pub tells : (y : ℕ) → s .number < y → y ≤ maxAgents → a .informs y ≡ true → Learns refuser a t y
   pub grows : ((y : ℕ) → All (Not IsBack) (sentTo y (t .sent)))
       → (v : ℕ) → isSome (a .nogoods v) ≡ true → isSome (t .agent .nogoods v) ≡ true
 
-pub record ChoiceMade (S : Assignment → Type 0) (s : Self) (bans : Bans) (a : Agent) (t : Step) : Type 0 where
-  pub taken : t .verdict ≡ false → ValueTaken S s bans a t
+pub record ChoiceMade (S : Assignment → Type 0) (s : Self) (bans : Bans) (refuser : ℕ) (a : Agent) (t : Step) : Type 0 where
+  pub taken : t .verdict ≡ false → ValueTaken S s bans refuser a t
   pub hopeless : t .verdict ≡ true → (σ : Assignment) → S σ → ⊥
 
 -- the join of all left sides
 abbrev whole : Self → Nogoods → Assignment
 whole s nogoods = union (s .domain) nogoods
 
-module _ (S : Assignment → Type 0) (s : Self) (bans : Bans) (problem : Setting S s bans) where
+module _ (S : Assignment → Type 0) (s : Self) (bans : Bans) (problem : Setting S s bans) (refuser : ℕ) where
   -- ---- a value is taken
 
   takes : (a : Agent) → Ready S s a → (v : ℕ) (c : Choice) → Walked s bans (a .view) (s .domain) 1 (a .nogoods) c → c .value ≡ some v
-      → ValueTaken S s bans a (took s a v (c .nogoods))
+      → ValueTaken S s bans refuser a (took s refuser a v (c .nogoods))
   unfolding took chosen seen afterOne
   takes a R v c W e =
       let (low, high, fresh, free) = W .taken v e in
@@ -67,6 +74,7 @@ module _ (S : Assignment → Type 0) (s : Self) (bans : Bans) (problem : Setting
         good = record {
           low = low;
           high = omega arith;
+          kept = refl;
           free = conflicts-false s bans (a .view) (problem .upward) v free;
           fresh = fresh;
           agree = N .agree;
@@ -75,8 +83,12 @@ module _ (S : Assignment → Type 0) (s : Self) (bans : Bans) (problem : Setting
           upward = R .upward;
         };
         view = λ x. inl refl;
-        sent = λ y. gets-all (infos-get s a v y) (Posted S a y) (λ _ i. i);
-        tells = λ y l h i u. rw (gets-one (infos-get s a v y) (l, h) i);
+        sent = λ y. gets-all (infos-get s a refuser v y) (Posted S refuser a y) (λ (l, _) i. told-may s a refuser v y l i);
+        tells = λ y l h i. test (tells s a refuser v y)
+            (λ e. inl (λ u. rw (gets-one (infos-get s a refuser v y) (l, h) e)))
+            (λ e.
+            let (old, other) = left-out s a refuser v y i e in
+            inr (old, (λ u. rw (gets-none (infos-get s a refuser v y) (λ _. e))), other));
         grows = λ _. W .grows;
       }
 
@@ -89,7 +101,7 @@ module _ (S : Assignment → Type 0) (s : Self) (bans : Bans) (problem : Setting
     whole-range : (x : ℕ) → known (whole s nogoods x) ≡ true → (1 ≤ x) × (x ≤ above s)
     whole-range x n = let (l, h) = R .upward x (R .viewed x (rw (whole-view x n) at n)) in (l, to-above s x h)
 
-    fails : highest (above s) (λ k. known (whole s nogoods k)) ≡ none → ChoiceMade S s bans a (failed a nogoods)
+    fails : highest (above s) (λ k. known (whole s nogoods k)) ≡ none → ChoiceMade S s bans refuser a (failed a nogoods)
     unfolding failed
     fails e =
         record {
@@ -139,7 +151,7 @@ module _ (S : Assignment → Type 0) (s : Self) (bans : Bans) (problem : Setting
           }
 
       -- what may be sent with agent k unknown may be sent
-      forgotten : (y : ℕ) (m : Message) → Posted S (forget k a nogoods) y m → Posted S a y m
+      forgotten : (y : ℕ) (m : Message) → Posted S refuser (forget k a nogoods) y m → Posted S refuser a y m
       unfolding forget
       forgotten y (Info v) h = h
       forgotten y (Back lhs v) (l, B) = (
@@ -158,13 +170,14 @@ module _ (S : Assignment → Type 0) (s : Self) (bans : Bans) (problem : Setting
       )
       forgotten y AddLink h = h
 
-      backs-up : (t : Step) → ChoiceMade S s bans (forget k a nogoods) t → ChoiceMade S s bans a (after (refusing k (whole s nogoods) ∷ []) t)
+      backs-up : (t : Step) → ChoiceMade S s bans refuser (forget k a nogoods) t
+          → ChoiceMade S s bans refuser a (after (refusing k (whole s nogoods) ∷ []) t)
       unfolding forget after refusing sentTo seen afterOne
       backs-up t O =
           record {
             taken = λ q.
                 let T = O .taken q in
-                let later : (y : ℕ) → All (Posted S a y) (sentTo y (t .sent)) =
+                let later : (y : ℕ) → All (Posted S refuser a y) (sentTo y (t .sent)) =
                 λ y. All-map _ _ (forgotten y) (sentTo y (t .sent)) (T .sent y) in
                 record {
                   good = T .good;
@@ -176,7 +189,7 @@ module _ (S : Assignment → Type 0) (s : Self) (bans : Bans) (problem : Setting
                   sent = λ y. test (eqb y k)
                       (λ u. rw (u, sentTo) (rw (eqb-true y k u) (R .viewed k top-viewed, back), later y))
                       (λ u. rw (u, sentTo) (later y));
-                  tells = λ y l h i v. test (eqb y k) (λ u. rw (u, sentTo) (T .tells y l h i v)) (λ u. rw (u, sentTo) (T .tells y l h i v));
+                  tells = λ y l h i. test (eqb y k) (λ u. rw (u, sentTo) (T .tells y l h i)) (λ u. rw (u, sentTo) (T .tells y l h i));
                   grows = λ n. absurd ((rw (eq-eqb k k refl, sentTo) at (n k)) .0 tt);
                 };
             hopeless = O .hopeless;
@@ -188,7 +201,8 @@ module _ (S : Assignment → Type 0) (s : Self) (bans : Bans) (problem : Setting
 
   -- ---- the induction
 
-  settles : (times : ℕ) (a : Agent) → knownTo (above s) (a .view) < times → Ready S s a → ChoiceMade S s bans a (settle times s bans a)
+  settles : (times : ℕ) (a : Agent) → knownTo (above s) (a .view) < times → Ready S s a
+      → ChoiceMade S s bans refuser a (settle times s bans refuser a)
   unfolding settle choice took forget
   settles zero a fuel R = absurd (omega arith)
   settles (suc times) a fuel R =
@@ -203,23 +217,24 @@ module _ (S : Assignment → Type 0) (s : Self) (bans : Bans) (problem : Setting
       (λ k top. rw (e, top, settle)
       (let (_, l, h) = highest-some (above s) (λ k. known (whole s (c .nogoods) k)) k top in
       let less = knownTo-less (above s) (a .view) k l h (top-viewed a R (c .nogoods) N full k top) in
-      backs-up a R (c .nogoods) N full k top (settle times s bans (forget k a (c .nogoods)))
+      backs-up a R (c .nogoods) N full k top (settle times s bans refuser (forget k a (c .nogoods)))
       (settles times (forget k a (c .nogoods)) (omega arith) (forget-ready a R (c .nogoods) N full k top)))))
       (λ v e. rw (e, settle) record { taken = λ _. takes a R v c W e; hopeless = λ q. absurd (false≢true q) })
 
-  pub checks : (a : Agent) → Ready S s a → ChoiceMade S s bans a (checkView s bans a)
+  pub checks : (a : Agent) → Ready S s a → ChoiceMade S s bans refuser a (checkView s bans refuser a)
   unfolding checkView
   checks a R = settles (s .number) a (from-above s _ (problem .low) (knownTo-le (above s) (a .view))) R
 
 -- ---- as the facts have it: b is the agent with the message's own update
 
-pub taken-sends : (S : Assignment → Type 0) (a b : Agent) (from : ℕ) (m : Message) (t : Step)
+pub taken-sends : (S : Assignment → Type 0) (refuser : ℕ) (a b : Agent) (from : ℕ) (m : Message) (t : Step)
+    → ((y : ℕ) → y ≡ refuser → y ≢ noRefuser → (y ≡ from) × IsBack m)
     → ((x : ℕ) → b .view x ≡ busyView a from m x) → b .informs ≡ a .informs → t .agent .listens ≡ b .listens
-    → (y : ℕ) (l : List Message) → All (Posted S b y) l → All (Sends S a from m t y) l
-taken-sends S a b from m t view informs listens y = All-map (Posted S b y) (Sends S a from m t y) sends
+    → (y : ℕ) (l : List Message) → All (Posted S refuser b y) l → All (Sends S a from m t y) l
+taken-sends S refuser a b from m t worked view informs listens y = All-map (Posted S refuser b y) (Sends S a from m t y) sends
   where
-    sends : (q : Message) → Posted S b y q → Sends S a from m t y q
-    sends (Info v) h = inl (rw informs at h)
+    sends : (q : Message) → Posted S refuser b y q → Sends S a from m t y q
+    sends (Info v) h = ⊎-elim (λ i. inl (rw informs at i)) (λ (e, n). inr (worked y e n)) h
     sends (Back lhs v) (l, B) = (
       rw listens l,
       record {

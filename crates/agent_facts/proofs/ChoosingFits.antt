@@ -10,18 +10,19 @@ use native.Mathlib.Omega.{arith}
 use lib.ListN.{length}
 use lib.Dec.{eqb}
 use borrow.Author.Tests.{eqb-true, eqb-false}
-use Rattle.base.specs.Finite.{at, highest}
+use Rattle.base.specs.Finite.{at, within, highest}
 use Rattle.base.proofs.Tests.{test, opt, to-within}
 use Rattle.base.proofs.Search.{highest-some, highest-max, at-same, at-other, at-cases}
 use Rattle.base.proofs.Lists.{All}
 use Rattle.problem.specs.Problem.{maxAgents, maxDomain}
 use Rattle.agent_rules.specs.Message.{Assignment, known, Message, sentTo}
-use Rattle.agent_rules.specs.Agent.{Self, Bans, Nogoods, Agent, Step, above}
+use Rattle.agent_rules.specs.Agent.{Self, Bans, Nogoods, Agent, Step, withLast, above}
 use Rattle.agent_rules.specs.Choosing.{choice, chosen, took, union, failed, refusing, without, forget, after, settle, checkView}
 use Rattle.agent_rules.specs.Shape.{EachNamed}
 use Rattle.agent_rules.proofs.Assignments.{known-zero, unknown, above-is, to-above, from-above, agents-named}
 use Rattle.agent_facts.specs.Facts.{RestFits, Valued, PostFits}
 use Rattle.agent_facts.proofs.Posts.{gets-all, gets-none, gets-few, infos-get}
+use Rattle.agent_facts.proofs.Telling.{MayHear, told-may}
 use Rattle.agent_facts.proofs.LeftSides.{without-some, forgotten}
 use Rattle.agent_facts.proofs.Walk.{Walked, walked}
 use Rattle.agent_facts.proofs.Reasons.{only-agrees, union-view}
@@ -41,18 +42,19 @@ store-more s view nogoods v lhs h p f w r lo hi =
     (λ q e. let is : lhs ≡ r = cc in (rw q h, subst (PartOf view) is p))
     (λ _. f w r lo hi)
 
--- a message to y, where the links stay as they are
-abbrev pub Sendable : (ℕ → ℕ → Bool) → Self → Agent → ℕ → Message → Type 0
-Sendable owns s a y m = PostFits owns s (a .listens) (λ y. a .informs y ≡ true) y m
+-- a message to y, where the links stay as they are, while a refusal of `refuser` is worked
+abbrev pub Sendable : (ℕ → ℕ → Bool) → Self → ℕ → Agent → ℕ → Message → Type 0
+Sendable owns s refuser a y m = PostFits owns s (a .listens) (MayHear a refuser) y m
 
-pub record ChoosingFits (owns : ℕ → ℕ → Bool) (s : Self) (a : Agent) (t : Step) : Type 0 where
+pub record ChoosingFits (owns : ℕ → ℕ → Bool) (s : Self) (refuser : ℕ) (a : Agent) (t : Step) : Type 0 where
   pub rest : RestFits owns s (t .agent)
   pub valued : Valued s t
-  pub posts : (y : ℕ) → All (Sendable owns s a y) (sentTo y (t .sent))
+  pub posts : (y : ℕ) → All (Sendable owns s refuser a y) (sentTo y (t .sent))
   pub once : (y : ℕ) → length (sentTo y (t .sent)) ≤ 1
   pub silent : (y : ℕ) → y ≤ s .number → known (a .view y) ≡ false → sentTo y (t .sent) ≡ []
+  pub lasting : (within (s .domain) (t .agent .last) ≡ true) × (known (t .agent .value) ≡ true → t .agent .last ≡ t .agent .value)
 
-module _ (owns : ℕ → ℕ → Bool) (s : Self) (bans : Bans) (high : s .number ≤ maxAgents) (small : s .domain ≤ maxDomain) where
+module _ (owns : ℕ → ℕ → Bool) (s : Self) (bans : Bans) (refuser : ℕ) (high : s .number ≤ maxAgents) (small : s .domain ≤ maxDomain) where
   -- the nogoods that choosing leaves, and the join of their left sides
   abbrev given : Agent → Nogoods
   given a = choice s bans a .nogoods
@@ -72,32 +74,35 @@ module _ (owns : ℕ → ℕ → Bool) (s : Self) (bans : Bans) (high : s .numbe
         (λ (low, top, k, b, o). (omega arith, λ j lj hj n. only-agrees (a .view) k r o j n))
         (walk a .given w r e)
 
-    chosen-fits : (v : ℕ) → RestFits owns s (chosen a v (given a))
+    chosen-fits : (v last : ℕ) → RestFits owns s (withLast (chosen a v (given a)) last)
     unfolding chosen
-    chosen-fits v = record { upward = f .upward; downward = f .downward; viewed = f .viewed; agreed = given-stored }
+    chosen-fits v last = record { upward = f .upward; downward = f .downward; viewed = f .viewed; agreed = given-stored }
 
-    failed-fits : ChoosingFits owns s a (failed a (given a))
+    failed-fits : within (s .domain) (a .last) ≡ true → ChoosingFits owns s refuser a (failed a (given a))
     unfolding failed chosen sentTo
-    failed-fits =
+    failed-fits own =
         record {
-          rest = chosen-fits 0;
+          rest = chosen-fits 0 (a .last);
           valued = inr (refl, refl);
           posts = λ y. tt;
           once = λ y. omega arith;
           silent = λ y _ _. refl;
+          lasting = (own, λ e. unknown e);
         }
 
-    took-fits : (v : ℕ) → choice s bans a .value ≡ some v → ChoosingFits owns s a (took s a v (given a))
+    took-fits : (v : ℕ) → choice s bans a .value ≡ some v → ChoosingFits owns s refuser a (took s refuser a v (given a))
     unfolding took chosen
     took-fits v e =
         let (low, top, _, _) = walk a .taken v e in
         let own = to-within (s .domain) v low (omega arith) in
         record {
-          rest = chosen-fits v;
+          rest = chosen-fits v v;
           valued = inl (refl, own);
-          posts = λ y. gets-all (infos-get s a v y) (Sendable owns s a y) (λ (l, h) i. (l, h, i, own));
-          once = λ y. gets-few (infos-get s a v y);
-          silent = λ y l _. gets-none (infos-get s a v y) (λ i. absurd (omega arith));
+          posts = λ y. gets-all (infos-get s a refuser v y) (Sendable owns s refuser a y)
+              (λ (l, h) i. (l, h, told-may s a refuser v y l i, own));
+          once = λ y. gets-few (infos-get s a refuser v y);
+          silent = λ y l _. gets-none (infos-get s a refuser v y) (λ i. absurd (omega arith));
+          lasting = (own, λ _. refl);
         }
 
     -- ---- backing up
@@ -135,7 +140,7 @@ module _ (owns : ℕ → ℕ → Bool) (s : Self) (bans : Bans) (high : s .numbe
           let b = from-above s k (omega (arith, above-is s)) h in
           (n, l, b, omega arith)
 
-      back : Sendable owns s a k (refusing k (whole a) .message)
+      back : Sendable owns s refuser a k (refusing k (whole a) .message)
       unfolding refusing
       back =
           let (n, l, h, m) = range in
@@ -154,7 +159,8 @@ module _ (owns : ℕ → ℕ → Bool) (s : Self) (bans : Bans) (high : s .numbe
       was-known : known (a .view k) ≡ true
       was-known = let (n, l, h, m) = range in rw (whole-part k l (omega (arith, agents-named)) n) at n
 
-      backs-fit : (t : Step) → ChoosingFits owns s (forget k a (given a)) t → ChoosingFits owns s a (after (refusing k (whole a) ∷ []) t)
+      backs-fit : (t : Step) → ChoosingFits owns s refuser (forget k a (given a)) t
+          → ChoosingFits owns s refuser a (after (refusing k (whole a) ∷ []) t)
       unfolding after forget refusing sentTo
       backs-fit t r =
           let (_, l, h, m) = range in
@@ -171,18 +177,21 @@ module _ (owns : ℕ → ℕ → Bool) (s : Self) (bans : Bans) (high : s .numbe
             silent = λ y low n. test (eqb y k)
                 (λ q. absurd (false≢true (sym n ∙ rw (eqb-true y k q) was-known)))
                 (λ q. rw (q, sentTo) (r .silent y low (rw (at-other (a .view) k 0 y (eqb-false y k q)) n)));
+            lasting = r .lasting;
           }
 
-  settle-fits : (times : ℕ) (a : Agent) → RestFits owns s a → ChoosingFits owns s a (settle times s bans a)
-  unfolding settle
-  settle-fits zero a f = failed-fits a f
-  settle-fits (suc times) a f =
+  settle-fits : (times : ℕ) (a : Agent) → RestFits owns s a → within (s .domain) (a .last) ≡ true
+      → ChoosingFits owns s refuser a (settle times s bans refuser a)
+  unfolding settle forget
+  settle-fits zero a f own = failed-fits a f own
+  settle-fits (suc times) a f own =
       opt (choice s bans a .value)
       (λ e. opt (highest (above s) (λ k. known (union (s .domain) (choice s bans a .nogoods) k)))
-      (λ q. rw (e, settle, q) (failed-fits a f))
-      (λ k q. rw (e, settle, q) (backs-fit a f k q _ (settle-fits times (forget k a (choice s bans a .nogoods)) (forget-fits a f k)))))
+      (λ q. rw (e, settle, q) (failed-fits a f own))
+      (λ k q. rw (e, settle, q) (backs-fit a f k q _ (settle-fits times (forget k a (choice s bans a .nogoods)) (forget-fits a f k) own))))
       (λ v e. rw (e, settle) (took-fits a f v e))
 
-  pub check-fits : (a : Agent) → RestFits owns s a → ChoosingFits owns s a (checkView s bans a)
+  pub check-fits : (a : Agent) → RestFits owns s a → within (s .domain) (a .last) ≡ true
+      → ChoosingFits owns s refuser a (checkView s bans refuser a)
   unfolding checkView
-  check-fits a f = settle-fits (s .number) a f
+  check-fits a f own = settle-fits (s .number) a f own

@@ -58,6 +58,7 @@ module _ (a : Agent) (got : List Message) (t : Step) where
         valued = F .valued;
         posts = F .posts;
         twice = F .twice;
+        lasting = F .lasting;
       }
 
   -- ---- accuracy
@@ -69,6 +70,7 @@ module _ (a : Agent) (got : List Message) (t : Step) where
       record {
         low = G .low;
         high = G .high;
+        kept = G .kept;
         free = G .free;
         fresh = G .fresh;
         agree = G .agree;
@@ -128,6 +130,7 @@ module _ (a : Agent) (got : List Message) (t : Step) where
       record {
         running = B .running;
         owned = B .owned;
+        kept = B .kept;
         listened = B .listened;
         informed = B .informed;
         view = B .view;

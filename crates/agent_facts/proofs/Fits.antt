@@ -1,7 +1,7 @@
 -- One agent's step keeps the shape, of forged records too: from a record and a message that fit, the record handed back fits, and so does every
 -- message that is sent. Nothing is asked of the record but its shape: each rule only copies values out of the record and the message.
-use mathlib.Core.Path.{_≡_, refl, _∙_}
-use mathlib.Core.Logic.{_⊎_, inl, inr, ⊎-elim}
+use mathlib.Core.Path.{_≡_, refl, sym, _∙_}
+use mathlib.Core.Logic.{_≢_, _⊎_, inl, inr, ⊎-elim}
 use mathlib.Core.List.{List, [], _++_}
 use mathlib.Core.Bool.{Bool, true, cond, _||_}
 use mathlib.Core.Option.{some}
@@ -16,7 +16,7 @@ use Rattle.base.proofs.Lists.{All, All-append, All-map}
 use Rattle.problem.specs.Problem.{maxAgents, maxDomain}
 use Rattle.agent_rules.specs.Message.{Assignment, known, Message, Info, Back, AddLink, Post, sentTo}
 use Rattle.agent_rules.specs.Agent.{Self, Bans, Agent, Step}
-use Rattle.agent_rules.specs.Choosing.{after, checkView}
+use Rattle.agent_rules.specs.Choosing.{noRefuser, after, checkView}
 use Rattle.agent_rules.specs.Receiving.{
   quiet,
   answer,
@@ -52,35 +52,42 @@ rest-of : (owns : ℕ → ℕ → Bool) (s : Self) (a : Agent) → RecordFits ow
 rest-of owns s a f = record { upward = f .upward; downward = f .downward; viewed = f .viewed; agreed = f .agreed }
 
 -- what choosing sends, from a record b that informs whom a informs
-chosen-sent : (owns : ℕ → ℕ → Bool) (s : Self) (a b : Agent) (from : ℕ) (m : Message) (t : Step) → b .informs ≡ a .informs
-    → ChoosingFits owns s b t → SameLinks b t → (y : ℕ) → All (Sent owns s a from m (t .agent .listens) y) (sentTo y (t .sent))
-chosen-sent owns s a b from m t i r L y = All-map _ _ one (sentTo y (t .sent)) (r .posts y)
+chosen-sent : (owns : ℕ → ℕ → Bool) (s : Self) (refuser : ℕ) (a b : Agent) (from : ℕ) (m : Message) (t : Step)
+    → ((y : ℕ) → y ≡ refuser → y ≢ noRefuser → Answered from m y) → b .informs ≡ a .informs
+    → ChoosingFits owns s refuser b t → SameLinks b t → (y : ℕ) → All (Sent owns s a from m (t .agent .listens) y) (sentTo y (t .sent))
+chosen-sent owns s refuser a b from m t worked i r L y = All-map _ _ one (sentTo y (t .sent)) (r .posts y)
   where
-    one : (q : Message) → Sendable owns s b y q → Sent owns s a from m (t .agent .listens) y q
-    one (Info v) h = (h .0, h .1, inl (rw i at (h .2)), h .3)
+    one : (q : Message) → Sendable owns s refuser b y q → Sent owns s a from m (t .agent .listens) y q
+    one (Info v) h = (h .0, h .1, ⊎-elim (λ o. inl (rw i at o)) (λ (e, n). inr (worked y e n)) (h .2), h .3)
     one (Back lhs v) h = (h .0, h .1, rw (L .listens) (h .2), h .3, h .4)
     one AddLink h = (h .0, h .1, rw (L .listens) (h .2))
 
 module _ (owns : ℕ → ℕ → Bool) (s : Self) (bans : Bans) (high : s .number ≤ maxAgents) (small : s .domain ≤ maxDomain)
     (a : Agent) (from : ℕ) (f : RecordFits owns s a) where
+  last-owned : within (s .domain) (a .last) ≡ true
+  last-owned = rw (f .kept) (f .valued)
+
   -- a step that does not choose and sends one message at most
-  quiet-fits : (b : Agent) (m : Message) (posts : List Post) → RestFits owns s b → within (s .domain) (b .value) ≡ true
+  quiet-fits : (b : Agent) (m : Message) (posts : List Post) → RestFits owns s b → b .value ≡ a .value → b .last ≡ a .last
       → ((y : ℕ) → All (Sent owns s a from m (b .listens) y) (sentTo y posts)) → ((y : ℕ) → length (sentTo y posts) ≤ 1)
       → StepFits owns s a from m (quiet b posts)
   unfolding quiet
-  quiet-fits b m posts g own h n =
-      record { rest = g; valued = inl (refl, own); posts = h; twice = λ y. omega (arith, n y) }
+  quiet-fits b m posts g v l h n =
+      let own : within (s .domain) (b .value) ≡ true = rw v (f .valued) in
+      let kept : b .last ≡ b .value = l ∙ f .kept ∙ sym v in
+      record { rest = g; valued = inl (refl, own); posts = h; twice = λ y. omega (arith, n y); lasting = (rw kept own, λ _. kept) }
 
   -- .. nothing
-  silent-fits : (b : Agent) (m : Message) → RestFits owns s b → within (s .domain) (b .value) ≡ true → StepFits owns s a from m (quiet b [])
+  silent-fits : (b : Agent) (m : Message) → RestFits owns s b → b .value ≡ a .value → b .last ≡ a .last
+      → StepFits owns s a from m (quiet b [])
   unfolding sentTo
-  silent-fits b m g own = quiet-fits b m [] g own (λ y. tt) (λ y. omega arith)
+  silent-fits b m g v l = quiet-fits b m [] g v l (λ y. tt) (λ y. omega arith)
 
   -- .. the own value, told to the sender
-  answer-fits : (b : Agent) (m : Message) → RestFits owns s b → b .value ≡ a .value → Not IsInfo m → s .number < from → from ≤ maxAgents
-      → StepFits owns s a from m (quiet b (answer a from))
-  answer-fits b m g v n l h =
-      quiet-fits b m (answer a from) g (rw v (f .valued))
+  answer-fits : (b : Agent) (m : Message) → RestFits owns s b → b .value ≡ a .value → b .last ≡ a .last → Not IsInfo m
+      → s .number < from → from ≤ maxAgents → StepFits owns s a from m (quiet b (answer a from))
+  answer-fits b m g v last n l h =
+      quiet-fits b m (answer a from) g v last
       (λ y. gets-all (answer-get a from y) (Sent owns s a from m (b .listens) y) (λ e _. rw e (l, h, inr (refl, n), f .valued)))
       (λ y. gets-few (answer-get a from y))
 
@@ -113,18 +120,20 @@ module _ (owns : ℕ → ℕ → Bool) (s : Self) (bans : Bans) (high : s .numbe
   info-fits v (_, heard, own) =
       let g = updated-fits v heard own in
       test (conflicts s bans (at (a .view) from v) (a .value))
-      (λ e. rw (e, onInfo) (chooses (check-fits owns s bans high small (updated s a from v) g) (check-same s bans (updated s a from v))))
-      (λ e. rw (e, onInfo) (silent-fits (updated s a from v) (Info v) g (f .valued)))
+      (λ e. rw (e, onInfo)
+      (chooses (check-fits owns s bans noRefuser high small (updated s a from v) g last-owned) (check-same s bans noRefuser (updated s a from v))))
+      (λ e. rw (e, onInfo) (silent-fits (updated s a from v) (Info v) g refl refl))
     where
-      chooses : ChoosingFits owns s (updated s a from v) (checkView s bans (updated s a from v))
-          → SameLinks (updated s a from v) (checkView s bans (updated s a from v))
-          → StepFits owns s a from (Info v) (checkView s bans (updated s a from v))
+      chooses : ChoosingFits owns s noRefuser (updated s a from v) (checkView s bans noRefuser (updated s a from v))
+          → SameLinks (updated s a from v) (checkView s bans noRefuser (updated s a from v))
+          → StepFits owns s a from (Info v) (checkView s bans noRefuser (updated s a from v))
       chooses r L =
           record {
             rest = r .rest;
             valued = r .valued;
-            posts = chosen-sent owns s a (updated s a from v) from (Info v) _ refl r L;
+            posts = chosen-sent owns s noRefuser a (updated s a from v) from (Info v) _ (λ y e n. absurd (n e)) refl r L;
             twice = λ y. omega (arith, r .once y);
+            lasting = r .lasting;
           }
 
   -- ---- Back
@@ -157,7 +166,7 @@ module _ (owns : ℕ → ℕ → Bool) (s : Self) (bans : Bans) (high : s .numbe
           store-more s view (a .nogoods) v lhs (within-true (s .domain) v own .1)
           (λ k lo hi n. view-named s a lhs v h k lo (named k lo hi n .0) n) old
 
-  holding-fits : (lhs : Assignment) (v : ℕ) (t : Step) → ChoosingFits owns s (accepting a lhs v) t → SameLinks (accepting a lhs v) t
+  holding-fits : (lhs : Assignment) (v : ℕ) (t : Step) → ChoosingFits owns s from (accepting a lhs v) t → SameLinks (accepting a lhs v) t
       → StepFits owns s a from (Back lhs v) (after (addLinks s a lhs) t)
   unfolding after accepting
   holding-fits lhs v t r L =
@@ -169,10 +178,11 @@ module _ (owns : ℕ → ℕ → Bool) (s : Self) (bans : Bans) (high : s .numbe
             (λ (lo, hi) u.
             let n = or-right (a .listens y) _ (unheard-true a lhs y u .0) in
             (lo, from-above s y (omega (arith, above-is s)) hi, rw (L .listens) n)))
-            (chosen-sent owns s a (accepting a lhs v) from (Back lhs v) t refl r L y));
+            (chosen-sent owns s from a (accepting a lhs v) from (Back lhs v) t (λ y e _. (e, λ z. z)) refl r L y));
         twice = λ y.
             rw (split y, length-append (sentTo y (addLinks s a lhs)) (sentTo y (t .sent)))
             (omega (arith, gets-few (requests-get s a lhs y), r .once y));
+        lasting = r .lasting;
       }
     where
       split : (y : ℕ) → sentTo y (addLinks s a lhs ++ t .sent) ≡ sentTo y (addLinks s a lhs) ++ sentTo y (t .sent)
@@ -180,14 +190,14 @@ module _ (owns : ℕ → ℕ → Bool) (s : Self) (bans : Bans) (high : s .numbe
 
   back-fits : (lhs : Assignment) (v : ℕ) → MessageFits owns s a from (Back lhs v)
       → StepFits owns s a from (Back lhs v) (onBack s bans a from lhs v)
-  unfolding onBack outdated
+  unfolding onBack outdated accepting
   back-fits lhs v m =
       test (holds s a lhs v)
-      (λ e. rw (e, onBack) (holding-fits lhs v _ (check-fits owns s bans high small (accepting a lhs v) (accepting-fits lhs v m e))
-      (check-same s bans (accepting a lhs v))))
+      (λ e. rw (e, onBack) (holding-fits lhs v _ (check-fits owns s bans from high small (accepting a lhs v) (accepting-fits lhs v m e) last-owned)
+      (check-same s bans from (accepting a lhs v))))
       (λ e. rw (e, onBack) (test (eqb v (a .value))
-      (λ q. rw q (answer-fits a (Back lhs v) (rest-of owns s a f) refl (λ z. z) (m .0) (m .1)))
-      (λ q. rw q (silent-fits a (Back lhs v) (rest-of owns s a f) (f .valued)))))
+      (λ q. rw q (answer-fits a (Back lhs v) (rest-of owns s a f) refl refl (λ z. z) (m .0) (m .1)))
+      (λ q. rw q (silent-fits a (Back lhs v) (rest-of owns s a f) refl refl))))
 
   -- ---- AddLink
 
@@ -205,7 +215,7 @@ module _ (owns : ℕ → ℕ → Bool) (s : Self) (bans : Bans) (high : s .numbe
 
   add-link-fits : MessageFits owns s a from AddLink → StepFits owns s a from AddLink (onAddLink a from)
   unfolding onAddLink informing
-  add-link-fits m = answer-fits (informing a from) AddLink (informing-fits (m .0) (m .1)) refl (λ z. z) (m .0) (m .1)
+  add-link-fits m = answer-fits (informing a from) AddLink (informing-fits (m .0) (m .1)) refl refl (λ z. z) (m .0) (m .1)
 
 pub react-fits : (owns : ℕ → ℕ → Bool) (s : Self) (bans : Bans) (a : Agent) (from : ℕ) (m : Message)
     → s .number ≤ maxAgents → s .domain ≤ maxDomain → RecordFits owns s a → MessageFits owns s a from m

@@ -1,16 +1,17 @@
 -- News: the view is updated and the nogoods that disagree with it are dropped; then the agent chooses where its value is now banned.
 -- Dropping leaves the nogoods sound for the new view, and those that agree stay.
 use mathlib.Core.Path.{_≡_, refl, sym, _∙_, subst}
-use mathlib.Core.Logic.{inl, ⊎-elim}
+use mathlib.Core.Logic.{inl, inr, ⊎-elim}
 use mathlib.Core.List.{[]}
 use mathlib.Core.Bool.{true, false, false≢true}
 use Prim.Native.Nat.{ℕ}
+use native.Mathlib.Omega.{arith}
 use Rattle.base.specs.Finite.{at, isSome}
 use Rattle.base.proofs.Tests.{test, isSome-true, eq-test}
 use Rattle.base.proofs.Search.{at-other}
 use Rattle.agent_rules.specs.Message.{Assignment, Info, sentTo}
 use Rattle.agent_rules.specs.Agent.{Self, Bans, Agent, Step}
-use Rattle.agent_rules.specs.Choosing.{checkView}
+use Rattle.agent_rules.specs.Choosing.{noRefuser, checkView}
 use Rattle.agent_rules.specs.Receiving.{quiet, keepIf, agreeing, updated, conflicts, onInfo}
 use Rattle.agent_rules.specs.Sorts.{IsBack}
 use Rattle.agent_facts.specs.Facts.{Setting, Good, Quiet, Facts}
@@ -63,6 +64,7 @@ module _ (S : Assignment → Type 0) (s : Self) (bans : Bans) (a : Agent) (from 
         good = record {
           low = G .low;
           high = G .high;
+          kept = G .kept;
           free = conflicts-false s bans (at (a .view) from v) (problem .upward) (a .value) c;
           fresh = rw (G .fresh);
           agree = R .sound .agree;
@@ -78,7 +80,7 @@ module _ (S : Assignment → Type 0) (s : Self) (bans : Bans) (a : Agent) (from 
 
   -- ---- it is
 
-  info-chooses : conflicts s bans (at (a .view) from v) (a .value) ≡ true → (t : Step) → ValueTaken S s bans (updated s a from v) t
+  info-chooses : conflicts s bans (at (a .view) from v) (a .value) ≡ true → (t : Step) → ValueTaken S s bans noRefuser (updated s a from v) t
       → SameLinks (updated s a from v) t → Facts S s bans a from (Info v) t
   unfolding updated
   info-chooses c t T L =
@@ -91,9 +93,11 @@ module _ (S : Assignment → Type 0) (s : Self) (bans : Bans) (a : Agent) (from 
           view = T .view;
           asks = λ x n q. absurd (false≢true (sym n ∙ rw (L .listens) at q));
           sent = λ y.
-              taken-sends S a (updated s a from v) from (Info v) t (λ x. refl) refl (L .listens) y
+              taken-sends S noRefuser a (updated s a from v) from (Info v) t (λ y e n. absurd (n e)) (λ x. refl) refl (L .listens) y
               (sentTo y (t .sent)) (T .sent y);
-          tells = λ y l h q. inl (T .tells y l h q);
+          -- the sender is above
+          tells = λ y l h q.
+              ⊎-elim (λ t. inl t) (λ (same, none, _). inr (same ∙ G .kept, none, λ e. omega (arith, G .upward from heard))) (T .tells y l h q);
           grows = λ q. absurd q;
         };
         must = λ lhs w e. absurd (subst IsBack (sym e) tt);
@@ -106,14 +110,14 @@ module _ (S : Assignment → Type 0) (s : Self) (bans : Bans) (a : Agent) (from 
   info-facts z =
       test (conflicts s bans (at (a .view) from v) (a .value))
       (λ c. rw (c, onInfo)
-      (info-chooses c (checkView s bans (updated s a from v))
-      (checks S s bans problem (updated s a from v) updated-ready .taken (rw (c, onInfo) at z))
-      (check-same s bans (updated s a from v))))
+      (info-chooses c (checkView s bans noRefuser (updated s a from v))
+      (checks S s bans problem noRefuser (updated s a from v) updated-ready .taken (rw (c, onInfo) at z))
+      (check-same s bans noRefuser (updated s a from v))))
       (λ c. rw (c, onInfo) (info-stays c))
 
   pub info-ends : onInfo s bans a from v .verdict ≡ true → (σ : Assignment) → S σ → ⊥
   unfolding onInfo quiet
   info-ends z =
       test (conflicts s bans (at (a .view) from v) (a .value))
-      (λ c. checks S s bans problem (updated s a from v) updated-ready .hopeless (rw (c, onInfo) at z))
+      (λ c. checks S s bans problem noRefuser (updated s a from v) updated-ready .hopeless (rw (c, onInfo) at z))
       (λ c. absurd (false≢true (rw (c, onInfo) at z)))

@@ -1,4 +1,5 @@
 mod Posts
+mod Telling
 mod LeftSides
 mod Walk
 mod Reasons

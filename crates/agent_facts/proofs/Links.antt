@@ -12,7 +12,7 @@ use Rattle.base.proofs.Search.{at-same, at-other}
 use Rattle.base.proofs.Lists.{All, All-append, All-map}
 use Rattle.agent_rules.specs.Message.{Assignment, known, Message, Info, Back, AddLink, sentTo}
 use Rattle.agent_rules.specs.Agent.{Self, Bans, Nogoods, Agent, Step, above}
-use Rattle.agent_rules.specs.Choosing.{choice, chosen, took, union, failed, refusing, forget, after, settle, checkView}
+use Rattle.agent_rules.specs.Choosing.{choice, noRefuser, chosen, took, union, failed, refusing, forget, after, settle, checkView}
 use Rattle.agent_rules.specs.Receiving.{
   quiet,
   answer,
@@ -43,7 +43,7 @@ pub record SameLinks (a : Agent) (t : Step) : Type 0 where
   pub informs : t .agent .informs ≡ a .informs
   pub plain : (y : ℕ) → All (Not IsAddLink) (sentTo y (t .sent))
 
-module _ (s : Self) (bans : Bans) where
+module _ (s : Self) (bans : Bans) (refuser : ℕ) where
   backs-same : (a : Agent) (k : ℕ) (whole : Assignment) (nogoods : Nogoods) (t : Step) → SameLinks (forget k a nogoods) t
       → SameLinks a (after (refusing k whole ∷ []) t)
   unfolding forget after refusing sentTo
@@ -54,7 +54,7 @@ module _ (s : Self) (bans : Bans) where
         plain = λ y. test (eqb y k) (λ u. rw (u, sentTo) ((λ z. z), T .plain y)) (λ u. rw (u, sentTo) (T .plain y));
       }
 
-  settle-same : (times : ℕ) (a : Agent) → SameLinks a (settle times s bans a)
+  settle-same : (times : ℕ) (a : Agent) → SameLinks a (settle times s bans refuser a)
   unfolding settle took failed chosen sentTo
   settle-same zero a = record { listens = refl; informs = refl; plain = λ y. tt }
   settle-same (suc times) a =
@@ -65,10 +65,10 @@ module _ (s : Self) (bans : Bans) where
       (λ v e. rw (e, settle) (record {
         listens = refl;
         informs = refl;
-        plain = λ y. gets-all (infos-get s a v y) (Not IsAddLink) (λ _ _ z. z);
+        plain = λ y. gets-all (infos-get s a refuser v y) (Not IsAddLink) (λ _ _ z. z);
       }))
 
-  pub check-same : (a : Agent) → SameLinks a (checkView s bans a)
+  pub check-same : (a : Agent) → SameLinks a (checkView s bans refuser a)
   unfolding checkView
   check-same a = settle-same (s .number) a
 
@@ -106,7 +106,7 @@ info-links : (s : Self) (bans : Bans) (a : Agent) (from v : ℕ) → Linking a f
 unfolding onInfo updated
 info-links s bans a from v =
     test (conflicts s bans (at (a .view) from v) (a .value))
-    (λ e. rw (e, onInfo) (same-linking a _ from (Info v) _ refl refl (λ z. z) (check-same s bans (updated s a from v))))
+    (λ e. rw (e, onInfo) (same-linking a _ from (Info v) _ refl refl (λ z. z) (check-same s bans noRefuser (updated s a from v))))
     (λ e. rw (e, onInfo) (same-linking a _ from (Info v) _ refl refl (λ z. z) (still (updated s a from v))))
 
 -- a refusal that holds: its link requests come first
@@ -140,7 +140,7 @@ back-links : (s : Self) (bans : Bans) (a : Agent) (from : ℕ) (lhs : Assignment
 unfolding onBack outdated
 back-links s bans a from lhs v =
     test (holds s a lhs v)
-    (λ e. rw (e, onBack) (holding-links s a from lhs v _ (check-same s bans (accepting a lhs v))))
+    (λ e. rw (e, onBack) (holding-links s a from lhs v _ (check-same s bans from (accepting a lhs v))))
     (λ e. rw (e, onBack) (same-linking a a from (Back lhs v) _ refl refl (λ z. z)
     (test (eqb v (a .value)) (λ q. rw q (answered a from)) (λ q. rw q (still a)))))
 

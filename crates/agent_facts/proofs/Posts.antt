@@ -15,7 +15,7 @@ use Rattle.base.proofs.Lists.{All}
 use Rattle.problem.specs.Problem.{maxAgents}
 use Rattle.agent_rules.specs.Message.{Assignment, Message, Info, AddLink, Post, sentTo}
 use Rattle.agent_rules.specs.Agent.{Self, Agent, above}
-use Rattle.agent_rules.specs.Choosing.{infoTo, infos}
+use Rattle.agent_rules.specs.Choosing.{tells, infoTo, infos}
 use Rattle.agent_rules.specs.Receiving.{answer, unheard, addLinkTo, addLinks}
 use Rattle.agent_rules.specs.Sorts.{IsInfo, Not}
 use Rattle.agent_rules.proofs.Messages.{sentTo-append}
@@ -83,12 +83,12 @@ module _ (passes : ℕ → Bool) (q : Message) (posts : ℕ → List Post) (each
 
 -- ---- the Infos of a value taken
 
-pub infos-get : (s : Self) (a : Agent) (v y : ℕ)
-    → Gets (Info v) (a .informs y) ((s .number < y) × (y ≤ maxAgents)) (sentTo y (infos s a v))
+pub infos-get : (s : Self) (a : Agent) (refuser v y : ℕ)
+    → Gets (Info v) (tells s a refuser v y) ((s .number < y) × (y ≤ maxAgents)) (sentTo y (infos s a refuser v))
 unfolding infos infoTo
-infos-get s a v y =
+infos-get s a refuser v y =
     gets-map (λ i. omega arith) (λ i. omega arith)
-    (gathered (a .informs) (Info v) (infoTo a v) (record { hit = λ k e. rw (e, infoTo); miss = λ k e. rw (e, infoTo) })
+    (gathered (tells s a refuser v) (Info v) (infoTo s a refuser v) (record { hit = λ k e. rw (e, infoTo); miss = λ k e. rw (e, infoTo) })
     (maxAgents - s .number) (suc (s .number)) y)
 
 -- ---- link requests

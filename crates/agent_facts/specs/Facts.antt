@@ -80,6 +80,8 @@ pub record StepFits (owns : ℕ → ℕ → Bool) (s : Self) (a : Agent) (from :
   pub posts : (y : ℕ)
       → All (PostFits owns s (t .agent .listens) (λ y. (a .informs y ≡ true) ⊎ Answered from m y) y) (sentTo y (t .sent))
   pub twice : (y : ℕ) → length (sentTo y (t .sent)) ≤ 2
+  -- the last value taken is an owned one, and the one held if any is held
+  pub lasting : (within (s .domain) (t .agent .last) ≡ true) × (known (t .agent .value) ≡ true → t .agent .last ≡ t .agent .value)
 
 -- ---- assignments. `S` says which assignments count: at the network level, those that obey all bans.
 
@@ -111,6 +113,7 @@ Barred bans view v k = (known (view k) ≡ true) × (bans k (view k) v ≡ true)
 pub record Good (S : Assignment → Type 0) (s : Self) (bans : Bans) (a : Agent) : Type 0 where
   pub low : 1 ≤ a .value
   pub high : a .value ≤ s .domain
+  pub kept : a .last ≡ a .value
   pub free : (k : ℕ) → Barred bans (a .view) (a .value) k → ⊥
   pub fresh : a .nogoods (a .value) ≡ none
   pub agree : (v : ℕ) (lhs : Assignment) → a .nogoods v ≡ some lhs → (k : ℕ) → known (lhs k) ≡ true → lhs k ≡ a .view k
@@ -209,6 +212,7 @@ pub record Facts (S : Assignment → Type 0) (s : Self) (bans : Bans) (a : Agent
 pub record Begun (s : Self) (listens informs : ℕ → Bool) (t : Step) : Type 0 where
   pub running : t .verdict ≡ false
   pub owned : within (s .domain) (t .agent .value) ≡ true
+  pub kept : t .agent .last ≡ t .agent .value
   pub listened : t .agent .listens ≡ listens
   pub informed : t .agent .informs ≡ informs
   pub view : (x : ℕ) → t .agent .view x ≡ 0

@@ -8,10 +8,11 @@ use Rattle.base.specs.Finite.{allTo}
 use Rattle.agent_rules.specs.Message.{Assignment, known, nobody, Post}
 use Rattle.agent_rules.specs.Counts.{Counts, noCounts}
 
--- an agent's number and its domain (slot count): all of the problem that it has, beside the bans that name it
+-- an agent's number and its domain (slot count), all of the problem that it has beside the bans that name it; and the network's rule
 pub record Self : Type 0 where
   pub number : ℕ
   pub domain : ℕ
+  pub rule : ℕ
 
 -- the bans that name an agent, with the agents above it: agent k at value v bans the own value w
 abbrev pub Bans : Type 0
@@ -23,6 +24,7 @@ Nogoods = ℕ → Option Assignment
 
 pub record Agent : Type 0 where
   pub value : ℕ  -- "its slot", 0 where it has none
+  pub last : ℕ  -- "the last slot that it took, under either rule", 0 before the start
   pub listens : ℕ → Bool  -- "the scanners above it that it listens to"
   pub informs : ℕ → Bool  -- "those below it that it informs"
   pub view : Assignment  -- "a slot or unknown for each it listens to"
@@ -41,33 +43,37 @@ noNogoods v = none
 -- an agent beyond n
 unfoldable pub unusedAgent : Agent
 unusedAgent =
-    record { value = 0; listens = λ k. false; informs = λ k. false; view = nobody; nogoods = noNogoods; counts = noCounts }
+    record { value = 0; last = 0; listens = λ k. false; informs = λ k. false; view = nobody; nogoods = noNogoods; counts = noCounts }
 
 -- ---- a record with one part changed. The rules change records by these alone.
 
 abbrev pub withValue : Agent → ℕ → Agent
 withValue a value =
-    record { value = value; listens = a .listens; informs = a .informs; view = a .view; nogoods = a .nogoods; counts = a .counts }
+    record { value = value; last = a .last; listens = a .listens; informs = a .informs; view = a .view; nogoods = a .nogoods; counts = a .counts }
+
+abbrev pub withLast : Agent → ℕ → Agent
+withLast a last =
+    record { value = a .value; last = last; listens = a .listens; informs = a .informs; view = a .view; nogoods = a .nogoods; counts = a .counts }
 
 abbrev pub withListens : Agent → (ℕ → Bool) → Agent
 withListens a listens =
-    record { value = a .value; listens = listens; informs = a .informs; view = a .view; nogoods = a .nogoods; counts = a .counts }
+    record { value = a .value; last = a .last; listens = listens; informs = a .informs; view = a .view; nogoods = a .nogoods; counts = a .counts }
 
 abbrev pub withInforms : Agent → (ℕ → Bool) → Agent
 withInforms a informs =
-    record { value = a .value; listens = a .listens; informs = informs; view = a .view; nogoods = a .nogoods; counts = a .counts }
+    record { value = a .value; last = a .last; listens = a .listens; informs = informs; view = a .view; nogoods = a .nogoods; counts = a .counts }
 
 abbrev pub withView : Agent → Assignment → Agent
 withView a view =
-    record { value = a .value; listens = a .listens; informs = a .informs; view = view; nogoods = a .nogoods; counts = a .counts }
+    record { value = a .value; last = a .last; listens = a .listens; informs = a .informs; view = view; nogoods = a .nogoods; counts = a .counts }
 
 abbrev pub withNogoods : Agent → Nogoods → Agent
 withNogoods a nogoods =
-    record { value = a .value; listens = a .listens; informs = a .informs; view = a .view; nogoods = nogoods; counts = a .counts }
+    record { value = a .value; last = a .last; listens = a .listens; informs = a .informs; view = a .view; nogoods = nogoods; counts = a .counts }
 
 abbrev pub withCounts : Agent → Counts → Agent
 withCounts a counts =
-    record { value = a .value; listens = a .listens; informs = a .informs; view = a .view; nogoods = a .nogoods; counts = counts }
+    record { value = a .value; last = a .last; listens = a .listens; informs = a .informs; view = a .view; nogoods = a .nogoods; counts = counts }
 
 -- ---- what it has of the others
 

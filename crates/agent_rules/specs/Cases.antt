@@ -11,7 +11,8 @@ use Rattle.problem.specs.Problem.{maxAgents, maxDomain}
 use Rattle.problem.specs.Cases.{sameBool}
 use Rattle.agent_rules.specs.Message.{Assignment, Message, Info, Back, AddLink, Post}
 use Rattle.agent_rules.specs.Counts.{Sort, Infos, Backs, AddLinks, Counts}
-use Rattle.agent_rules.specs.Agent.{Self, Bans, Nogoods, Agent, Step, withCounts}
+use Rattle.agent_rules.specs.Agent.{Self, Bans, Nogoods, Agent, Step, withLast, withCounts}
+use Rattle.agent_rules.specs.Choosing.{quietRule}
 use Rattle.agent_rules.specs.Receiving.{receive, begin}
 
 -- ---- values by lists
@@ -50,11 +51,12 @@ bySort l AddLinks = getD l 2 0
 abbrev pub counts : List ℕ → List ℕ → Counts
 counts sent received = record { sent = bySort sent; received = bySort received }
 
--- an agent whose counts are zero
+-- an agent whose value, if it has one, is the last that it took, and whose counts are zero
 abbrev pub agent : ℕ → List ℕ → List ℕ → List ℕ → List (Option Assignment) → Agent
 agent v listens informs view stored =
     record {
       value = v;
+      last = v;
       listens = member listens;
       informs = member informs;
       view = values view;
@@ -88,6 +90,7 @@ sameCounts c d = sameSorts (c .sent) (d .sent) && sameSorts (c .received) (d .re
 unfoldable pub sameAgent : Agent → Agent → Bool
 sameAgent a b =
     eqb (a .value) (b .value)
+    && eqb (a .last) (b .last)
     && sameSet (a .listens) (b .listens)
     && sameSet (a .informs) (b .informs)
     && sameAssignment (a .view) (b .view)
@@ -128,8 +131,12 @@ unfoldable pub allHold : List StepCase → Bool
 allHold [] = true
 allHold (c ∷ cs) = stepHolds c && allHold cs
 
+-- under rule 1, and under rule 2
 abbrev pub self : ℕ → ℕ → Self
-self i d = record { number = i; domain = d }
+self i d = record { number = i; domain = d; rule = 1 }
+
+abbrev pub quietSelf : ℕ → ℕ → Self
+quietSelf i d = record { number = i; domain = d; rule = quietRule }
 
 -- agent 3 with two values: value 1 is banned by agent 1 at 1, value 2 by agent 2 at 1 (P9's agent 3)
 abbrev pub bans3 : Bans
@@ -338,10 +345,10 @@ stepCases =
       sent = post 2 (Info 2) ∷ [];
       verdict = false;
     }
-    -- .. and where every value has one, the verdict: no value, the reasons remain, nothing is sent.
+    -- .. and where every value has one, the verdict: no value, the reasons and the last value taken remain, nothing is sent.
     ∷ record {
       got = receive (self 1 2) (bansFrom []) (agent 2 [] (2 ∷ []) [] (some (values []) ∷ [])) 2 (Back (values []) 2);
-      agent = agent 0 [] (2 ∷ []) [] (some (values []) ∷ some (values []) ∷ []);
+      agent = withLast (agent 0 [] (2 ∷ []) [] (some (values []) ∷ some (values []) ∷ [])) 2;
       counts = counts (0 ∷ 0 ∷ 0 ∷ []) (0 ∷ 1 ∷ 0 ∷ []);
       sent = [];
       verdict = true;
@@ -404,6 +411,91 @@ stepCases =
       agent = agent 1 (1 ∷ []) (3 ∷ []) (1 ∷ []) [];
       counts = counts (18446744073709551615 ∷ 2 ∷ 0 ∷ []) (0 ∷ 18446744073709551615 ∷ 3 ∷ []);
       sent = post 3 (Info 1) ∷ [];
+      verdict = false;
+    }
+    -- Rule 2. The slot taken is not the last one: all informed are told, the refuser among them, once.
+    ∷ record {
+      got = receive (quietSelf 2 2) (bansFrom []) (agent 1 (1 ∷ []) (3 ∷ 4 ∷ []) (2 ∷ []) []) 4 (Back (values (2 ∷ [])) 1);
+      agent = agent 2 (1 ∷ []) (3 ∷ 4 ∷ []) (2 ∷ []) (some (values (2 ∷ [])) ∷ []);
+      counts = counts (2 ∷ 0 ∷ 0 ∷ []) (0 ∷ 1 ∷ 0 ∷ []);
+      sent = post 3 (Info 2) ∷ post 4 (Info 2) ∷ [];
+      verdict = false;
+    }
+    -- Rule 2. A refusal that holds, of the only value: backing up ends in the last slot taken, and of the informed the refuser alone is told.
+    ∷ record {
+      got = receive (quietSelf 2 1) (bansFrom []) (agent 1 [] (3 ∷ 4 ∷ []) [] []) 3 (Back (values (1 ∷ [])) 1);
+      agent = agent 1 (1 ∷ []) (3 ∷ 4 ∷ []) [] [];
+      counts = counts (1 ∷ 1 ∷ 1 ∷ []) (0 ∷ 1 ∷ 0 ∷ []);
+      sent = post 1 AddLink ∷ post 1 (Back (values []) 1) ∷ post 3 (Info 1) ∷ [];
+      verdict = false;
+    }
+    -- Rule 2. A refuser that is not informed (on no rail that a start leads to) is told all the same, whether the slot is the old one or a new one.
+    ∷ record {
+      got = receive (quietSelf 2 1) (bansFrom []) (agent 1 (1 ∷ []) (4 ∷ []) (1 ∷ []) []) 3 (Back (values (1 ∷ [])) 1);
+      agent = agent 1 (1 ∷ []) (4 ∷ []) [] [];
+      counts = counts (1 ∷ 1 ∷ 0 ∷ []) (0 ∷ 1 ∷ 0 ∷ []);
+      sent = post 1 (Back (values []) 1) ∷ post 3 (Info 1) ∷ [];
+      verdict = false;
+    }
+    ∷ record {
+      got = receive (quietSelf 2 2) (bansFrom []) (agent 1 (1 ∷ []) (3 ∷ 5 ∷ []) (2 ∷ []) []) 4 (Back (values (2 ∷ [])) 1);
+      agent = agent 2 (1 ∷ []) (3 ∷ 5 ∷ []) (2 ∷ []) (some (values (2 ∷ [])) ∷ []);
+      counts = counts (3 ∷ 0 ∷ 0 ∷ []) (0 ∷ 1 ∷ 0 ∷ []);
+      sent = post 3 (Info 2) ∷ post 4 (Info 2) ∷ post 5 (Info 2) ∷ [];
+      verdict = false;
+    }
+    -- Rule 1 tells it nothing there: news goes to the informed.
+    ∷ record {
+      got = receive (self 2 2) (bansFrom []) (agent 1 (1 ∷ []) (3 ∷ 5 ∷ []) (2 ∷ []) []) 4 (Back (values (2 ∷ [])) 1);
+      agent = agent 2 (1 ∷ []) (3 ∷ 5 ∷ []) (2 ∷ []) (some (values (2 ∷ [])) ∷ []);
+      counts = counts (2 ∷ 0 ∷ 0 ∷ []) (0 ∷ 1 ∷ 0 ∷ []);
+      sent = post 3 (Info 2) ∷ post 5 (Info 2) ∷ [];
+      verdict = false;
+    }
+    -- News bans the own value, the only one: the agent backs up and takes it again. Rule 2 keeps silent, rule 1 tells it.
+    ∷ record {
+      got = receive (quietSelf 2 1) (bansFrom (ownBan 1 1 1 ∷ [])) (agent 1 (1 ∷ []) (3 ∷ []) [] []) 1 (Info 1);
+      agent = agent 1 (1 ∷ []) (3 ∷ []) [] [];
+      counts = counts (0 ∷ 1 ∷ 0 ∷ []) (1 ∷ 0 ∷ 0 ∷ []);
+      sent = post 1 (Back (values []) 1) ∷ [];
+      verdict = false;
+    }
+    ∷ record {
+      got = receive (self 2 1) (bansFrom (ownBan 1 1 1 ∷ [])) (agent 1 (1 ∷ []) (3 ∷ []) [] []) 1 (Info 1);
+      agent = agent 1 (1 ∷ []) (3 ∷ []) [] [];
+      counts = counts (1 ∷ 1 ∷ 0 ∷ []) (1 ∷ 0 ∷ 0 ∷ []);
+      sent = post 1 (Back (values []) 1) ∷ post 3 (Info 1) ∷ [];
+      verdict = false;
+    }
+    -- Rule 2. News bans the own value, and another is free: it is not the last one taken, and is told.
+    ∷ record {
+      got = receive (quietSelf 2 2) (bansFrom (ownBan 1 1 1 ∷ [])) (agent 1 (1 ∷ []) (3 ∷ []) [] []) 1 (Info 1);
+      agent = agent 2 (1 ∷ []) (3 ∷ []) (1 ∷ []) (some (values (1 ∷ [])) ∷ []);
+      counts = counts (1 ∷ 0 ∷ 0 ∷ []) (1 ∷ 0 ∷ 0 ∷ []);
+      sent = post 3 (Info 2) ∷ [];
+      verdict = false;
+    }
+    -- Rule 2. Outdated refusals and link requests are answered as under rule 1.
+    ∷ record {
+      got = receive (quietSelf 2 2) (bansFrom []) (agent 1 (1 ∷ []) (3 ∷ []) (1 ∷ []) []) 3 (Back (values (2 ∷ [])) 1);
+      agent = agent 1 (1 ∷ []) (3 ∷ []) (1 ∷ []) [];
+      counts = counts (1 ∷ 0 ∷ 0 ∷ []) (0 ∷ 1 ∷ 0 ∷ []);
+      sent = post 3 (Info 1) ∷ [];
+      verdict = false;
+    }
+    ∷ record {
+      got = receive (quietSelf 1 2) (bansFrom []) (agent 2 [] (3 ∷ []) [] []) 2 AddLink;
+      agent = agent 2 [] (2 ∷ 3 ∷ []) [] [];
+      counts = counts (1 ∷ 0 ∷ 0 ∷ []) (0 ∷ 0 ∷ 1 ∷ []);
+      sent = post 2 (Info 2) ∷ [];
+      verdict = false;
+    }
+    -- Rule 2. At the start nobody has taken a slot, and all informed are told.
+    ∷ record {
+      got = begin (quietSelf 2 2) (bansFrom []) (member (1 ∷ [])) (member (3 ∷ 5 ∷ []));
+      agent = agent 1 (1 ∷ []) (3 ∷ 5 ∷ []) [] [];
+      counts = counts (2 ∷ 0 ∷ 0 ∷ []) (0 ∷ 0 ∷ 0 ∷ []);
+      sent = post 3 (Info 1) ∷ post 5 (Info 1) ∷ [];
       verdict = false;
     }
     ∷ []

@@ -1,12 +1,13 @@
 -- The rules 'Choosing' and 'Backing up' of docs/RULES.md (figure 1: ChooseValue, CheckAgentView lines 2-4, Backtrack).
 use Prim.Native.Nat.{ℕ, zero, suc, _-_}
-use mathlib.Core.Bool.{Bool, true, false, _&&_, cond}
+use mathlib.Core.Bool.{Bool, true, false, not, _&&_, _||_, cond}
 use mathlib.Core.Option.{Option, none, some}
 use mathlib.Core.List.{List, [], _∷_, _++_}
+use lib.Dec.{eqb}
 use Rattle.base.specs.Finite.{at, lowest, highest, gather, isSome}
 use Rattle.problem.specs.Problem.{maxAgents}
 use Rattle.agent_rules.specs.Message.{Assignment, known, nobody, Info, Back, Post}
-use Rattle.agent_rules.specs.Agent.{Self, Bans, Nogoods, Agent, Step, withValue, withView, withNogoods, above}
+use Rattle.agent_rules.specs.Agent.{Self, Bans, Nogoods, Agent, Step, withValue, withLast, withView, withNogoods, above}
 
 -- ---- whom to blame
 
@@ -66,19 +67,34 @@ choose (suc m) v s bans view nogoods =
 unfoldable pub choice : Self → Bans → Agent → Choice
 choice s bans a = choose (s .domain) 1 s bans (a .view) (a .nogoods)
 
--- "News of it goes to all that it informs, even if the slot is the old one"
-unfoldable pub infoTo : Agent → ℕ → ℕ → List Post
-infoTo a v k = elim (a .informs k) [ true ↦ record { to = k; message = Info v } ∷ [] | false ↦ [] ]
+-- the number of the quiet rule
+unfoldable pub quietRule : ℕ
+quietRule = 2
 
-unfoldable pub infos : Self → Agent → ℕ → List Post
-infos s a v = gather (maxAgents - s .number) (suc (s .number)) (infoTo a v)
+-- where no refusal is being worked
+unfoldable pub noRefuser : ℕ
+noRefuser = 0
+
+-- whether agent k gets the news of value v. Rule 1: "News of it goes to all that it informs, even if the slot is the old one." Rule 2: "a scanner
+-- whose new slot is the last that it took keeps silent"; "The scanner whose refusal is being worked has forgotten the slot and gets the news in
+-- any case, once."
+unfoldable pub tells : Self → Agent → ℕ → ℕ → ℕ → Bool
+tells s a refuser v k =
+    cond (eqb (s .rule) quietRule) ((a .informs k && not (eqb v (a .last))) || eqb k refuser) (a .informs k)
+
+unfoldable pub infoTo : Self → Agent → ℕ → ℕ → ℕ → List Post
+infoTo s a refuser v k = elim (tells s a refuser v k) [ true ↦ record { to = k; message = Info v } ∷ [] | false ↦ [] ]
+
+unfoldable pub infos : Self → Agent → ℕ → ℕ → List Post
+infos s a refuser v = gather (maxAgents - s .number) (suc (s .number)) (infoTo s a refuser v)
 
 -- the agent with what choosing left: its value, 0 for none, and its nogoods
 unfoldable pub chosen : Agent → ℕ → Nogoods → Agent
 chosen a v nogoods = withNogoods (withValue a v) nogoods
 
-unfoldable pub took : Self → Agent → ℕ → Nogoods → Step
-took s a v nogoods = record { agent = chosen a v nogoods; sent = infos s a v; verdict = false }
+-- the value is taken, and is the last one taken from now on
+unfoldable pub took : Self → ℕ → Agent → ℕ → Nogoods → Step
+took s refuser a v nogoods = record { agent = withLast (chosen a v nogoods) v; sent = infos s a refuser v; verdict = false }
 
 -- ---- backing up
 
@@ -91,7 +107,7 @@ unfoldable pub union : ℕ → Nogoods → Assignment
 union zero nogoods = nobody
 union (suc m) nogoods = join (union m nogoods) (lhsOf (nogoods (suc m)))
 
--- "If the join is empty, the verdict is "none": the scanner is left without a slot, and its reasons .. remain"
+-- "If the join is empty, the verdict is "none": the scanner is left without a slot, and its reasons .. remain". The last slot it took stays.
 unfoldable pub failed : Agent → Nogoods → Step
 failed a nogoods = record { agent = chosen a 0 nogoods; sent = []; verdict = true }
 
@@ -117,18 +133,18 @@ unfoldable pub after : List Post → Step → Step
 after posts t = record { agent = t .agent; sent = posts ++ t .sent; verdict = t .verdict }
 
 -- Choosing, with backing up. "chooses again, until a slot is taken." Each time one agent more of the view is unknown, so `times` above the
--- number of agents is never used up.
-unfoldable pub settle : ℕ → Self → Bans → Agent → Step
-settle zero s bans a = failed a (choice s bans a .nogoods)
-settle (suc times) s bans a =
+-- number of agents is never used up. The agent whose refusal is being worked stays the same throughout.
+unfoldable pub settle : ℕ → Self → Bans → ℕ → Agent → Step
+settle zero s bans refuser a = failed a (choice s bans a .nogoods)
+settle (suc times) s bans refuser a =
     elim (choice s bans a .value) [
-      | some v ↦ took s a v (choice s bans a .nogoods)
+      | some v ↦ took s refuser a v (choice s bans a .nogoods)
       | none ↦ elim (highest (above s) (λ k. known (union (s .domain) (choice s bans a .nogoods) k))) [
         | none ↦ failed a (choice s bans a .nogoods)
         | some k ↦ after (refusing k (union (s .domain) (choice s bans a .nogoods)) ∷ [])
-            (settle times s bans (forget k a (choice s bans a .nogoods)))
+            (settle times s bans refuser (forget k a (choice s bans a .nogoods)))
       ]
     ]
 
-unfoldable pub checkView : Self → Bans → Agent → Step
-checkView s bans a = settle (s .number) s bans a
+unfoldable pub checkView : Self → Bans → ℕ → Agent → Step
+checkView s bans refuser a = settle (s .number) s bans refuser a

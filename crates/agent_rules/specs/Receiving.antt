@@ -23,7 +23,7 @@ use Rattle.agent_rules.specs.Agent.{
   above,
   agrees,
 }
-use Rattle.agent_rules.specs.Choosing.{bars, after, checkView}
+use Rattle.agent_rules.specs.Choosing.{bars, noRefuser, after, checkView}
 
 -- a step that sends what it is given to send and does not choose
 unfoldable pub quiet : Agent → List Post → Step
@@ -57,7 +57,7 @@ conflicts s bans view v = isSome (lowest (above s) 1 (bars bans view v))
 unfoldable pub onInfo : Self → Bans → Agent → ℕ → ℕ → Step
 onInfo s bans a from v =
     elim (conflicts s bans (at (a .view) from v) (a .value))
-    [ true ↦ checkView s bans (updated s a from v) | false ↦ quiet (updated s a from v) [] ]
+    [ true ↦ checkView s bans noRefuser (updated s a from v) | false ↦ quiet (updated s a from v) [] ]
 
 -- ---- Refusal
 
@@ -89,16 +89,16 @@ hearing a lhs =
 unfoldable pub accepting : Agent → Assignment → ℕ → Agent
 accepting a lhs v = withValue (withNogoods (hearing a lhs) (at (a .nogoods) v (some lhs))) 0
 
--- "If it does not hold: where the refused slot is the own one, news goes to the sender; otherwise nothing."
+-- "If it does not hold: where the refused slot is the own one, news goes to the sender; otherwise nothing.", under either rule
 unfoldable pub outdated : Agent → ℕ → ℕ → Step
 outdated a from v = quiet a (elim (eqb v (a .value)) [ true ↦ answer a from | false ↦ [] ])
 
 unfoldable pub onBack : Self → Bans → Agent → ℕ → Assignment → ℕ → Step
 onBack s bans a from lhs v =
     elim (holds s a lhs v)
-    [ true ↦ after (addLinks s a lhs) (checkView s bans (accepting a lhs v)) | false ↦ outdated a from v ]
+    [ true ↦ after (addLinks s a lhs) (checkView s bans from (accepting a lhs v)) | false ↦ outdated a from v ]
 
--- ---- Link request: "The sender is informed from now on, and gets news."
+-- ---- Link request: "The sender is informed from now on, and gets news.", under either rule
 
 unfoldable pub informing : Agent → ℕ → Agent
 informing a from = withInforms a (at (a .informs) from true)
@@ -122,10 +122,11 @@ counted a got t =
 unfoldable pub receive : Self → Bans → Agent → ℕ → Message → Step
 receive s bans a from m = counted a (m ∷ []) (react s bans a from m)
 
--- ---- Start: "All views are unknown, and each scanner chooses." Its news counts.
+-- ---- Start: "All views are unknown, and each scanner chooses." Its news counts. Nobody has taken a slot yet, so under either rule all that are
+-- informed get it.
 
 unfoldable pub fresh : (ℕ → Bool) → (ℕ → Bool) → Agent
 fresh listens informs = withInforms (withListens unusedAgent listens) informs
 
 unfoldable pub begin : Self → Bans → (ℕ → Bool) → (ℕ → Bool) → Step
-begin s bans listens informs = counted (fresh listens informs) [] (checkView s bans (fresh listens informs))
+begin s bans listens informs = counted (fresh listens informs) [] (checkView s bans noRefuser (fresh listens informs))

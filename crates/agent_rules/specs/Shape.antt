@@ -23,6 +23,7 @@ EachIn f P = (k : ℕ) → 1 ≤ k → k ≤ maxNamed → f k ≡ true → P k
 -- `owns k v`: agent k owns value v
 pub record RecordFits (owns : ℕ → ℕ → Bool) (s : Self) (a : Agent) : Type 0 where
   pub valued : within (s .domain) (a .value) ≡ true
+  pub kept : a .last ≡ a .value
   pub upward : EachIn (a .listens) (λ k. k < s .number)
   pub downward : EachIn (a .informs) (λ k. (s .number < k) × (k ≤ maxAgents))
   pub viewed : EachNamed (a .view) (λ k v. (a .listens k ≡ true) × (owns k v ≡ true))

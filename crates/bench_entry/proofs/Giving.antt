@@ -11,7 +11,8 @@ use borrow.Author.Tests.{eq-eqb, ne-eqb, lt-ltb, le-ltb}
 use Rattle.base.specs.Finite.{fromOne}
 use Rattle.base.proofs.Tests.{test}
 use Rattle.base.proofs.Arrays.{getD-below, getD-past}
-use Rattle.problem.specs.Sheet.{SheetFault, BadLength, BadHeader, BadRecord, Cycle, faultNumber, Decoded, Valid, Invalid, decode}
+use Rattle.problem.specs.Sheet.{Decoded, Valid, Invalid, decode}
+use Rattle.problem.proofs.Checks.{fault-some}
 use Rattle.agent_rules.specs.Message.{nobody}
 use Rattle.agent_rules.specs.Agent.{Agent as Agent′, unusedAgent}
 use Rattle.protocol.specs.Network.{Network as Network′, Started, startSheet}
@@ -31,13 +32,6 @@ use Rattle.run.specs.Answers.{endingOf, RunsAs}
 use Rattle.bench_entry.specs.Giving.{wordFor, WaitsFor, endingDigit, valuesTo, ranFor, settledFor, countsMixed, countsFor}
 
 -- ---- decoding
-
-fault-some : (f : SheetFault) → faultNumber f ≢ 0
-unfolding faultNumber
-fault-some BadLength e = omega arith
-fault-some BadHeader e = omega arith
-fault-some BadRecord e = omega arith
-fault-some Cycle e = omega arith
 
 fault-on : (d : Decoded) (word : ℕ) → outcome d .number ≢ 0 → outcome d .number ≡ wordFor d word
 unfolding outcome wordFor
@@ -61,11 +55,11 @@ module _ (sheet : List ℕ) (o : Outcome) (e : o ≡ outcome (decode sheet)) (wo
 
 -- ---- the start
 
-module _ (sheet : List ℕ) (o : Network) (sender : ℕ) (accepted : startSheet sheet .number ≡ 0) (e : networkOf o ≡ startSheet sheet .network) where
-  held : (j : ℕ) → heldAt (o .counts) (suc sender) j ≡ length (startSheet sheet .network .channel (suc sender) j)
+module _ (rule : ℕ) (sheet : List ℕ) (o : Network) (sender : ℕ) (accepted : startSheet rule sheet .number ≡ 0) (e : networkOf o ≡ startSheet rule sheet .network) where
+  held : (j : ℕ) → heldAt (o .counts) (suc sender) j ≡ length (startSheet rule sheet .network .channel (suc sender) j)
   held j = sym (channel-held o (suc sender) j) ∙ ap (λ (w : Network′). length (w .channel (suc sender) j)) e
 
-  pub row-given : (r : ℕ) → ((j : ℕ) → assignment r j ≡ heldAt (o .counts) (suc sender) j) → WaitsFor sheet sender r
+  pub row-given : (r : ℕ) → ((j : ℕ) → assignment r j ≡ heldAt (o .counts) (suc sender) j) → WaitsFor rule sheet sender r
   row-given r h = record { refused = λ n. absurd (n accepted); waits = λ _ j. h j ∙ held j }
 
 -- a sender's row, less what is no channel's

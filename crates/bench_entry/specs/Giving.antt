@@ -20,12 +20,13 @@ unfoldable pub wordFor : Decoded → ℕ → ℕ
 wordFor (Valid p) word = getD (p .bans) word 0
 wordFor (Invalid f) word = faultNumber f
 
--- ---- the start: what waits on one sender's channels, digit j for receiver j, or the number of the sheet's fault. Senders are counted from 0.
+-- ---- the start under a rule: what waits on one sender's channels, digit j for receiver j, or the number that refuses the rule or the sheet. Senders
+-- are counted from 0.
 
-pub record WaitsFor (sheet : List ℕ) (sender r : ℕ) : Type 0 where
-  pub refused : (startSheet sheet .number ≡ 0 → ⊥) → r ≡ startSheet sheet .number
-  pub waits : startSheet sheet .number ≡ 0
-      → (j : ℕ) → assignment r j ≡ length (startSheet sheet .network .channel (suc sender) j)
+pub record WaitsFor (rule : ℕ) (sheet : List ℕ) (sender r : ℕ) : Type 0 where
+  pub refused : (startSheet rule sheet .number ≡ 0 → ⊥) → r ≡ startSheet rule sheet .number
+  pub waits : startSheet rule sheet .number ≡ 0
+      → (j : ℕ) → assignment r j ≡ length (startSheet rule sheet .network .channel (suc sender) j)
 
 -- ---- a run
 
@@ -46,7 +47,7 @@ valuesTo (suc k) w = valuesTo k w * 9 + w .agents (suc k) .value % 9
 unfoldable pub ranFor : Ran → ℕ
 ranFor x = (valuesTo 12 (x .network) * 1048576 + x .made % 1048576) * 16 + endingDigit (x .ending)
 
--- the run on a start, or 8 and the number of the sheet's fault
+-- the run on a start, or 8 and the number that refuses the rule or the sheet
 unfoldable pub settledFor : Started → ℕ → ℕ
 settledFor s rounds = elim (eqb (s .number) 0) [ true ↦ ranFor (run rounds (s .network)) | false ↦ 8 + s .number ]
 

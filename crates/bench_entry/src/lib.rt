@@ -31,12 +31,13 @@ pub extern "C" fn bench_entry_decode(sheet: &[u8], word: usize) -> u64
     0
 }
 
-// Decoding and the start: what waits on one sender's channels, a digit for each receiver, or the number of the sheet's fault.
+// Decoding and the start under a rule: what waits on one sender's channels, a digit for each receiver, or the number that refuses the rule or the
+// sheet.
 #[no_mangle]
-pub extern "C" fn bench_entry_start(sheet: &[u8], sender: usize) -> u64
-    ensures { λ r. ⌜ WaitsFor (now (sheet .entry)) sender r ⌝ }
+pub extern "C" fn bench_entry_start(rule: u8, sheet: &[u8], sender: usize) -> u64
+    ensures { λ r. ⌜ WaitsFor rule (now (sheet .entry)) sender r ⌝ }
 {
-    let started = start::start(sheet);
+    let started = start::start(rule, sheet);
     if started.number != 0 {
         return started.number as u64;
     }
@@ -61,12 +62,12 @@ fn number_of(e: Ending) -> u64
     }
 }
 
-// Decoding, the start and a run: how it ended, its full rounds and all values, or the number of the sheet's fault.
+// Decoding, the start and a run: how it ended, its full rounds and all values, or the number that refuses the rule or the sheet.
 #[no_mangle]
-pub extern "C" fn bench_entry_settle(sheet: &[u8], rounds: u64) -> u64
-    ensures { λ r. ⌜ r ≡ settledFor (startSheet (now (sheet .entry))) rounds ⌝ }
+pub extern "C" fn bench_entry_settle(rule: u8, sheet: &[u8], rounds: u64) -> u64
+    ensures { λ r. ⌜ r ≡ settledFor (startSheet rule (now (sheet .entry))) rounds ⌝ }
 {
-    let started = start::start(sheet);
+    let started = start::start(rule, sheet);
     if started.number != 0 {
         return 8 + started.number as u64;
     }
@@ -118,10 +119,10 @@ fn play(network: Network, number: u8, calls: &[u8]) -> Reached
 // The start and then deliveries: sender and receiver stand in `calls`, two bytes for each. The answer is made of their numbers and, at the end, of each
 // agent's value.
 #[no_mangle]
-pub extern "C" fn bench_entry_deliver(sheet: &[u8], calls: &[u8]) -> u64
-    ensures { λ r. ⌜ r ≡ playedFor (playedTo (length (now (calls .entry)) / 2) (startSheet (now (sheet .entry))) (now (calls .entry))) ⌝ }
+pub extern "C" fn bench_entry_deliver(rule: u8, sheet: &[u8], calls: &[u8]) -> u64
+    ensures { λ r. ⌜ r ≡ playedFor (playedTo (length (now (calls .entry)) / 2) (startSheet rule (now (sheet .entry))) (now (calls .entry))) ⌝ }
 {
-    let started = start::start(sheet);
+    let started = start::start(rule, sheet);
     let begun = started.network;
     let played = play(begun, started.number, calls);
     let network = played.network;
@@ -155,10 +156,10 @@ fn all_mixed(sent: Counts, received: Counts) -> u64
 
 // Decoding, the start and a run: one agent's counts after it.
 #[no_mangle]
-pub extern "C" fn bench_entry_counts(sheet: &[u8], rounds: u64, agent: usize) -> u64
-    ensures { λ r. ⌜ r ≡ countsFor (startSheet (now (sheet .entry))) rounds agent ⌝ }
+pub extern "C" fn bench_entry_counts(rule: u8, sheet: &[u8], rounds: u64, agent: usize) -> u64
+    ensures { λ r. ⌜ r ≡ countsFor (startSheet rule (now (sheet .entry))) rounds agent ⌝ }
 {
-    let started = start::start(sheet);
+    let started = start::start(rule, sheet);
     let network = started.network;
     let ran = run::run(network, rounds);
     let agents = ran.network.agents;

@@ -1,7 +1,13 @@
-// Steps a network call by call and draws it: `board SHEET [CALL ..]`.
+// Steps a network call by call and draws it: `board [--rule N] SHEET [CALL ..]`.
 use board_text::Stepped;
 use board_text::begin;
 use board_text::call;
+use board_text::options::Options;
+use board_text::options::goes_on;
+use board_text::options::no_options;
+use board_text::options::opens;
+use board_text::options::option;
+use board_text::options::put_unopened;
 use words::printing::Out;
 
 // ---- calls
@@ -15,11 +21,11 @@ fn call_at(s: Stepped, i: usize) -> Stepped {
     call(out, network, &word[..n])
 }
 
-// The calls from the second argument on, as long as what they print can be written.
-fn calls(stepped: Stepped) {
+// The calls from argument `first` on, as long as what they print can be written.
+fn calls(stepped: Stepped, first: usize) {
     let mut s = stepped;
     let end = os::arg_count();
-    let mut i: usize = 2;
+    let mut i = first;
     while i < end {
         if s.out.failed {
             return;
@@ -29,9 +35,9 @@ fn calls(stepped: Stepped) {
     }
 }
 
-// The start of a sheet, and the calls where it is not refused.
-fn play(sheet: &[u8]) {
-    let begun = begin(Out::new(), sheet);
+// The start of a sheet by a rule, and the calls where it is not refused.
+fn play(rule: u8, sheet: &[u8], first: usize) {
+    let begun = begin(Out::new(), rule, sheet);
     if begun.number != 0 {
         return;
     }
@@ -41,14 +47,13 @@ fn play(sheet: &[u8]) {
         network: network,
         out: out,
     };
-    calls(s);
+    calls(s, first);
 }
 
 // ---- the sheet
 
-// One line, that ends in a word as it is given.
-fn say(text: &[u8], word: &[u8]) {
-    Out::new().put(text).put(word).put(b"\n");
+fn say_unread(name: &[u8]) {
+    Out::new().put(b"cannot read ").put(name).put(b"\n");
 }
 
 // A read fails, as of a directory. At the end of a file it gives nothing, which is no failure.
@@ -58,44 +63,57 @@ fn read_fails(fd: i32) -> bool {
 }
 
 // One byte beyond the longest sheet tells that the file is too long.
-fn read_and_play(fd: i32, name: &[u8]) {
+fn read_and_play(fd: i32, name: &[u8], rule: u8, first: usize) {
     let mut sheet = [0u8; 33817];
     let n = io::read_full(fd, &mut sheet);
     if read_fails(fd) {
-        say(b"cannot read ", name);
+        say_unread(name);
         return;
     }
-    play(&sheet[..n]);
+    play(rule, &sheet[..n], first);
 }
 
-fn open_and_play(name: &[u8]) {
+fn open_and_play(name: &[u8], rule: u8, first: usize) {
     let fd = os::open_read(name);
     if fd < 0 {
-        say(b"cannot read ", name);
+        say_unread(name);
         return;
     }
-    read_and_play(fd, name);
+    read_and_play(fd, name, rule, first);
     libc::close(fd);
 }
 
-// A word that begins with two dashes is an option and no file. There are none.
-fn is_option(word: &[u8]) -> bool {
-    if word.len() < 2 {
-        return false;
-    }
-    word[0] == b'-' && word[1] == b'-'
+// ---- the words in front of the calls
+
+fn option_at(o: Options, i: usize) -> Options {
+    let mut word = [0u8; 131072];
+    let n = os::arg(i, &mut word);
+    option(o, &word[..n])
 }
 
+// What the words up to argument i come to. Where it is the file, the calls begin at argument `first`.
+fn follow(o: Options, i: usize, first: usize) {
+    let mut word = [0u8; 131072];
+    let n = os::arg(i, &mut word);
+    if opens(o) {
+        open_and_play(&word[..n], o.rule, first);
+        return;
+    }
+    put_unopened(Out::new(), o, &word[..n]);
+}
+
+// The options are read, up to the file, to a word that is not understood or to the end.
 fn main() {
-    if os::arg_count() < 2 {
-        say(b"no file given: ", b"board SHEET [CALL ..]");
-        return;
+    let end = os::arg_count();
+    let mut o = no_options();
+    let mut i: usize = 1;
+    while i < end {
+        o = option_at(o, i);
+        if !goes_on(o) {
+            follow(o, i, i + 1);
+            return;
+        }
+        i += 1;
     }
-    let mut name = [0u8; 131072];
-    let n = os::arg(1, &mut name);
-    if is_option(&name[..n]) {
-        say(b"option not understood: ", &name[..n]);
-        return;
-    }
-    open_and_play(&name[..n]);
+    follow(o, end, end);
 }

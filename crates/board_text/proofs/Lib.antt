@@ -1,3 +1,4 @@
 mod Numbers
+mod Spelling
 mod Words
 pub mod Capped

@@ -1,4 +1,4 @@
--- What the start of a sheet gives, and what a call of the command line does to the network.
+-- What the start of a sheet by a rule gives, and what a call of the command line does to the network.
 use Prim.Native.Nat.{ℕ, suc}
 use mathlib.Core.Path.{_≡_}
 use mathlib.Core.List.{List}
@@ -12,12 +12,12 @@ use Rattle.network.specs.Abstract.{networkOf}
 use Rattle.board_text.specs.declared.calls.Call.{Call}
 use Rattle.board_text.specs.declared.calls.Call.the-variants.{Deliver, Run, Unknown}
 
--- number and network are the start's for the sheet; and for every input that begins with the sheet where it is cut behind one byte more than the longest
+-- number and network are the start's for the rule and the sheet; and for every input that begins with the sheet where it is cut behind one byte more than the longest
 -- sheet has
-pub record BeginsAs (sheet : List ℕ) (number : ℕ) (r : Record) : Type 0 where
-  pub numbered : number ≡ startSheet sheet .number
-  pub started : networkOf r ≡ startSheet sheet .network
-  pub whole : (input : List ℕ) → take (suc longestSheet) input ≡ sheet → (number ≡ startSheet input .number) × (networkOf r ≡ startSheet input .network)
+pub record BeginsAs (rule : ℕ) (sheet : List ℕ) (number : ℕ) (r : Record) : Type 0 where
+  pub numbered : number ≡ startSheet rule sheet .number
+  pub started : networkOf r ≡ startSheet rule sheet .network
+  pub whole : (input : List ℕ) → take (suc longestSheet) input ≡ sheet → (number ≡ startSheet rule input .number) × (networkOf r ≡ startSheet rule input .network)
 
 -- the network after the call; a word that is no call leaves it
 unfoldable pub afterCall : Call → Network → Network

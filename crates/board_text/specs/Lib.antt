@@ -1,2 +1,3 @@
 pub mod Reading
+pub mod Options
 pub mod Calling

@@ -90,9 +90,10 @@ fn put_reasons(o: Out, a: Agent) -> Out {
     out
 }
 
-fn put_slot(o: Out, value: u8) -> Out {
+// The slot; where the verdict left the scanner without one, the last that it took.
+fn put_slot(o: Out, value: u8, last: u8) -> Out {
     if value == 0 {
-        return o.put(b" slot -\n");
+        return o.line(b" slot -, last ", last as u64);
     }
     o.line(b" slot ", value as u64)
 }
@@ -119,7 +120,7 @@ fn put_counts(o: Out, sent: Counts, received: Counts) -> Out {
 // A scanner's block: its slot, then a line each for its view, whom it informs, its reasons and its counts.
 fn put_agent(o: Out, number: u64, a: Agent) -> Out {
     let view = a.view;
-    let slot = put_slot(o.put(b"scanner ").number(number), a.value);
+    let slot = put_slot(o.put(b"scanner ").number(number), a.value, a.last);
     let links = put_informs(put_view(slot, a.listens, view), a.informs);
     let reasons = put_reasons(links, a);
     put_counts(reasons, a.sent, a.received)

@@ -8,15 +8,18 @@ ghost use Rattle.board_text.specs.Calling.{BeginsAs, afterCall};
 
 mod calls;
 mod drawing;
+pub mod options;
 
 use calls::Call;
 use calls::read_call;
 use calls::significant;
 use drawing::put_board;
 use network::Network;
+use options::BAD_RULE;
+use options::put_bad_rule;
 use words::printing::Out;
 
-// The number of a sheet's fault or 0, and the network that its start gives.
+// The number with which the start refuses the rule or the sheet, or 0, and the network that it gives.
 pub struct Begun {
     pub number: u8,
     pub network: Network,
@@ -29,11 +32,11 @@ pub struct Stepped {
     pub out: Out,
 }
 
-// The start of a sheet, and the board where it is not refused.
-pub fn begin(o: Out, sheet: &[u8]) -> Begun
-    ensures { λ b. ⌜ BeginsAs (now (sheet .entry)) (b .number) (b .network) ⌝ }
+// The start of a sheet by a rule, and the board where it is not refused.
+pub fn begin(o: Out, rule: u8, sheet: &[u8]) -> Begun
+    ensures { λ b. ⌜ BeginsAs rule (now (sheet .entry)) (b .number) (b .network) ⌝ }
 {
-    let started = start::start(sheet);
+    let started = start::start(rule, sheet);
     let network = started.network;
     let number = started.number;
     let out = put_start(o, number, network);
@@ -45,10 +48,21 @@ pub fn begin(o: Out, sheet: &[u8]) -> Begun
 }
 
 fn put_start(o: Out, number: u8, r: Network) -> Out {
+    if number == BAD_RULE {
+        return put_bad_rule(o);
+    }
     if number != 0 {
         return o.line(b"sheet refused ", number as u64);
     }
-    put_board(o.put(b"start\n"), r)
+    put_board(put_rule(o.put(b"start"), r.rule).put(b"\n"), r)
+}
+
+// Rule 2 is named, rule 1 is not.
+fn put_rule(o: Out, rule: u8) -> Out {
+    if rule == 2 {
+        return o.put(b", rule 2");
+    }
+    o
 }
 
 // ---- calls

@@ -43,6 +43,15 @@ pub const BOARD: usize = 18;
 
 pub const WORD: usize = 19;
 
+pub const OPTION: usize = 20;
+
+pub const END: usize = 21;
+
+// More looks at a rail.
+pub const DIFFERS: usize = 22;
+
+pub const LAST: usize = 23;
+
 // The kind of a line whose word begins with s and then this letter.
 fn kind_by_second(b: u8) -> usize {
     match b {
@@ -53,21 +62,31 @@ fn kind_by_second(b: u8) -> usize {
     }
 }
 
+// The kind of a line whose word begins with d and then this letter.
+fn kind_by_d(b: u8) -> usize {
+    match b {
+        b'o' => DOCK,
+        b'i' => DIFFERS,
+        _ => DELIVER,
+    }
+}
+
 // The kind of a line whose word begins with the letters a and b.
 fn kind_by(a: u8, b: u8) -> usize {
     match a {
         b'c' => CASE,
         b's' => kind_by_second(b),
         b'b' => if b == b'o' { BOARD } else { BAN },
-        b'e' => EACH,
+        b'e' => if b == b'n' { END } else { EACH },
         b'h' => HEX,
         b'z' => ZEROS,
         b'r' => if b == b'u' { RUN } else { REFUSED },
         b'k' => KEEP,
         b't' => TAKEN,
-        b'd' => if b == b'o' { DOCK } else { DELIVER },
-        b'l' => LINE,
+        b'd' => kind_by_d(b),
+        b'l' => if b == b'a' { LAST } else { LINE },
         b'w' => WORD,
+        b'o' => OPTION,
         _ => UNKNOWN,
     }
 }
@@ -75,15 +94,18 @@ fn kind_by(a: u8, b: u8) -> usize {
 // A line of this kind can have so many numbers.
 fn numbers_fit(kind: usize, numbers: usize) -> bool {
     match kind {
-        REFUSED => numbers == 1,
+        START => numbers <= 1,
+        REFUSED => numbers == 1 || numbers == 2,
         RUN => numbers == 1 || numbers == 2,
         DELIVER => numbers == 2 || numbers == 3,
-        LINE => numbers == 3,
+        LINE => numbers == 3 || numbers == 4,
         BAN => numbers == 4,
         EACH => numbers == 5,
         ZEROS => numbers == 1,
         DOCK => numbers == 1,
+        BOARD => numbers <= 1,
         TAKEN => numbers <= 12,
+        LAST => numbers <= 12,
         SLOTS => numbers <= 12,
         _ => true,
     }

@@ -13,7 +13,7 @@ use Rattle.protocol.specs.Run.{Plan, Ran}
 use Rattle.run.specs.Answers.{endingOf}
 use Rattle.words.specs.Text.{lineOf, Appends}
 use Rattle.dock_text.specs.declared.Settlement.{Settlement}
-use Rattle.dock_text.specs.Settling.{Settles, settled}
+use Rattle.dock_text.specs.Settling.{programRule, Settles, settled}
 use Rattle.dock_text.specs.Text.{sheetRefused, ranText, answerText, settledText, dockText, Prints}
 use Rattle.dock_text.proofs.Cut.{text-cut}
 use Rattle.dock_text.proofs.Refused.{plan-counted}
@@ -57,4 +57,4 @@ pub counted : (rounds : ℕ) (sheet : List ℕ) (s : Settlement) → Settles rou
 unfolding settled
 counted rounds sheet s S e =
     subst (λ (k : ℕ). k ≤ 12) (sym (ap (λ (w : Network). w .problem .count) (S .network)) ∙ count-is (s .ran .network))
-    (plan-counted rounds (startSheet sheet .network) (sym (S .ending) ∙ e))
+    (plan-counted rounds (startSheet programRule sheet .network) (sym (S .ending) ∙ e))

@@ -8,29 +8,30 @@ use Rattle.base.specs.Finite.{within}
 use Rattle.base.proofs.Tests.{test}
 use Rattle.problem.specs.Problem.{maxAgents, maxPairs, noBans, emptyProblem, sized, countInRange, inRange}
 use Rattle.problem.specs.Sheet.{Decoded, Valid, Invalid, decode}
-use Rattle.protocol.specs.Network.{Network, emptyNetwork, startedOn, startSheet}
+use Rattle.protocol.specs.Network.{Network, emptyNetwork, isRule, startedOn, startSheet}
 use Rattle.protocol.specs.Shape.{inShape}
 use Rattle.protocol.specs.Delivery.{BadShape, rejectionNumber}
 use Rattle.protocol.specs.Run.{Ending, Plan, Broken, endingNumber, run}
+use Rattle.dock_text.specs.Settling.{programRule}
 use Rattle.shape_laws.proofs.ShapeClauses.{shaped}
 use Rattle.shape_laws.proofs.Shape.{run-keeps}
 
-started-empty : (d : Decoded) → (startedOn d .number ≡ 0 → ⊥) → startedOn d .network ≡ emptyNetwork
+started-empty : (rule : ℕ) (d : Decoded) → (startedOn rule d .number ≡ 0 → ⊥) → startedOn rule d .network ≡ emptyNetwork
 unfolding startedOn
-started-empty (Valid p) n = absurd (n refl)
-started-empty (Invalid f) n = refl
+started-empty rule (Valid p) n = absurd (n refl)
+started-empty rule (Invalid f) n = refl
 
-pub refused-empty : (sheet : List ℕ) → (startSheet sheet .number ≡ 0 → ⊥) → startSheet sheet .network ≡ emptyNetwork
-unfolding startSheet
-refused-empty sheet = started-empty (decode sheet)
+refused-empty : (sheet : List ℕ) → (startSheet programRule sheet .number ≡ 0 → ⊥) → startSheet programRule sheet .network ≡ emptyNetwork
+unfolding startSheet isRule within programRule
+refused-empty sheet = started-empty 1 (decode sheet)
 
 empty-broken : (rounds : ℕ) → run rounds emptyNetwork .ending ≡ Broken
 unfolding run inShape inRange sized countInRange within emptyNetwork emptyProblem noBans maxAgents maxPairs
 empty-broken rounds = refl
 
 -- the run on the start of a refused sheet does not answer 0
-pub refused-run : (rounds : ℕ) (sheet : List ℕ) (n : ℕ) → (startSheet sheet .number ≡ 0 → ⊥)
-    → n ≡ endingNumber (run rounds (startSheet sheet .network) .ending) → n ≡ 0 → ⊥
+pub refused-run : (rounds : ℕ) (sheet : List ℕ) (n : ℕ) → (startSheet programRule sheet .number ≡ 0 → ⊥)
+    → n ≡ endingNumber (run rounds (startSheet programRule sheet .network) .ending) → n ≡ 0 → ⊥
 unfolding endingNumber rejectionNumber
 refused-run rounds sheet n r e z =
     let five : n ≡ 5 = e ∙ ap (λ (w : Network). endingNumber (run rounds w .ending)) (refused-empty sheet r) ∙ ap endingNumber (empty-broken rounds) in

@@ -15,7 +15,7 @@ use Rattle.network.specs.Abstract.{networkOf}
 use Rattle.run.specs.declared.Answer.{Answer}
 use Rattle.run.specs.Answers.{endingOf}
 use Rattle.words.specs.Text.{decimal, newline, lineOf}
-use Rattle.dock_text.specs.Settling.{settled}
+use Rattle.dock_text.specs.Settling.{programRule, settled}
 
 -- ---- the words
 
@@ -71,11 +71,7 @@ settledText number r = elim (eqb number 0) [ true ↦ ranText (r .ending) (r .ma
 
 -- the text for a sheet, with so many rounds allowed
 unfoldable pub dockText : ℕ → List ℕ → List ℕ
-dockText rounds sheet = settledText (startSheet sheet .number) (settled rounds sheet)
-
--- "runs with 100,000 rounds"
-unfoldable pub programRounds : ℕ
-programRounds = 100000
+dockText rounds sheet = settledText (startSheet programRule sheet .number) (settled rounds sheet)
 
 -- The first n bytes of a buffer are the text for the sheet; and for every input that begins with the sheet where it is cut behind one byte more than the
 -- longest sheet has. "Input longer than any sheet meets the same checks."

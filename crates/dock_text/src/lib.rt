@@ -7,8 +7,8 @@ ghost use Rattle.io.specs.Counts.{Counts};
 ghost use Rattle.network.specs.Abstract.{networkOf};
 ghost use Rattle.run.specs.Answers.{endingOf};
 ghost use Rattle.words.specs.Text.{Appends};
-ghost use Rattle.dock_text.specs.Settling.{Settles};
-ghost use Rattle.dock_text.specs.Text.{slotLine, slotLines, planLines, answerText, Prints, programRounds};
+ghost use Rattle.dock_text.specs.Settling.{programRounds, Settles};
+ghost use Rattle.dock_text.specs.Text.{slotLine, slotLines, planLines, answerText, Prints};
 use network::Network;
 use run::Answer;
 use run::Ending;
@@ -23,11 +23,11 @@ pub struct Settlement {
     pub ran: Answer,
 }
 
-// The start of a sheet, and the run on it with so many rounds.
+// The start of a sheet by rule 1, and the run on it with so many rounds.
 pub fn settle(sheet: &[u8], rounds: u64) -> Settlement
     ensures { λ s. ⌜ Settles rounds (now (sheet .entry)) s ⌝ }
 {
-    let started = start::start(sheet);
+    let started = start::start(1, sheet);
     let network = started.network;
     let ran = run::run(network, rounds);
     Settlement {

@@ -27,6 +27,9 @@ fn same_agent(a: Agent, b: Agent) -> bool {
     if a.value != b.value {
         return false;
     }
+    if a.last != b.last {
+        return false;
+    }
     if a.stored != b.stored {
         return false;
     }
@@ -95,6 +98,9 @@ fn same_places(a: [Place; 1056], b: [Place; 1056]) -> bool {
 
 pub fn same(a: Network, b: Network) -> bool {
     if a.count != b.count {
+        return false;
+    }
+    if a.rule != b.rule {
         return false;
     }
     if a.verdict != b.verdict {

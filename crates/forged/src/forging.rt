@@ -17,6 +17,12 @@ pub fn counted(r: Network, n: u8) -> Network {
     o
 }
 
+pub fn ruled(r: Network, rule: u8) -> Network {
+    let mut o = r;
+    o.rule = rule;
+    o
+}
+
 pub fn with_domain(r: Network, i: usize, d: u8) -> Network
     requires { ⌜ i < 12 ⌝ }
 {
@@ -47,6 +53,24 @@ pub fn holding(r: Network, i: usize, value: u8) -> Network
     let mut o = r;
     o.agents[i] = a;
     o
+}
+
+// The last value that agent i + 1 took.
+pub fn having_taken(r: Network, i: usize, last: u8) -> Network
+    requires { ⌜ i < 12 ⌝ }
+{
+    let mut a = r.agents[i];
+    a.last = last;
+    let mut o = r;
+    o.agents[i] = a;
+    o
+}
+
+// Agent i + 1 holds the last value that it took.
+pub fn settled(r: Network, i: usize, value: u8) -> Network
+    requires { ⌜ i < 12 ⌝ }
+{
+    having_taken(holding(r, i, value), i, value)
 }
 
 pub fn listening(r: Network, i: usize, set: u16) -> Network
@@ -172,20 +196,21 @@ pub fn far_back(value: u8) -> Message {
 
 // ---- networks in shape
 
-// Three agents with domain 2. Bans: 1:1 with 3:1, and 2:1 with 3:2. Agent 3 listens to both others and sees both at 1; it holds 2 and keeps
+// Three agents with domain 2, under rule 1. Bans: 1:1 with 3:1, and 2:1 with 3:2. Agent 3 listens to both others and sees both at 1; it holds 2 and keeps
 // "1 has 1" for its own value 1. It has sent agent 2 a Back with the left side "1 has 1", then an AddLink, and agent 1 an AddLink. Channel 1 to 3
 // is full and begins in the midst of its ring; on channel 2 to 3 waits one Info.
 pub fn good() -> Network {
     let mut r = network::empty();
     r.count = 3;
+    r.rule = 1;
     r.domains[0] = 2;
     r.domains[1] = 2;
     r.domains[2] = 2;
     r.bans[1] = 1;
     r.bans[2] = 2;
-    r = informing(holding(r, 0, 1), 0, 0b100);
-    r = informing(holding(r, 1, 1), 1, 0b100);
-    r = viewing(listening(holding(r, 2, 2), 2, 0b11), 2, 0x11);
+    r = informing(settled(r, 0, 1), 0, 0b100);
+    r = informing(settled(r, 1, 1), 1, 0b100);
+    r = viewing(listening(settled(r, 2, 2), 2, 0b11), 2, 0x11);
     r = keeping(r, 2, 0, true, 0x1);
     r = waiting(headed(r, 1, 3, 3), 1, 3, 8);
     r = with_message(with_message(r, 8, Message::Info(1)), 9, Message::Info(2));
@@ -202,10 +227,26 @@ pub fn good() -> Network {
 pub fn repeated() -> Network {
     let mut r = network::empty();
     r.count = 2;
+    r.rule = 1;
     r.domains[0] = 2;
     r.domains[1] = 2;
-    r = informing(holding(r, 0, 1), 0, 0b10);
-    r = listening(holding(r, 1, 1), 1, 0b1);
+    r = informing(settled(r, 0, 1), 0, 0b10);
+    r = listening(settled(r, 1, 1), 1, 0b1);
     r = with_message(waiting(r, 1, 2, 1), 0, Message::Info(1));
     with_message(waiting(r, 2, 1, 1), 88, Message::AddLink)
+}
+
+// Three agents without a ban, agent 2 with domain d. Agent 3 listens to agent 2, which does not inform it, and has sent it a Back of its value 1 with the
+// left side "1 has 1"; agent 2 listens to agent 1 and sees it at 1.
+pub fn uninformed(rule: u8, d: u8) -> Network {
+    let mut r = network::empty();
+    r.count = 3;
+    r.rule = rule;
+    r.domains[0] = 2;
+    r.domains[1] = d;
+    r.domains[2] = 2;
+    r = informing(settled(r, 0, 1), 0, 0b10);
+    r = viewing(listening(settled(r, 1, 1), 1, 0b1), 1, 0x1);
+    r = listening(settled(r, 2, 1), 2, 0b10);
+    with_message(waiting(r, 3, 2, 1), 184, back(0x1, 1))
 }

@@ -13,6 +13,7 @@ use forging::far_back;
 use forging::good;
 use forging::having_received;
 use forging::having_sent;
+use forging::having_taken;
 use forging::headed;
 use forging::holding;
 use forging::informing;
@@ -20,12 +21,16 @@ use forging::judged;
 use forging::keeping;
 use forging::listening;
 use forging::repeated;
+use forging::ruled;
+use forging::settled;
+use forging::uninformed;
 use forging::viewing;
 use forging::waiting;
 use forging::with_bans;
 use forging::with_domain;
 use forging::with_message;
 use network::Network;
+use packed::digit;
 use run::Answer;
 use words::printing::Out;
 
@@ -65,15 +70,30 @@ fn case(o: Out, name: &[u8], g: Network, r: Network) -> Out {
     value.put(b"\n")
 }
 
-// What may differ and leave the shape as it is.
+// What a network may hold.
 fn free(o: Out, g: Network) -> Out {
     let o = case(o, b"good", g, g);
+    let o = case(o, b"rule 2", g, ruled(g, 2));
+    let valueless = holding(g, 0, 0);
+    let o = case(o, b"no value under the verdict", g, judged(valueless));
     let o = case(
         o,
-        b"no value under the verdict",
+        b"no value under the verdict, and the other one the last",
         g,
-        judged(holding(g, 0, 0)),
+        judged(having_taken(valueless, 0, 2)),
     );
+    let top = 18446744073709551615;
+    let talkative = having_sent(g, 2, counts(top, 7, 0));
+    case(
+        o,
+        b"counts of any size",
+        g,
+        having_received(talkative, 1, counts(0, top - 1, top)),
+    )
+}
+
+// What is no part of a network.
+fn unread(o: Out, g: Network) -> Out {
     let o = case(
         o,
         b"a left side beside no nogood",
@@ -89,23 +109,18 @@ fn free(o: Out, g: Network) -> Out {
     let o = case(o, b"a head beyond the ring", g, headed(g, 1, 3, 11));
     let o = case(o, b"a head of 15", g, headed(g, 1, 3, 15));
     let o = case(o, b"a head beyond agent 12", g, headed(g, 1, 13, 5));
-    let top = 18446744073709551615;
-    let talkative = having_sent(g, 2, counts(top, 7, 0));
-    let o = case(
-        o,
-        b"counts of any size",
-        g,
-        having_received(talkative, 1, counts(0, top - 1, top)),
-    );
     let o = case(o, b"a count of no line", g, waiting(g, 2, 2, 9));
     case(o, b"a count beyond agent 12", g, waiting(g, 2, 13, 9))
 }
 
-// n, the domains, the bans.
+// n, the rule, the domains, the bans.
 fn problems(o: Out, g: Network) -> Out {
     let o = case(o, b"empty", g, network::empty());
     let o = case(o, b"13 agents", g, counted(g, 13));
     let o = case(o, b"255 agents", g, counted(g, 255));
+    let o = case(o, b"rule 0", g, ruled(g, 0));
+    let o = case(o, b"rule 3", g, ruled(g, 3));
+    let o = case(o, b"rule 255", g, ruled(g, 255));
     let o = case(o, b"no values", g, with_domain(g, 1, 0));
     let o = case(o, b"9 values", g, with_domain(g, 1, 9));
     let o = case(o, b"255 values", g, with_domain(g, 1, 255));
@@ -127,13 +142,43 @@ fn problems(o: Out, g: Network) -> Out {
 
 // The value an agent holds.
 fn values(o: Out, g: Network) -> Out {
-    let o = case(o, b"a value not owned", g, holding(g, 0, 3));
+    let o = case(o, b"a value not owned", g, settled(g, 0, 3));
     let o = case(o, b"no value", g, holding(g, 0, 0));
     case(
         o,
         b"a value not owned under the verdict",
         g,
-        judged(holding(g, 0, 3)),
+        judged(settled(g, 0, 3)),
+    )
+}
+
+// The last value that an agent took.
+fn lasts(o: Out, g: Network) -> Out {
+    let o = case(o, b"no last value", g, having_taken(g, 0, 0));
+    let o = case(
+        o,
+        b"a last value that is not the one held",
+        g,
+        having_taken(g, 0, 2),
+    );
+    let o = case(
+        o,
+        b"a last value that is not the one held under the verdict",
+        g,
+        judged(having_taken(g, 0, 2)),
+    );
+    let valueless = holding(g, 0, 0);
+    let o = case(
+        o,
+        b"no value and no last value under the verdict",
+        g,
+        judged(having_taken(valueless, 0, 0)),
+    );
+    case(
+        o,
+        b"no value and a last value not owned under the verdict",
+        g,
+        judged(having_taken(valueless, 0, 3)),
     )
 }
 
@@ -207,6 +252,7 @@ fn views(o: Out, g: Network) -> Out {
 // An agent beyond n.
 fn beyond(o: Out, g: Network) -> Out {
     let o = case(o, b"a value beyond n", g, holding(g, 3, 1));
+    let o = case(o, b"a last value beyond n", g, having_taken(g, 3, 1));
     let o = case(o, b"listens beyond n", g, listening(g, 3, 0b1));
     let o = case(o, b"agent 4 informs", g, informing(g, 3, 0b10000));
     let o = case(o, b"a view beyond n", g, viewing(g, 3, 0x1));
@@ -341,20 +387,59 @@ fn refusals(o: Out, g: Network) -> Out {
 
 // A link request of an agent already informed, in a network that is in shape otherwise: a delivery meets 9, and a run, which has delivered the Info by
 // then, stops.
-fn requests(o: Out) {
+fn requests(o: Out) -> Out {
     let r = repeated();
     let shape = put_shape(o, b"a link asked for twice", r);
     let delivery = put_answer(shape, b"; delivery ", run::deliver(r, 2, 1), r);
     let ran = run::run(r, 1);
     let ending = ran.ending;
     let word = delivery.put(b"; run ").ending(ending);
-    word.put(b", ").number(ran.rounds).put(b" rounds\n");
+    word.put(b", ").number(ran.rounds).put(b" rounds\n")
+}
+
+// What waits on channel 2 to 3, whose ring begins at place 96: how many messages, and the head.
+fn put_line(o: Out, r: Network) -> Out {
+    let held = digit(r.counts[1], 3);
+    let o = o.put(b"; line 2 to 3 holds ").number(held as u64);
+    if held == 0 {
+        return o;
+    }
+    let place = r.places[96];
+    let message = place.message;
+    match message {
+        Message::Info(v) => o.put(b", news of ").number(v as u64),
+        Message::Back(v, _) => o.put(b", a refusal of ").number(v as u64),
+        Message::AddLink => o.put(b", a link request"),
+    }
+}
+
+// A refusal of an agent that its receiver does not inform: under rule 2 the refuser is told all the same.
+fn refuser(o: Out, name: &[u8], r: Network) -> Out {
+    let shape = put_shape(o, name, r);
+    let answer = run::deliver(r, 3, 2);
+    let after = answer.network;
+    put_line(put_answer(shape, b"; delivery ", answer, r), after).put(b"\n")
+}
+
+fn refusers(o: Out) {
+    let o = refuser(o, b"a refuser not informed, rule 1", uninformed(1, 1));
+    let o = refuser(
+        o,
+        b"a refuser not informed, rule 1, another value",
+        uninformed(1, 2),
+    );
+    let o = refuser(o, b"a refuser not informed, rule 2", uninformed(2, 1));
+    refuser(
+        o,
+        b"a refuser not informed, rule 2, another value",
+        uninformed(2, 2),
+    );
 }
 
 fn main() {
     let g = good();
-    let o = problems(free(Out::new(), g), g);
-    let o = views(sets(values(o, g), g), g);
+    let o = problems(unread(free(Out::new(), g), g), g);
+    let o = views(sets(lasts(values(o, g), g), g), g);
     let o = refusals(news(beyond(o, g), g), g);
-    requests(o);
+    refusers(requests(o));
 }

@@ -9,7 +9,7 @@ use Rattle.base.proofs.Tests.{both}
 use Rattle.problem.specs.Problem.{maxAgents, inRange}
 use Rattle.problem.proofs.Range.{ranged}
 use Rattle.agent_rules.specs.Agent.{Agent as Agent′}
-use Rattle.protocol.specs.Network.{Network as Network′}
+use Rattle.protocol.specs.Network.{Network as Network′, isRule}
 use Rattle.protocol.specs.Shape.{agentInShape, channelInShape, inShape}
 use Rattle.protocol.specs.Delivery.{BadShape, BadNumbers, Rejected, Accepted, askValue}
 use Rattle.agent.specs.declared.Agent.{Agent}
@@ -34,8 +34,9 @@ module _ (w : Network′) (i : ℕ) where
 pub shape-count : (w : Network′) → inShape w ≡ true → w .problem .count ≤ 12
 unfolding inShape maxAgents
 shape-count w e =
-    let a = both (inRange (w .problem) && allTo 12 (agentInShape w)) (allTo 12 (λ i. allTo 12 (λ j. channelInShape w i j))) e in
-    ranged (w .problem) (both (inRange (w .problem)) (allTo 12 (agentInShape w)) (a .0) .0) .high
+    let a = both (inRange (w .problem) && isRule (w .rule) && allTo 12 (agentInShape w)) (allTo 12 (λ i. allTo 12 (λ j. channelInShape w i j))) e in
+    let b = both (inRange (w .problem) && isRule (w .rule)) (allTo 12 (agentInShape w)) (a .0) in
+    ranged (w .problem) (both (inRange (w .problem)) (isRule (w .rule)) (b .0) .0) .high
 
 pub value-at : (r : Network) (i : ℕ) (d : Agent) → length (r .agents) ≡ 12 → 1 ≤ i → i ≤ 12
     → getD (r .agents) (i - 1) d .value ≡ networkOf r .agents i .value

@@ -174,6 +174,7 @@ none-stored a h =
 unfoldable pub zeroed : Agent → Bool
 zeroed a =
     eqb (a .value) 0
+    && eqb (a .last) 0
     && eqb (a .listens) 0
     && eqb (a .informs) 0
     && eqb (a .view .digits) 0

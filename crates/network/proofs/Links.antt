@@ -13,7 +13,7 @@ use Rattle.base.proofs.Peeling.{same-test}
 use Rattle.problem.specs.Problem.{maxAgents, linked}
 use Rattle.agent_rules.specs.Shape.{maxNamed}
 use Rattle.protocol.specs.Network.{Network as Network′}
-use Rattle.protocol.specs.Shape.{eachIn, holdsValue, listensUpward, informsDownward, linkedListen, informedListen, viewListened, nogoodsFit, countsFit, unused, agentInShape}
+use Rattle.protocol.specs.Shape.{eachIn, holdsValue, lastFits, listensUpward, informsDownward, linkedListen, informedListen, viewListened, nogoodsFit, countsFit, unused, agentInShape}
 use Rattle.network.specs.Parts.{heard, linksInShape, holdsInShape}
 
 -- what the code asks of agent i
@@ -41,12 +41,14 @@ three a b c t = let (p, k) = both (a && b) c t in let (i, j) = both a b p in (i,
 four : (a b c d : Bool) → a && b && c && d ≡ true → (a ≡ true) × (b ≡ true) × (c ≡ true) × (d ≡ true)
 four a b c d t = let (p, j, k) = three (a && b) c d t in let (x, y) = both a b p in (x, y, j, k)
 
-eight : (a b c d e f g h : Bool) → a && b && c && d && e && f && g && h ≡ true
-    → (a ≡ true) × (b ≡ true) × (c ≡ true) × (d ≡ true) × (e ≡ true) × (f ≡ true) × (g ≡ true) × (h ≡ true)
-eight a b c d e f g h t =
-    let (p, l, m, n) = four (a && b && c && d && e) f g h t in
-    let (q, j, k) = three (a && b && c) d e p in
-    let (x, y, z) = three a b c q in (x, y, z, j, k, l, m, n)
+five : (a b c d e : Bool) → a && b && c && d && e ≡ true → (a ≡ true) × (b ≡ true) × (c ≡ true) × (d ≡ true) × (e ≡ true)
+five a b c d e t = let (p, k) = both (a && b && c && d) e t in let (x, y, i, j) = four a b c d p in (x, y, i, j, k)
+
+nine : (a b c d e f g h i : Bool) → a && b && c && d && e && f && g && h && i ≡ true
+    → (a ≡ true) × (b ≡ true) × (c ≡ true) × (d ≡ true) × (e ≡ true) × (f ≡ true) × (g ≡ true) × (h ≡ true) × (i ≡ true)
+nine a b c d e f g h i t =
+    let (p, k, l, m, n) = five (a && b && c && d && e) f g h i t in
+    let (x, y, z, q, j) = five a b c d e p in (x, y, z, q, j, k, l, m, n)
 
 -- of an agent within n, either way
 record Own (w : Network′) (i : ℕ) : Type 0 where
@@ -58,16 +60,17 @@ module _ (w : Network′) (i : ℕ) (h : i ≤ w .problem .count) where
   asked : agentInShape w i ≡ true → Own w i × (linkedListen w i ≡ true) × (informedListen w i ≡ true)
   unfolding agentInShape holdsInShape
   asked e =
-      let (value, up, down, linking, informed, view, nogoods, counts) =
-      eight (holdsValue w i) (listensUpward w i) (informsDownward w i) (linkedListen w i) (informedListen w i) (viewListened w i) (nogoodsFit w i)
-      (countsFit w i) (rw (le-leb i (w .problem .count) h, agentInShape) at e) in
-      (record { up = up; down = down; holds = rw (value, view, nogoods, counts) }, linking, informed)
+      let (value, last, up, down, linking, informed, view, nogoods, counts) =
+      nine (holdsValue w i) (lastFits w i) (listensUpward w i) (informsDownward w i) (linkedListen w i) (informedListen w i) (viewListened w i)
+      (nogoodsFit w i) (countsFit w i) (rw (le-leb i (w .problem .count) h, agentInShape) at e) in
+      (record { up = up; down = down; holds = rw (value, last, view, nogoods, counts) }, linking, informed)
 
   to-asked : Own w i → linkedListen w i ≡ true → informedListen w i ≡ true → agentInShape w i ≡ true
   unfolding agentInShape holdsInShape
   to-asked o l f =
-      let (value, view, nogoods, counts) = four (holdsValue w i) (viewListened w i) (nogoodsFit w i) (countsFit w i) (o .holds) in
-      rw (le-leb i (w .problem .count) h, agentInShape, value, o .up, o .down, l, f, view, nogoods, counts)
+      let (value, last, view, nogoods, counts) =
+      five (holdsValue w i) (lastFits w i) (viewListened w i) (nogoodsFit w i) (countsFit w i) (o .holds) in
+      rw (le-leb i (w .problem .count) h, agentInShape, value, last, o .up, o .down, l, f, view, nogoods, counts)
 
   passed : agentPasses w i ≡ true → Own w i × (heard w i ≡ true)
   unfolding linksInShape

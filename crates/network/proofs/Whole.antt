@@ -1,7 +1,7 @@
 -- The whole shape, in the order in which the code tests it; and the masks that it takes of a network's agents are theirs.
 use Prim.Native.Nat.{ℕ, zero, suc, _+_, _≤_, _<_}
 use mathlib.Core.Path.{_≡_, refl, sym, _∙_}
-use mathlib.Core.Bool.{Bool, true, false, _&&_, false≢true}
+use mathlib.Core.Bool.{Bool, true, false, _&&_, and-comm, false≢true}
 use mathlib.Core.List.{List, [], _∷_, map}
 use lib.ListN.{length, getD}
 use native.Mathlib.Omega.{arith}
@@ -12,7 +12,7 @@ use Rattle.base.proofs.Search.{allTo-at, to-allTo}
 use Rattle.problem.specs.Problem.{maxAgents, maxPairs, sized, inRange}
 use Rattle.problem.proofs.Range.{ranged as in-range}
 use Rattle.agent_rules.specs.Agent.{Agent as Agent′, unusedAgent}
-use Rattle.protocol.specs.Network.{Network as Network′}
+use Rattle.protocol.specs.Network.{Network as Network′, isRule}
 use Rattle.protocol.specs.Shape.{agentInShape, inShape}
 use Rattle.packed.specs.Packed.{members}
 use Rattle.agent.specs.Abstract.{agentOf}
@@ -65,22 +65,24 @@ pub lengths : (r : Network) → length (r .domains) ≡ 12 → length (r .bans) 
 unfolding sized problemOf maxAgents maxPairs
 lengths r d b = rw (eq-eqb (length (r .domains)) 12 d, eq-eqb (length (r .bans)) 66 b)
 
--- ---- the problem, the agents, the channels
+-- ---- the problem and the rule, the agents, the channels
 
 unfoldable agentsInShape : Network → Bool
 agentsInShape r = allTo maxAgents (agentInShape (networkOf r))
 
-whole : (r : Network) → inShape (networkOf r) ≡ inRange (problemOf r) && agentsInShape r && channelsInShape r
+whole : (r : Network) → inShape (networkOf r) ≡ inRange (problemOf r) && isRule (r .rule) && agentsInShape r && channelsInShape r
 unfolding inShape agentsInShape channelsInShape networkOf
 whole r = refl
 
-pub problem-unfit : (r : Network) → inRange (problemOf r) ≡ false → inShape (networkOf r) ≡ false
-problem-unfit r e = whole r ∙ rw e
+-- the rule and the problem, as the code tests them
+pub head-unfit : (r : Network) → isRule (r .rule) && inRange (problemOf r) ≡ false → inShape (networkOf r) ≡ false
+head-unfit r e = whole r ∙ rw (and-comm (inRange (problemOf r)) (isRule (r .rule)), e)
 
--- the problem is in range and the agents 1 to i pass; the word has the domains, the masks are the agents'
+-- the problem and the rule are in range and the agents 1 to i pass; the word has the domains, the masks are the agents'
 pub record AgentsFit (r : Network) (domains : ℕ) (listens informs : List ℕ) (i : ℕ) : Type 0 where
   pub few : i ≤ 12
   pub ranged : inRange (problemOf r) ≡ true
+  pub ruled : isRule (r .rule) ≡ true
   pub owned : Domains (problemOf r) domains
   pub links : Linking listens informs (networkOf r)
   pub agents : (x : ℕ) → 1 ≤ x → x ≤ i → agentPasses (networkOf r) x ≡ true
@@ -91,7 +93,7 @@ module _ (r : Network) (domains : ℕ) (listens informs : List ℕ) (i : ℕ) (a
   passing = agents-pass (networkOf r) (in-range (problemOf r) (a .ranged) .high)
 
   pub agent-unfit : i < 12 → agentPasses (networkOf r) (i + 1) ≡ false → inShape (networkOf r) ≡ false
-  agent-unfit h e = whole r ∙ rw (a .ranged, passing, fails)
+  agent-unfit h e = whole r ∙ rw (a .ranged, a .ruled, passing, fails)
     where
       fails : allTo 12 (agentPasses (networkOf r)) ≡ false
       fails =
@@ -104,6 +106,7 @@ module _ (r : Network) (domains : ℕ) (listens informs : List ℕ) (i : ℕ) (a
       record {
         few = omega arith;
         ranged = a .ranged;
+        ruled = a .ruled;
         owned = a .owned;
         links = a .links;
         agents = λ x l u. eq-test x (i + 1) (λ q. rw q e) (λ n. a .agents x l (omega (arith, n)));
@@ -111,4 +114,4 @@ module _ (r : Network) (domains : ℕ) (listens informs : List ℕ) (i : ℕ) (a
 
   -- only the channels are left
   pub agents-passed : 12 ≤ i → inShape (networkOf r) ≡ channelsInShape r
-  agents-passed h = whole r ∙ rw (a .ranged, passing, to-allTo 12 (agentPasses (networkOf r)) (λ x l u. a .agents x l (omega arith)))
+  agents-passed h = whole r ∙ rw (a .ranged, a .ruled, passing, to-allTo 12 (agentPasses (networkOf r)) (λ x l u. a .agents x l (omega arith)))

@@ -38,6 +38,7 @@ zero-agent =
     λ i.
     record {
       value = 0;
+      last = 0;
       listens = fun-ext {f = members 0} {g = λ k. false} no-members i;
       informs = fun-ext {f = members 0} {g = λ k. false} no-members i;
       view = nobody-assigned i;
@@ -75,6 +76,7 @@ record-empty =
     λ i.
     record {
       problem = emptyProblem;
+      rule = 0;
       verdict = false;
       agents = fun-ext zero-agents i;
       channel = fun-ext (λ x. fun-ext (zero-channels x)) i;

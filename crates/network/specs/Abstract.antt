@@ -52,6 +52,7 @@ unfoldable pub networkOf : Network → Network′
 networkOf r =
     record {
       problem = problemOf r;
+      rule = r .rule;
       verdict = r .verdict;
       agents = agentsOf (map agentOf (r .agents));
       channel = λ i j. elim (isChannel i j) [ true ↦ channelOf r i j | false ↦ [] ];

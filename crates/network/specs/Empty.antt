@@ -11,6 +11,7 @@ unfoldable pub emptyAgent : Agent
 emptyAgent =
     record {
       value = 0;
+      last = 0;
       stored = 0;
       listens = 0;
       informs = 0;
@@ -24,6 +25,7 @@ unfoldable pub emptyRecord : Network
 emptyRecord =
     record {
       count = 0;
+      rule = 0;
       domains = replicate 12 0;
       bans = replicate 66 0;
       verdict = false;

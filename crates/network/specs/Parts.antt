@@ -10,6 +10,7 @@ use Rattle.problem.specs.Problem.{Problem, maxDomain, domain, bitAt, linked}
 use Rattle.protocol.specs.Network.{Network as Network′}
 use Rattle.protocol.specs.Shape.{
   holdsValue,
+  lastFits,
   listensUpward,
   informsDownward,
   viewListened,
@@ -35,9 +36,9 @@ heard w j = allTo (pred j) (λ i. cond (w .agents i .informs j) (w .agents j .li
 unfoldable pub linksInShape : Network′ → ℕ → Bool
 linksInShape w i = listensUpward w i && informsDownward w i && heard w i
 
--- the other clauses on an agent: its value, its view, its nogoods and its counts
+-- the other clauses on an agent: its value, the last that it took, its view, its nogoods and its counts
 unfoldable pub holdsInShape : Network′ → ℕ → Bool
-holdsInShape w i = holdsValue w i && viewListened w i && nogoodsFit w i && countsFit w i
+holdsInShape w i = holdsValue w i && lastFits w i && viewListened w i && nogoodsFit w i && countsFit w i
 
 -- ---- the sets of all agents, side by side
 

@@ -3,7 +3,7 @@ ghost use mathlib.Core.Path.{_≡_};
 ghost use Prim.Native.Nat.{ℕ, _≤_, _<_};
 ghost use Rattle.problem.specs.Problem.{domain};
 ghost use Rattle.protocol.specs.Network.{Network as Network′};
-ghost use Rattle.protocol.specs.Shape.{holdsValue, listensUpward, informsDownward, viewListened, nogoodsFit, unused};
+ghost use Rattle.protocol.specs.Shape.{holdsValue, lastFits, listensUpward, informsDownward, viewListened, nogoodsFit, unused};
 ghost use Rattle.packed.specs.Packed.{members};
 ghost use Rattle.agent.specs.Abstract.{assigned, agentOf};
 ghost use Rattle.network.specs.Parts.{Domains, heard, setOf, linksInShape, holdsInShape};
@@ -26,6 +26,13 @@ fn holds_value(verdict: bool, d: u8, value: u8) -> bool
         return verdict;
     }
     value <= d
+}
+
+// The last value that it took is an owned one, and the one that it holds if it holds any. Its domain is d.
+fn last_fits(d: u8, value: u8, last: u8) -> bool
+    ensures { λ b. ⌜ ((w : Network′) (i : ℕ) → domain (w .problem) i ≡ d → w .agents i .value ≡ value → w .agents i .last ≡ last → b ≡ lastFits w i) ⌝ }
+{
+    (0 < last) & (last <= d) & ((value == 0) | (value == last))
 }
 
 fn listens_upward(i: u8, listens: u16) -> bool
@@ -99,6 +106,7 @@ pub fn unused(a: Agent) -> bool
     let sent = a.sent;
     let received = a.received;
     (a.value == 0)
+        & (a.last == 0)
         & (a.listens == 0)
         & (a.informs == 0)
         & (view.digits == 0)
@@ -120,7 +128,7 @@ pub fn links_in_shape(count: u8, informs: &[u16; 12], bans: &[u64; 66], i: u8, l
     heard(informs, bans, i, listens)
 }
 
-// What one agent holds by itself: its value, its view and its nogoods. Its counts may be any.
+// What one agent holds by itself: its value, the last that it took, its view and its nogoods. Its counts may be any.
 pub fn holds_in_shape(verdict: bool, domains: u64, i: u8, a: Agent) -> bool
     requires { ⌜ (1 ≤ i) × (i ≤ 12) ⌝ }
     ensures { λ b. ⌜ ((w : Network′) → w .verdict ≡ verdict → Domains (w .problem) domains → w .agents i ≡ agentOf a → b ≡ holdsInShape w i) ⌝ }
@@ -128,6 +136,9 @@ pub fn holds_in_shape(verdict: bool, domains: u64, i: u8, a: Agent) -> bool
     let d = digit(domains, i);
     let view = a.view;
     if !holds_value(verdict, d, a.value) {
+        return false;
+    }
+    if !last_fits(d, a.value, a.last) {
         return false;
     }
     if !view_listened(domains, a.listens, view) {

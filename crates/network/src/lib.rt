@@ -1,6 +1,6 @@
 // The network (rail) by value, the test of its shape, and asking an agent's value.
 ghost use mathlib.Core.Path.{_≡_};
-ghost use Rattle.protocol.specs.Network.{emptyNetwork};
+ghost use Rattle.protocol.specs.Network.{emptyNetwork, isRule};
 ghost use Rattle.protocol.specs.Shape.{inShape};
 ghost use Rattle.protocol.specs.Delivery.{answerNumber, askValue};
 ghost use Rattle.network.specs.Abstract.{networkOf};
@@ -38,6 +38,7 @@ pub struct Place {
 // Heads and counts are rows of digits in base 16, one row for each sender, digit k for receiver k.
 pub struct Network {
     pub count: u8,
+    pub rule: u8,
     pub domains: [u8; 12],
     pub bans: [u64; 66],
     pub verdict: bool,
@@ -65,6 +66,7 @@ pub fn empty() -> Network
     };
     let agent = Agent {
         value: 0,
+        last: 0,
         stored: 0,
         listens: 0,
         informs: 0,
@@ -80,6 +82,7 @@ pub fn empty() -> Network
     let places = [place; 1056];
     Network {
         count: 0,
+        rule: 0,
         domains: [0; 12],
         bans: [0; 66],
         verdict: false,
@@ -90,12 +93,19 @@ pub fn empty() -> Network
     }
 }
 
+// A network's rule is 1, or 2, the quiet one.
+pub fn is_rule(rule: u8) -> bool
+    ensures { λ b. ⌜ b ≡ isRule rule ⌝ }
+{
+    (0 < rule) & (rule <= 2)
+}
+
 // The shape of any network at all, forged ones included.
 pub fn in_shape(r: Network) -> bool
     ensures { λ b. ⌜ b ≡ inShape (networkOf r) ⌝ }
 {
     let n = r.count;
-    if !in_range(n, &r.domains, &r.bans) {
+    if !(is_rule(r.rule) & in_range(n, &r.domains, &r.bans)) {
         return false;
     }
     let domains = domain_digits(&r.domains);

@@ -71,6 +71,7 @@ abbrev pub arrived : Network → ℕ → ℕ → ℕ → ℕ → Agent → Bool 
 arrived o i j heads counts a v =
     record {
       count = o .count;
+      rule = o .rule;
       domains = o .domains;
       bans = o .bans;
       verdict = v;
@@ -85,6 +86,7 @@ abbrev pub placed : Network → ℕ → Place → Network
 placed o x p =
     record {
       count = o .count;
+      rule = o .rule;
       domains = o .domains;
       bans = o .bans;
       verdict = o .verdict;
@@ -99,6 +101,7 @@ abbrev pub counted : Network → List ℕ → Network
 counted o counts =
     record {
       count = o .count;
+      rule = o .rule;
       domains = o .domains;
       bans = o .bans;
       verdict = o .verdict;
@@ -274,7 +277,7 @@ pub placed-network : (o : Network) (j k x t : ℕ) (p : Place) → isChannel j k
     → networkOf (placed o x p) ≡ networkOf o
 unfolding networkOf problemOf channelOf
 placed-network o j k x t p b e l h =
-    λ q. record { problem = problemOf o; verdict = o .verdict; agents = agentsOf (map agentOf (o .agents)); channel = same q }
+    λ q. record { problem = problemOf o; rule = o .rule; verdict = o .verdict; agents = agentsOf (map agentOf (o .agents)); channel = same q }
   where
     D : Ends j k
     D = ends j k b

@@ -123,7 +123,7 @@ pub record Stepped (o : Network) (i j x : ℕ) (t : Step) : Type 0 where
   pub found : Found o i j x
   pub first : asksAgain (networkOf o .agents j) i (headAt o x) ≡ false
   pub step : stepOf t ≡ stepOn (networkOf o) i j (headAt o x)
-  pub others : every (λ p. isOther (own (o .domains) j) (p .to)) (stepOn (networkOf o) i j (headAt o x) .sent) ≡ true
+  pub others : every (λ p. isOther (own (o .rule) (o .domains) j) (p .to)) (stepOn (networkOf o) i j (headAt o x) .sent) ≡ true
 
 module _ {o : Network} {i j x : ℕ} (f : Found o i j x) where
   abbrev w : Network′
@@ -162,22 +162,22 @@ module _ {o : Network} {i j x : ℕ} (f : Found o i j x) where
       m = getD (o .places) x zeroPlace .message
 
       -- what the receiver's bars ask
-      pub bars-ask : Able (own domains j) (part bans a j) × ViewFits (own domains j) (assigned (getD (o .agents) (j - 1) d .view))
+      pub bars-ask : Able (own (o .rule) domains j) (part bans a j) × ViewFits (own (o .rule) domains j) (assigned (getD (o .agents) (j - 1) d .view))
       bars-ask = (able o i j m (rest o i j) (f .sized) found-at domains bans a p k e, view-fits o i j m (rest o i j) (f .sized) found-at d domains p)
 
       -- what its step asks, but for its bars
       pub step-asks :
-          Able (own domains j) (part bans a j)
-          × (RecordFits anyValue (selfOf′ (own domains j)) (agentOf (getD (o .agents) (j - 1) d))
-          × MessageFits anyValue (selfOf′ (own domains j)) (agentOf (getD (o .agents) (j - 1) d)) i (headAt o x))
+          Able (own (o .rule) domains j) (part bans a j)
+          × (RecordFits anyValue (selfOf′ (own (o .rule) domains j)) (agentOf (getD (o .agents) (j - 1) d))
+          × MessageFits anyValue (selfOf′ (own (o .rule) domains j)) (agentOf (getD (o .agents) (j - 1) d)) i (headAt o x))
       step-asks = (
         able o i j m (rest o i j) (f .sized) found-at domains bans a p k e,
         (receiver-fits o i j m (rest o i j) (f .sized) found-at d domains p, message-received o i j m (rest o i j) (f .sized) found-at d domains p),
       )
 
       pub steps : (b : Bool) → Again b → b ≡ false → (t : Step)
-          → StepsAs (own domains j) (bansIn (part bans a j)) t
-          (receive (selfOf′ (own domains j)) (bansIn (part bans a j)) (agentOf (getD (o .agents) (j - 1) d)) i (headAt o x))
+          → StepsAs (own (o .rule) domains j) (bansIn (part bans a j)) t
+          (receive (selfOf′ (own (o .rule) domains j)) (bansIn (part bans a j)) (agentOf (getD (o .agents) (j - 1) d)) i (headAt o x))
           → Stepped o i j x t
       steps b r n t q =
           let c = found-ends f in
@@ -187,7 +187,7 @@ module _ {o : Network} {i j x : ℕ} (f : Found o i j x) where
             first = sym (again-is b r) ∙ n;
             step = q .step ∙ s;
             others =
-                subst (λ (l : List Post′). every (λ p. isOther (own (o .domains) j) (p .to)) l ≡ true) (ap (λ (y : Step′). y .sent) s) (rw (← p) (q .others));
+                subst (λ (l : List Post′). every (λ p. isOther (own (o .rule) (o .domains) j) (p .to)) l ≡ true) (ap (λ (y : Step′). y .sent) s) (rw (← p) (q .others));
           }
 
 -- ---- the step, put into the network
@@ -304,7 +304,7 @@ module _ {o : Network} {i j x : ℕ} {t : Step} (s : Stepped o i j x t) where
         let falls : t .verdict ≡ v .verdict || t .verdict = sym (ap (λ (b : Bool). b || t .verdict) (f .running)) in
         let agents = agents-changed p j (t .agent) (h .sized) (E .to-low) (E .to-high) ∙ ap (λ (y : Network′). at (y .agents) j (agentOf (t .agent))) (h .network) in
         let done : networkOf (arrived (rowed p j now) i j heads counts (t .agent) (t .verdict)) ≡ withStep (withChannel v i j (rest o i j)) j (stepOf t) =
-        λ k. record { problem = h .network k .problem; verdict = falls k; agents = agents k; channel = channels-are k } in
+        λ k. record { problem = h .network k .problem; rule = h .network k .rule; verdict = falls k; agents = agents k; channel = channels-are k } in
         done ∙ ap (withStep (withChannel v i j (rest o i j)) j) (s .step)
 
     -- accepted, with the network that is stored

@@ -26,22 +26,22 @@ use Rattle.network.specs.Abstract.{problemOf, networkOf}
 use Rattle.network_laws.proofs.Words.{part, part-length, part-bans}
 use Rattle.network_laws.proofs.Changes.{FullArrays, agent-is}
 
--- an agent's number and domain
-abbrev pub own : List ℕ → ℕ → Own
-own domains j = record { number = j; domain = getD domains (j - 1) 0 }
+-- an agent's number and domain, and the rule
+abbrev pub own : ℕ → List ℕ → ℕ → Own
+own rule domains j = record { number = j; domain = getD domains (j - 1) 0; rule = rule }
 
 domain-is : (o : Network) (j : ℕ) → 1 ≤ j → getD (o .domains) (j - 1) 0 ≡ domain (problemOf o) j
 unfolding domain problemOf
 domain-is o zero h = absurd (omega arith)
 domain-is o (suc k) h = let e : suc k - 1 ≡ k = omega arith in rw e
 
-pub self-is : (o : Network) (j : ℕ) → 1 ≤ j → selfOf′ (own (o .domains) j) ≡ selfOf (networkOf o .problem) j
+pub self-is : (o : Network) (j : ℕ) → 1 ≤ j → selfOf′ (own (o .rule) (o .domains) j) ≡ selfOf (networkOf o .rule) (networkOf o .problem) j
 unfolding selfOf selfOf′ networkOf
-self-is o j h = ap (λ (v : ℕ). record { number = j; domain = v }) (domain-is o j h)
+self-is o j h = ap (λ (v : ℕ). record { number = j; domain = v; rule = o .rule }) (domain-is o j h)
 
 pub step-is : (o : Network) (domains bans : List ℕ) (i j a : ℕ) (d : Agent) (m : Message) → FullArrays o → domains ≡ o .domains → bans ≡ o .bans
     → 1 ≤ j → j ≤ 12 → a ≡ pairsBefore (pred j)
-    → receive (selfOf′ (own domains j)) (bansIn (part bans a j)) (agentOf (getD (o .agents) (j - 1) d)) i (messageOf m)
+    → receive (selfOf′ (own (o .rule) domains j)) (bansIn (part bans a j)) (agentOf (getD (o .agents) (j - 1) d)) i (messageOf m)
     ≡ stepOn (networkOf o) i j (messageOf m)
 unfolding stepOn networkOf problemOf
 step-is o domains bans i j a d m z p q lo hi e =
@@ -56,6 +56,7 @@ weaker-record : (p q : ℕ → ℕ → Bool) (s : Self) (a : Agent′) → ((k v
 weaker-record p q s a f r =
     record {
       valued = r .valued;
+      kept = r .kept;
       upward = r .upward;
       downward = r .downward;
       viewed = λ k l h e. let b = r .viewed k l h e in (b .0, f k (a .view k) (b .1));
@@ -78,7 +79,7 @@ module _ (o : Network) (i j : ℕ) (m : Message) (others : List Message′) (z :
 
   -- what the step asks
   pub able : (domains bans : List ℕ) (a : ℕ) → domains ≡ o .domains → bans ≡ o .bans → a ≡ pairsBefore (pred j)
-      → Able (own domains j) (part bans a j)
+      → Able (own (o .rule) domains j) (part bans a j)
   unfolding networkOf problemOf maxDomain
   able domains bans a p q e =
       let v = H .shape .range .domained j (H .to-low) (H .to-high) in
@@ -89,14 +90,14 @@ module _ (o : Network) (i j : ℕ) (m : Message) (others : List Message′) (z :
       }
 
   pub receiver-fits : (d : Agent) (domains : List ℕ) → domains ≡ o .domains
-      → RecordFits anyValue (selfOf′ (own domains j)) (agentOf (getD (o .agents) (j - 1) d))
+      → RecordFits anyValue (selfOf′ (own (o .rule) domains j)) (agentOf (getD (o .agents) (j - 1) d))
   receiver-fits d domains p =
       rw (p, self-is o j (H .to-low), ← agent-is o d j z (H .to-low) high)
-      (weaker-record (owns (networkOf o .problem)) anyValue (selfOf (networkOf o .problem) j) (networkOf o .agents j) owned
+      (weaker-record (owns (networkOf o .problem)) anyValue (selfOf (networkOf o .rule) (networkOf o .problem) j) (networkOf o .agents j) owned
       (record-fits (networkOf o) j (H .shape) (H .running) (H .to-low) (H .to-high)))
 
   -- its view names agents above, at values that a word of bans has room for
-  pub view-fits : (d : Agent) (domains : List ℕ) → domains ≡ o .domains → ViewFits (own domains j) (assigned (getD (o .agents) (j - 1) d .view))
+  pub view-fits : (d : Agent) (domains : List ℕ) → domains ≡ o .domains → ViewFits (own (o .rule) domains j) (assigned (getD (o .agents) (j - 1) d .view))
   unfolding agentOf anyValue selfOf′
   view-fits d domains p k lo hi e =
       let r = receiver-fits d domains p in
@@ -112,9 +113,9 @@ module _ (o : Network) (i j : ℕ) (m : Message) (others : List Message′) (z :
       ms .0
 
   pub message-received : (d : Agent) (domains : List ℕ) → domains ≡ o .domains
-      → MessageFits anyValue (selfOf′ (own domains j)) (agentOf (getD (o .agents) (j - 1) d)) i (messageOf m)
+      → MessageFits anyValue (selfOf′ (own (o .rule) domains j)) (agentOf (getD (o .agents) (j - 1) d)) i (messageOf m)
   unfolding maxAgents
   message-received d domains p =
       rw (p, self-is o j (H .to-low), ← agent-is o d j z (H .to-low) high)
-      (weaker-message (owns (networkOf o .problem)) anyValue (selfOf (networkOf o .problem) j) (networkOf o .agents j) i (messageOf m) owned
+      (weaker-message (owns (networkOf o .problem)) anyValue (selfOf (networkOf o .rule) (networkOf o .problem) j) (networkOf o .agents j) i (messageOf m) owned
       (message-fits (networkOf o) i j (messageOf m) (H .from-low) (omega (arith, H .from-high, H .shape .range .high)) shaped-head))

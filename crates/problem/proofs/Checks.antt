@@ -1,6 +1,7 @@
 -- The checks of a sheet in their order: what comes out where each is the first to fail, and where all three hold; and the other way.
 -- Each opens the definition once, with the tests that led there.
 use mathlib.Core.Path.{_≡_, sym, _∙_}
+use mathlib.Core.Logic.{_≢_}
 use mathlib.Core.Bool.{true, false}
 use mathlib.Core.List.{List}
 use Prim.Native.Nat.{ℕ, suc, _+_, _*_, _≤_, _<_}
@@ -10,8 +11,16 @@ use lib.ListN.{length}
 use borrow.Author.Tests.{ltb-false, lt-ltb, le-ltb, eq-eqb}
 use Rattle.base.proofs.Tests.{test}
 use Rattle.problem.specs.Problem.{Problem}
-use Rattle.problem.specs.Sheet.{SheetFault, Valid, Invalid, BadLength, BadHeader, headerLength, recordLength, firstIn, recordsIn, withoutBans, headerGood, decode}
+use Rattle.problem.specs.Sheet.{SheetFault, BadLength, BadHeader, BadRecord, Cycle, faultNumber, Valid, Invalid, headerLength, recordLength, firstIn, recordsIn, withoutBans, headerGood, decode}
 use Rattle.problem.proofs.Walk.{freeWalk, free-walk}
+
+-- a fault has a number
+pub fault-some : (f : SheetFault) → faultNumber f ≢ 0
+unfolding faultNumber
+fault-some BadLength e = omega arith
+fault-some BadHeader e = omega arith
+fault-some BadRecord e = omega arith
+fault-some Cycle e = omega arith
 
 module _ (s : List ℕ) where
   pub short : length s < 24 → decode s ≡ Invalid BadLength

@@ -13,29 +13,30 @@ use Rattle.agent_rules.specs.Receiving.{receive, begin}
 -- Two networks are the same when they are equal: the record holds what docs/RULES.md says that two rails must agree in, and nothing else.
 pub record Network : Type 0 where
   pub problem : Problem  -- n, slot counts and bans
+  pub rule : ℕ  -- "a rule, 1 or 2"
   pub verdict : Bool  -- the verdict "none" stands
   pub agents : ℕ → Agent  -- by number
   pub channel : ℕ → ℕ → List Message  -- by sender and receiver: the messages waiting, first in first out
 
 -- "empty rail (n = 0, all else zero)"
 unfoldable pub emptyNetwork : Network
-emptyNetwork = record { problem = emptyProblem; verdict = false; agents = λ i. unusedAgent; channel = λ i j. [] }
+emptyNetwork = record { problem = emptyProblem; rule = 0; verdict = false; agents = λ i. unusedAgent; channel = λ i j. [] }
 
 -- ---- a network with one part changed. The rules change networks by these alone.
 
 abbrev pub withVerdict : Network → Bool → Network
-withVerdict w verdict = record { problem = w .problem; verdict = verdict; agents = w .agents; channel = w .channel }
+withVerdict w verdict = record { problem = w .problem; rule = w .rule; verdict = verdict; agents = w .agents; channel = w .channel }
 
 abbrev pub withAgents : Network → (ℕ → Agent) → Network
-withAgents w agents = record { problem = w .problem; verdict = w .verdict; agents = agents; channel = w .channel }
+withAgents w agents = record { problem = w .problem; rule = w .rule; verdict = w .verdict; agents = agents; channel = w .channel }
 
 abbrev pub withChannels : Network → (ℕ → ℕ → List Message) → Network
-withChannels w channel = record { problem = w .problem; verdict = w .verdict; agents = w .agents; channel = channel }
+withChannels w channel = record { problem = w .problem; rule = w .rule; verdict = w .verdict; agents = w .agents; channel = channel }
 
--- ---- what an agent has of the problem
+-- ---- what an agent has of the problem and the rule
 
-unfoldable pub selfOf : Problem → ℕ → Self
-selfOf p i = record { number = i; domain = domain p i }
+unfoldable pub selfOf : ℕ → Problem → ℕ → Self
+selfOf rule p i = record { number = i; domain = domain p i; rule = rule }
 
 unfoldable pub bansOf : Problem → ℕ → Bans
 bansOf p i k v w = banned p k i v w
@@ -58,7 +59,7 @@ withChannel w i j left = withChannels w (at (w .channel) i (at (w .channel i) j 
 
 -- agent j's step on the message m from i
 unfoldable pub stepOn : Network → ℕ → ℕ → Message → Step
-stepOn w i j m = receive (selfOf (w .problem) j) (bansOf (w .problem) j) (w .agents j) i m
+stepOn w i j m = receive (selfOf (w .rule) (w .problem) j) (bansOf (w .problem) j) (w .agents j) i m
 
 -- m taken off the channel from i to j, which is left with the others, and handed to j
 unfoldable pub handed : Network → ℕ → ℕ → Message → List Message → Network
@@ -67,32 +68,46 @@ handed w i j m others = withStep (withChannel w i j others) j (stepOn w i j m)
 -- ---- the start
 
 -- agent i's first step: linked agents above are listened to, linked agents below informed
-unfoldable pub begun : Problem → ℕ → Step
-begun p i = begin (selfOf p i) (bansOf p i) (λ k. linked p k i) (λ k. linked p i k)
+unfoldable pub begun : ℕ → Problem → ℕ → Step
+begun rule p i = begin (selfOf rule p i) (bansOf p i) (λ k. linked p k i) (λ k. linked p i k)
 
-unfoldable pub startAgent : Problem → ℕ → Agent
-startAgent p i = elim (within (p .count) i) [ true ↦ begun p i .agent | false ↦ unusedAgent ]
+unfoldable pub startAgent : ℕ → Problem → ℕ → Agent
+startAgent rule p i = elim (within (p .count) i) [ true ↦ begun rule p i .agent | false ↦ unusedAgent ]
 
-unfoldable pub startChannel : Problem → ℕ → ℕ → List Message
-startChannel p i j = elim (within (p .count) i) [ true ↦ sentTo j (begun p i .sent) | false ↦ [] ]
+unfoldable pub startChannel : ℕ → Problem → ℕ → ℕ → List Message
+startChannel rule p i j = elim (within (p .count) i) [ true ↦ sentTo j (begun rule p i .sent) | false ↦ [] ]
 
-unfoldable pub start : Problem → Network
-start p =
+unfoldable pub start : ℕ → Problem → Network
+start rule p =
     record {
       problem = p;
-      verdict = not (allTo (p .count) (λ i. not (begun p i .verdict)));
-      agents = startAgent p;
-      channel = startChannel p;
+      rule = rule;
+      verdict = not (allTo (p .count) (λ i. not (begun rule p i .verdict)));
+      agents = startAgent rule p;
+      channel = startChannel rule p;
     }
 
--- the start for a sheet, and the number that it answers
+-- "a rule, 1 or 2"
+unfoldable pub isRule : ℕ → Bool
+isRule rule = within 2 rule
+
+-- "a rule other than 1 or 2"
+unfoldable pub badRule : ℕ
+badRule = 11
+
+-- the start for a rule and a sheet, and the number that it answers
 pub record Started : Type 0 where
   pub number : ℕ
   pub network : Network
 
-unfoldable pub startedOn : Decoded → Started
-startedOn (Valid p) = record { number = 0; network = start p }
-startedOn (Invalid f) = record { number = faultNumber f; network = emptyNetwork }
+unfoldable pub startedOn : ℕ → Decoded → Started
+startedOn rule (Valid p) = record { number = 0; network = start rule p }
+startedOn rule (Invalid f) = record { number = faultNumber f; network = emptyNetwork }
 
-unfoldable pub startSheet : List ℕ → Started
-startSheet sheet = startedOn (decode sheet)
+-- "The start looks at the rule first", then at the sheet
+unfoldable pub startSheet : ℕ → List ℕ → Started
+startSheet rule sheet =
+    elim (isRule rule) [
+      | true ↦ startedOn rule (decode sheet)
+      | false ↦ record { number = badRule; network = emptyNetwork }
+    ]

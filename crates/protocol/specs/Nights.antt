@@ -14,7 +14,8 @@ use Rattle.problem.specs.Cases.{ban, gaps, minus, sameNumbers}
 use Rattle.agent_rules.specs.Message.{Assignment, Message, Info, Back, AddLink}
 use Rattle.agent_rules.specs.Agent.{Agent, withCounts}
 use Rattle.agent_rules.specs.Cases.{values, agent, sameAgent, sameMessage, counts, sameCounts}
-use Rattle.protocol.specs.Network.{Network, withChannel, startSheet}
+use Rattle.agent_rules.specs.Choosing.{quietRule}
+use Rattle.protocol.specs.Network.{Network, emptyNetwork, withChannel, startSheet}
 use Rattle.protocol.specs.Shape.{inShape}
 use Rattle.protocol.specs.Delivery.{answerNumber, deliver, askValue}
 use Rattle.protocol.specs.Run.{Try, Ending, None, Plan, Jammed, Open, endingWord, Round, Ran, run}
@@ -86,13 +87,17 @@ holdsFrom (Counted i sent received ∷ cs) w = sameCounts (w .agents i .counts) 
 -- ---- nights
 
 pub data Night : Type 0 where
-  Played : List ℕ → List Scene → Night  -- the start for this sheet gives 0, and the script holds from there
-  SameStart : List ℕ → List ℕ → Night  -- the starts for two sheets are the same
+  Played : List ℕ → List Scene → Night  -- the start for this sheet, under rule 1, gives 0, and the script holds from there
+  Quietly : List ℕ → List Scene → Night  -- the same under rule 2
+  Turned : ℕ → List ℕ → ℕ → Night  -- the start for this rule and sheet gives this number and the empty network
+  SameStart : List ℕ → List ℕ → Night  -- the starts for two sheets, under rule 1, are the same
   Forged : Network → List Scene → Night  -- the network is in shape, and the script holds from there
 
 abbrev pub NightHolds : Night → Type 0
-NightHolds (Played s script) = (eqb (startSheet s .number) 0 && holdsFrom script (startSheet s .network)) ≡ true
-NightHolds (SameStart s t) = startSheet s ≡ startSheet t
+NightHolds (Played s script) = (eqb (startSheet 1 s .number) 0 && holdsFrom script (startSheet 1 s .network)) ≡ true
+NightHolds (Quietly s script) = (eqb (startSheet quietRule s .number) 0 && holdsFrom script (startSheet quietRule s .network)) ≡ true
+NightHolds (Turned rule s number) = startSheet rule s ≡ record { number = number; network = emptyNetwork }
+NightHolds (SameStart s t) = startSheet 1 s ≡ startSheet 1 t
 NightHolds (Forged w script) = (inShape w && holdsFrom script w) ≡ true
 
 abbrev pub AllHold : List Night → Type 0
@@ -170,7 +175,7 @@ told2 = Holds 2 (withCounts (agent 1 (1 ∷ []) [] (2 ∷ []) []) (counts (0 ∷
 -- refusals of a value of agent 1 on the line back
 unfoldable pub crowded : ℕ → Network
 crowded v =
-    withChannel (withChannel (startSheet sheet5 .network) 1 2 (replicate 8 (Info 1))) 2 1 (replicate 8 (Back empty v))
+    withChannel (withChannel (startSheet 1 sheet5 .network) 1 2 (replicate 8 (Info 1))) 2 1 (replicate 8 (Back empty v))
 
 unfoldable pub nights : List Night
 nights =
@@ -238,4 +243,64 @@ nights =
     Tries (tried 1 2 10 ++ gather 8 1 (λ k. tried 2 1 0))
     ∷ Runs 1 Open 0 ∷ Waiting 1 2 (replicate 8 (Info 1)) ∷ Waiting 2 1 [] ∷ [])
     ∷ Forged (crowded 2) (Runs 4 Plan 3 ∷ Values (2 ∷ 1 ∷ []) ∷ [])
+    ∷ []
+
+-- ---- nights under the quiet rule
+
+-- agent 2, refused by 3, backs up and takes its only value again: under rule 2 agent 4, which knows it, is not told
+unfoldable pub sheetSilent : List ℕ
+sheetSilent = sheet (2 ∷ 1 ∷ 2 ∷ 1 ∷ []) (ban 1 1 3 1 ∷ ban 2 1 3 2 ∷ ban 2 1 4 1 ∷ [])
+
+-- under rule 1 agent 2 tells 3 its value a second time, and 3 refuses once more
+unfoldable pub sheetSooner : List ℕ
+sheetSooner = sheet (2 ∷ 1 ∷ 2 ∷ []) (ban 1 1 2 1 ∷ ban 1 1 3 1 ∷ ban 2 1 3 2 ∷ [])
+
+-- with the refuser forgotten while agent 2 backs up, it would rest on 2 at 1 with 3 at 1
+unfoldable pub sheetForgotten : List ℕ
+sheetForgotten = sheet (2 ∷ 1 ∷ 2 ∷ []) (ban 1 1 3 2 ∷ ban 2 1 3 1 ∷ [])
+
+unfoldable pub quietNights : List Night
+quietNights =
+    -- P1, P2, P3 and P5 end as under rule 1
+    Quietly sheet1 (Runs 100000 Plan 0 ∷ Values (1 ∷ []) ∷ [])
+    ∷ Quietly sheet2 (Runs 100000 None 2 ∷ Delivers 1 2 7 ∷ [])
+    ∷ Quietly sheet3 (Runs 100000 Plan 1 ∷ Values (1 ∷ 2 ∷ []) ∷ Delivers 1 2 8 ∷ [])
+    ∷ Quietly sheet5 (Runs 100000 Plan 3 ∷ Values (2 ∷ 1 ∷ []) ∷ [])
+    -- P9, with the same messages
+    ∷ Quietly sheet9 (
+    Waiting 1 3 (Info 1 ∷ []) ∷ Waiting 2 3 (Info 1 ∷ [])
+    ∷ Runs 1 Open 1 ∷ Waiting 2 3 []
+    ∷ Runs 1 Open 1 ∷ Waiting 2 1 (AddLink ∷ Back empty 1 ∷ []) ∷ Waiting 2 3 (Info 1 ∷ [])
+    ∷ Runs 1 Open 1 ∷ Waiting 2 3 []
+    ∷ Runs 1 Open 1 ∷ Waiting 2 3 (Info 1 ∷ [])
+    ∷ Runs 1 Plan 1 ∷ Values (2 ∷ 1 ∷ 1 ∷ [])
+    ∷ Counted 1 (4 ∷ 0 ∷ 0 ∷ []) (0 ∷ 1 ∷ 1 ∷ [])
+    ∷ Counted 2 (3 ∷ 1 ∷ 1 ∷ []) (2 ∷ 2 ∷ 0 ∷ [])
+    ∷ Counted 3 (0 ∷ 2 ∷ 0 ∷ []) (5 ∷ 0 ∷ 0 ∷ []) ∷ [])
+    -- the slot is new, and the refuser is told it once
+    ∷ Quietly sheet5 (Delivers 1 2 0 ∷ Delivers 2 1 0 ∷ Waiting 1 2 (Info 2 ∷ []) ∷ [])
+    -- the slot is the old one: the refuser is told, the other is not; under rule 1 both are
+    ∷ Quietly sheetSilent (
+    Delivers 1 3 0 ∷ Delivers 2 3 0 ∷ Delivers 2 4 0 ∷ Delivers 3 2 0
+    ∷ Waiting 2 3 (Info 1 ∷ []) ∷ Waiting 2 4 [] ∷ [])
+    ∷ Played sheetSilent (
+    Delivers 1 3 0 ∷ Delivers 2 3 0 ∷ Delivers 2 4 0 ∷ Delivers 3 2 0
+    ∷ Waiting 2 3 (Info 1 ∷ []) ∷ Waiting 2 4 (Info 1 ∷ []) ∷ [])
+    -- the same word and slots, sooner and with fewer messages: 11 under rule 1, 8 under rule 2
+    ∷ Played sheetSooner (
+    Runs 100000 Plan 4 ∷ Values (2 ∷ 1 ∷ 1 ∷ [])
+    ∷ Counted 1 (4 ∷ 0 ∷ 0 ∷ []) (0 ∷ 1 ∷ 0 ∷ [])
+    ∷ Counted 2 (4 ∷ 1 ∷ 0 ∷ []) (2 ∷ 2 ∷ 0 ∷ [])
+    ∷ Counted 3 (0 ∷ 2 ∷ 0 ∷ []) (6 ∷ 0 ∷ 0 ∷ []) ∷ [])
+    ∷ Quietly sheetSooner (
+    Runs 100000 Plan 3 ∷ Values (2 ∷ 1 ∷ 1 ∷ [])
+    ∷ Counted 1 (4 ∷ 0 ∷ 0 ∷ []) (0 ∷ 1 ∷ 0 ∷ [])
+    ∷ Counted 2 (2 ∷ 1 ∷ 0 ∷ []) (2 ∷ 1 ∷ 0 ∷ [])
+    ∷ Counted 3 (0 ∷ 1 ∷ 0 ∷ []) (4 ∷ 0 ∷ 0 ∷ []) ∷ [])
+    -- the refuser stays the one whose refusal is worked, whoever is refused in turn
+    ∷ Quietly sheetForgotten (Runs 100000 Plan 5 ∷ Values (2 ∷ 1 ∷ 2 ∷ []) ∷ [])
+    -- "a rule other than 1 or 2 is refused with 11, before the sheet is looked at": of no bytes at all
+    ∷ Turned 0 sheet1 11
+    ∷ Turned 3 [] 11
+    ∷ Turned 2 [] 1
     ∷ []

@@ -10,7 +10,7 @@ use Rattle.agent_rules.specs.Message.{Assignment, known, Message, Info, Back, A
 use Rattle.agent_rules.specs.Counts.{eachCount, top}
 use Rattle.agent_rules.specs.Agent.{Agent}
 use Rattle.agent_rules.specs.Shape.{maxNamed}
-use Rattle.protocol.specs.Network.{Network}
+use Rattle.protocol.specs.Network.{Network, isRule}
 
 -- "132 lines of eight places"
 unfoldable pub capacity : ℕ
@@ -31,6 +31,11 @@ eachIn s p = allTo maxNamed (λ k. not (s k) || p k)
 -- "Every scanner holds an owned slot; only under a verdict may it have none."
 unfoldable pub holdsValue : Network → ℕ → Bool
 holdsValue w i = owns (w .problem) i (w .agents i .value) || (w .verdict && eqb (w .agents i .value) 0)
+
+-- "The last slot that a scanner took is an owned one, and the one held if it holds any."
+unfoldable pub lastFits : Network → ℕ → Bool
+lastFits w i =
+    owns (w .problem) i (w .agents i .last) && (eqb (w .agents i .value) 0 || eqb (w .agents i .value) (w .agents i .last))
 
 -- "It listens only upward"
 unfoldable pub listensUpward : Network → ℕ → Bool
@@ -70,6 +75,7 @@ countsFit w i = eachCount (w .agents i .counts) (λ c. leb c top)
 unfoldable pub unused : Agent → Bool
 unused a =
     eqb (a .value) 0
+    && eqb (a .last) 0
     && eachIn (a .listens) (λ k. false)
     && eachIn (a .informs) (λ k. false)
     && eachNamed (a .view) (λ k v. false)
@@ -80,6 +86,7 @@ unfoldable pub agentInShape : Network → ℕ → Bool
 agentInShape w i =
     elim (leb i (w .problem .count)) [
       | true ↦ holdsValue w i
+          && lastFits w i
           && listensUpward w i
           && informsDownward w i
           && linkedListen w i
@@ -116,5 +123,6 @@ channelInShape w i j = hasRoom w i j && every (messageFits w i j) (w .channel i 
 unfoldable pub inShape : Network → Bool
 inShape w =
     inRange (w .problem)
+    && isRule (w .rule)
     && allTo maxAgents (agentInShape w)
     && allTo maxAgents (λ i. allTo maxAgents (λ j. channelInShape w i j))

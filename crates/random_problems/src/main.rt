@@ -1,6 +1,7 @@
-// Tries the dock on random sheets. Each sheet must be refused with the number that a second reading gives, or accepted. On those accepted the run's
-// word and random lists of deliveries are held to an exhaustive search: at rest the slots obey all bans, and at the verdict no choice of slots does.
-// Every failure is printed with its sheet; at the end stands how many of each kind were tried.
+// Tries the dock on random sheets, each under rule 1 and then, with the same rounds allowed and the same random numbers for its deliveries, under rule 2.
+// Each sheet must be refused with the number that a second reading gives, or accepted. On those accepted the run's word and random lists of deliveries are
+// held to an exhaustive search: at rest the slots obey all bans, and at the verdict no choice of slots does. Every failure is printed with its rule and
+// sheet; at the end stands how many of each kind were tried, under both rules together.
 mod choices;
 mod drafts;
 mod draws;
@@ -34,6 +35,7 @@ use tallies::SHEETS;
 use tallies::Tally;
 use tallies::judged;
 use tallies::report;
+use tallies::under;
 use tallies::with_more;
 use tallies::with_one;
 use words::printing::Out;
@@ -100,9 +102,9 @@ fn with_list(t: Tally, rail: Network, state: u64, found: bool, s: &[u8]) -> Tall
     judged(t, 16, false, b"a delivery with a wrong number:", s)
 }
 
-// A sheet, which is refused with the right number, or whose rail is run and delivered on.
+// A sheet under the tally's rule, which is refused with the right number, or whose rail is run and delivered on.
 fn with_sheet(t: Tally, state: u64, s: &[u8]) -> Tally {
-    let out = start::start(s);
+    let out = start::start(t.rule, s);
     let rail = out.network;
     let number = fault(s);
     let t = judged(
@@ -126,9 +128,12 @@ fn with_sheet(t: Tally, state: u64, s: &[u8]) -> Tally {
     )
 }
 
+// The sheet that is the first `length` bytes, under either rule.
 fn with_bytes(t: Tally, state: u64, bytes: &[u8], length: usize) -> Tally {
     if length <= bytes.len() {
-        return with_sheet(t, state, &bytes[..length]);
+        let s = &bytes[..length];
+        let first = with_sheet(under(t, 1), state, s);
+        return with_sheet(under(first, 2), state, s);
     }
     t
 }
@@ -137,6 +142,7 @@ fn with_bytes(t: Tally, state: u64, bytes: &[u8], length: usize) -> Tally {
 fn tried(sheets: usize) -> Tally {
     let mut t = Tally {
         of: [0u64; 16],
+        rule: 1,
         out: Out::new(),
     };
     let mut state: u64 = 20030139;

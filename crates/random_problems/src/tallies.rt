@@ -26,9 +26,17 @@ pub const GAPS: usize = 14;
 
 pub const FAILED: usize = 15;
 
+// How many of each kind, and the rule under which sheets are tried.
 pub struct Tally {
     pub of: [u64; 16],
+    pub rule: u8,
     pub out: Out,
+}
+
+pub fn under(t: Tally, rule: u8) -> Tally {
+    let mut o = t;
+    o.rule = rule;
+    o
 }
 
 pub fn with_more(t: Tally, kind: usize, more: u64) -> Tally {
@@ -60,17 +68,25 @@ fn put_sheet(o: Out, s: &[u8]) -> Out {
 
 fn with_out(tally: Tally, out: Out) -> Tally {
     let of = tally.of;
-    Tally { of, out }
+    Tally {
+        of,
+        rule: tally.rule,
+        out,
+    }
 }
 
-// What was tried is right, or is printed with the sheet.
+// What was tried is right, or is printed with the rule and the sheet.
 pub fn judged(tally: Tally, kind: usize, right: bool, words: &[u8], s: &[u8]) -> Tally {
     let t = with_one(tally, kind);
     if right {
         return t;
     }
     let o = t.out;
-    let out = put_sheet(o.put(b"failed: ").put(words), s);
+    let failed = o.put(b"failed, rule ")
+        .number(t.rule as u64)
+        .put(b": ")
+        .put(words);
+    let out = put_sheet(failed, s);
     with_one(with_out(t, out), FAILED)
 }
 

@@ -23,6 +23,7 @@ abbrev pub noAgent : Agent
 noAgent =
     record {
       value = 0;
+      last = 0;
       stored = 0;
       listens = 0;
       informs = 0;

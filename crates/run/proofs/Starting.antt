@@ -83,7 +83,7 @@ module _ (r : Network) (rows : List ℕ) (h : Rows (r .counts) rows) where
   unfolding networkOf problemOf
   rows-network =
       let e = counted-channel r rows (λ i j b. held-if i j b) in
-      λ k. record { problem = networkOf r .problem; verdict = r .verdict; agents = networkOf r .agents; channel = e k }
+      λ k. record { problem = networkOf r .problem; rule = r .rule; verdict = r .verdict; agents = networkOf r .agents; channel = e k }
 
 -- the shape is that of the network with clean rows
 pub clean-shape : (r : Network) (rows : List ℕ) → Rows (r .counts) rows → (b : Bool) → inShape (networkOf (counted r rows)) ≡ b → inShape (networkOf r) ≡ b

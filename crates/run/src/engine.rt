@@ -100,6 +100,7 @@ pub fn work(r: Network, once: bool, sender: u8, receiver: u8, allowed: u64) -> A
             let own = Own {
                 number: to,
                 domain: domains[at],
+                rule: o.rule,
             };
             let mine = &bans[words..words + at];
             if !has(ready, to) {

@@ -9,18 +9,18 @@ use Prim.Native.Nat.{ℕ, _≤_, _<_}
 use native.Mathlib.Omega.{arith}
 use borrow.Author.Tests.{leb-true}
 use Rattle.base.specs.Finite.{at}
-use Rattle.base.proofs.Tests.{within-true, to-within, or-left, or-right}
+use Rattle.base.proofs.Tests.{test, within-true, to-within, or-left, or-right}
 use Rattle.base.proofs.Search.{allTo-at}
 use Rattle.base.proofs.Lists.{All, All-append, All-map}
 use Rattle.problem.specs.Problem.{Problem, maxAgents, maxDomain, domain, owns}
 use Rattle.problem.proofs.Range.{Ranged, domain-small}
-use Rattle.agent_rules.specs.Message.{Assignment, Message, Info, Back, AddLink, sentTo}
+use Rattle.agent_rules.specs.Message.{Assignment, known, Message, Info, Back, AddLink, sentTo}
 use Rattle.agent_rules.specs.Counts.{top}
 use Rattle.agent_rules.specs.Agent.{Agent, Step}
 use Rattle.agent_rules.specs.Shape.{anyValue, maxNamed, EachNamed, EachIn, RecordFits, MessageFits}
 use Rattle.agent_rules.specs.Sorts.{IsInfo, Not}
 use Rattle.agent_rules.proofs.Messages.{addlink-not-info}
-use Rattle.agent_rules.proofs.Assignments.{agents-named}
+use Rattle.agent_rules.proofs.Assignments.{unknown-zero, agents-named}
 use Rattle.agent_rules.proofs.Counts.{raised-top}
 use Rattle.agent_facts.specs.Facts.{Asks, Answered, RestFits, Valued, PostFits, StepFits}
 use Rattle.protocol.specs.Network.{Network, selfOf, bansOf, withStep, withChannel, stepOn, handed}
@@ -43,12 +43,14 @@ unfolding anyValue
 owned-any p r k v e = let b = owned-bounds p k v e in to-within maxDomain v (b .0) (omega (arith, domain-small p r k))
 
 pub record-fits : (w : Network) (j : ℕ) → Shaped w → w .verdict ≡ false → 1 ≤ j → j ≤ w .problem .count
-    → RecordFits (owns (w .problem)) (selfOf (w .problem) j) (w .agents j)
+    → RecordFits (owns (w .problem)) (selfOf (w .rule) (w .problem) j) (w .agents j)
 unfolding selfOf owns
 record-fits w j S running lo hi =
     let A = S .agents j lo hi in
+    let own = ⊎-elim (λ o. o) (λ z. absurd (false≢true (sym running ∙ z .0))) (A .valued) in
     record {
-      valued = ⊎-elim (λ o. o) (λ z. absurd (false≢true (sym running ∙ z .0))) (A .valued);
+      valued = own;
+      kept = ⊎-elim (λ z. absurd (omega (arith, owned-bounds (w .problem) j _ own))) sym (A .lasting .1);
       upward = A .upward;
       downward = λ k l h e. let d = A .downward k l h e in (d .0, omega (arith, S .range .high));
       viewed = A .viewed;
@@ -56,7 +58,7 @@ record-fits w j S running lo hi =
     }
 
 pub message-fits : (w : Network) (i j : ℕ) (m : Message) → 1 ≤ i → i ≤ maxAgents → MessageShaped w i j m
-    → MessageFits (owns (w .problem)) (selfOf (w .problem) j) (w .agents j) i m
+    → MessageFits (owns (w .problem)) (selfOf (w .rule) (w .problem) j) (w .agents j) i m
 unfolding selfOf owns
 message-fits w i j (Info v) lo hi h = (lo, h .2, h .1)
 message-fits w i j (Back lhs v) lo hi h = (h .0, hi, h .1, h .3)
@@ -69,16 +71,24 @@ asker-listens w i j (Back lhs v) n h = (h .0, h .2)
 asker-listens w i j AddLink n h = (h .0, h .1)
 
 -- a record that fits, in the words of the network's shape
-own-valued : (p : Problem) (i : ℕ) (t : Step) (verdict : Bool) → Valued (selfOf p i) t → (t .verdict ≡ true → verdict ≡ true)
-    → (owns p i (t .agent .value) ≡ true) ⊎ ((verdict ≡ true) × (t .agent .value ≡ 0))
-unfolding selfOf owns
-own-valued p i t verdict v f = ⊎-elim (λ h. inl (h .1)) (λ h. inr (f (h .0), h .1)) v
+module _ (rule : ℕ) (p : Problem) (i : ℕ) where
+  own-valued : (t : Step) (verdict : Bool) → Valued (selfOf rule p i) t → (t .verdict ≡ true → verdict ≡ true)
+      → (owns p i (t .agent .value) ≡ true) ⊎ ((verdict ≡ true) × (t .agent .value ≡ 0))
+  unfolding selfOf owns
+  own-valued t verdict v f = ⊎-elim (λ h. inl (h .1)) (λ h. inr (f (h .0), h .1)) v
 
-own-agreed : (p : Problem) (i : ℕ) (a : Agent) → RestFits (owns p) (selfOf p i) a
-    → (v : ℕ) (lhs : Assignment) → 1 ≤ v → v ≤ maxDomain → a .nogoods v ≡ some lhs
-    → (owns p i v ≡ true) × EachNamed lhs (λ k u. u ≡ a .view k)
-unfolding selfOf owns
-own-agreed p i a f v lhs lo hi e = let g = f .agreed v lhs lo hi e in (to-within (domain p i) v lo (g .0), g .1)
+  own-lasting : (a : Agent) (from : ℕ) (m : Message) (t : Step) → StepFits (owns p) (selfOf rule p i) a from m t
+      → (owns p i (t .agent .last) ≡ true) × ((t .agent .value ≡ 0) ⊎ (t .agent .value ≡ t .agent .last))
+  unfolding selfOf owns
+  own-lasting a from m t F =
+      let (own, same) = F .lasting in
+      (own, test (known (t .agent .value)) (λ e. inr (sym (same e))) (λ e. inl (unknown-zero _ e)))
+
+  own-agreed : (a : Agent) → RestFits (owns p) (selfOf rule p i) a
+      → (v : ℕ) (lhs : Assignment) → 1 ≤ v → v ≤ maxDomain → a .nogoods v ≡ some lhs
+      → (owns p i v ≡ true) × EachNamed lhs (λ k u. u ≡ a .view k)
+  unfolding selfOf owns
+  own-agreed a f v lhs lo hi e = let g = f .agreed v lhs lo hi e in (to-within (domain p i) v lo (g .0), g .1)
 
 -- ---- one delivery
 
@@ -99,11 +109,11 @@ module _ (w : Network) (i j : ℕ) (m : Message) (others : List Message) (H : He
       let c = H .shape .channels i j (H .from-low) (omega (arith, H .from-high)) (H .to-low) (omega (arith, H .to-high)) in
       rw (H .head) at (c .messages)
 
-  pub step-fits : StepFits (owns (w .problem)) (selfOf (w .problem) j) (w .agents j) i m (stepOn w i j m)
+  pub step-fits : StepFits (owns (w .problem)) (selfOf (w .rule) (w .problem) j) (w .agents j) i m (stepOn w i j m)
   unfolding stepOn selfOf
   step-fits =
       let r = H .shape .range in
-      agent-facts .fits (owns (w .problem)) (selfOf (w .problem) j) (bansOf (w .problem) j) (w .agents j) i m
+      agent-facts .fits (owns (w .problem)) (selfOf (w .rule) (w .problem) j) (bansOf (w .problem) j) (w .agents j) i m
       (omega (arith, H .to-high, r .high)) (r .domained j (H .to-low) (H .to-high) .1)
       (record-fits w j (H .shape) (H .running) (H .to-low) (H .to-high))
       (message-fits w i j m (H .from-low) (omega (arith, H .from-high, r .high)) (message-here .0))
@@ -154,8 +164,10 @@ module _ (w : Network) (i j : ℕ) (m : Message) (others : List Message) (H : He
   agent-after x lo hi =
       record {
         valued = by (λ a. (owns (w .problem) x (a .value) ≡ true) ⊎ ((handedOn .verdict ≡ true) × (a .value ≡ 0))) x
-            (λ q. rw q (own-valued (w .problem) j t (handedOn .verdict) (step-fits .valued) (or-right (w .verdict) (t .verdict))))
+            (λ q. rw q (own-valued (w .rule) (w .problem) j t (handedOn .verdict) (step-fits .valued) (or-right (w .verdict) (t .verdict))))
             (λ _. ⊎-elim inl (λ z. inr (or-left (w .verdict) (t .verdict) (z .0), z .1)) (A .valued));
+        lasting = by (λ a. (owns (w .problem) x (a .last) ≡ true) × ((a .value ≡ 0) ⊎ (a .value ≡ a .last))) x
+            (λ q. rw q (own-lasting (w .rule) (w .problem) j (w .agents j) i m t step-fits)) (λ _. A .lasting);
         upward = by (λ a. EachIn (a .listens) (λ k. k < x)) x (λ q. rw q (step-fits .rest .upward)) (λ _. A .upward);
         downward = by (λ a. EachIn (a .informs) (λ k. (x < k) × (k ≤ w .problem .count))) x
             (λ q. rw q (λ k l h e. let d = informs-after k l h e in (d .0, d .1))) (λ _. A .downward);
@@ -168,7 +180,7 @@ module _ (w : Network) (i j : ℕ) (m : Message) (others : List Message) (H : He
         agreed = by
             (λ a. (v : ℕ) (lhs : Assignment) → 1 ≤ v → v ≤ maxDomain → a .nogoods v ≡ some lhs
             → (owns (w .problem) x v ≡ true) × EachNamed lhs (λ k u. u ≡ a .view k)) x
-            (λ q. rw q (own-agreed (w .problem) j (t .agent) (step-fits .rest))) (λ _. A .agreed);
+            (λ q. rw q (own-agreed (w .rule) (w .problem) j (t .agent) (step-fits .rest))) (λ _. A .agreed);
         sized = by (λ a. EachCount (a .counts) (λ c. c ≤ top)) x
             (λ _ s. let c = handing-over .counts in rw (c .sent s, c .received s) (raised-top _ _, raised-top _ _)) (λ _. A .sized);
       }
@@ -188,7 +200,7 @@ module _ (w : Network) (i j : ℕ) (m : Message) (others : List Message) (H : He
 
   -- what is sent fits
   post-shaped : (y : ℕ) → 1 ≤ y → y ≤ maxAgents → (n : Message)
-      → PostFits (owns (w .problem)) (selfOf (w .problem) j) (stepOn w i j m .agent .listens)
+      → PostFits (owns (w .problem)) (selfOf (w .rule) (w .problem) j) (stepOn w i j m .agent .listens)
       (λ y. (w .agents j .informs y ≡ true) ⊎ Answered i m y) y n
       → MessageShaped handedOn j y n
   unfolding handed withStep withChannel selfOf owns
@@ -223,6 +235,7 @@ module _ (w : Network) (i j : ℕ) (m : Message) (others : List Message) (H : He
   handed-shaped room =
       record {
         range = H .shape .range;
+        ruled = H .shape .ruled;
         agents = agent-after;
         beyond = λ x lo hi.
             by Unused x (λ q. absurd (omega (arith, H .to-high))) (λ _. H .shape .beyond x lo hi);

@@ -92,8 +92,8 @@ handing d w m others ne l =
     let i = d .from in
     let j = d .to in
     record {
-      links = agent-facts .links (selfOf (w .problem) j) (bansOf (w .problem) j) (w .agents j) i m;
-      counts = agent-facts .counts (selfOf (w .problem) j) (bansOf (w .problem) j) (w .agents j) i m;
+      links = agent-facts .links (selfOf (w .rule) (w .problem) j) (bansOf (w .problem) j) (w .agents j) i m;
+      counts = agent-facts .counts (selfOf (w .rule) (w .problem) j) (bansOf (w .problem) j) (w .agents j) i m;
       apart = ne;
       mine = at-same (w .agents) j (stepOn w i j m .agent);
       others = at-other (w .agents) j (stepOn w i j m .agent);

@@ -20,12 +20,13 @@ use Rattle.agent_rules.specs.Counts.{Sort, Counts, eachCount, top}
 use Rattle.agent_rules.specs.Agent.{Agent}
 use Rattle.agent_rules.specs.Shape.{maxNamed, EachNamed, EachIn}
 use Rattle.agent_rules.proofs.Counts.{each-count, to-each-count}
-use Rattle.protocol.specs.Network.{Network}
+use Rattle.protocol.specs.Network.{Network, isRule}
 use Rattle.protocol.specs.Shape.{
   capacity,
   eachNamed,
   eachIn,
   holdsValue,
+  lastFits,
   listensUpward,
   informsDownward,
   linkedListen,
@@ -70,6 +71,7 @@ EachCount c P = (x : Sort) → P (c .sent x) × P (c .received x)
 
 pub record AgentShaped (w : Network) (i : ℕ) : Type 0 where
   pub valued : (owns (w .problem) i (w .agents i .value) ≡ true) ⊎ ((w .verdict ≡ true) × (w .agents i .value ≡ 0))
+  pub lasting : (owns (w .problem) i (w .agents i .last) ≡ true) × ((w .agents i .value ≡ 0) ⊎ (w .agents i .value ≡ w .agents i .last))
   pub upward : EachIn (w .agents i .listens) (λ k. k < i)
   pub downward : EachIn (w .agents i .informs) (λ k. (i < k) × (k ≤ w .problem .count))
   pub linking : (k : ℕ) → 1 ≤ k → k < i → linked (w .problem) k i ≡ true → (w .agents i .listens k ≡ true) × (w .agents k .informs i ≡ true)
@@ -82,6 +84,7 @@ pub record AgentShaped (w : Network) (i : ℕ) : Type 0 where
 -- an agent beyond n
 pub record Unused (a : Agent) : Type 0 where
   pub valueless : a .value ≡ 0
+  pub never : a .last ≡ 0
   pub deaf : EachIn (a .listens) (λ k. ⊥)
   pub mute : EachIn (a .informs) (λ k. ⊥)
   pub blind : EachNamed (a .view) (λ k v. ⊥)
@@ -99,6 +102,19 @@ module _ (w : Network) (i : ℕ) where
   unfolding holdsValue
   to-valued (inl o) = or-left _ _ o
   to-valued (inr z) = or-right (owns (w .problem) i (w .agents i .value)) _ (to-both (w .verdict) _ (z .0) (eq-eqb _ _ (z .1)))
+
+  pub lasting-is : lastFits w i ≡ true
+      → (owns (w .problem) i (w .agents i .last) ≡ true) × ((w .agents i .value ≡ 0) ⊎ (w .agents i .value ≡ w .agents i .last))
+  unfolding lastFits
+  lasting-is e =
+      let b = both (owns (w .problem) i (w .agents i .last)) _ e in
+      (b .0, ⊎-elim (λ z. inl (eqb-true _ _ z)) (λ z. inr (eqb-true _ _ z)) (or-cases (eqb (w .agents i .value) 0) _ (b .1)))
+
+  pub to-lasting : (owns (w .problem) i (w .agents i .last) ≡ true) × ((w .agents i .value ≡ 0) ⊎ (w .agents i .value ≡ w .agents i .last))
+      → lastFits w i ≡ true
+  unfolding lastFits
+  to-lasting (o, z) =
+      to-both _ _ o (⊎-elim (λ e. or-left _ _ (eq-eqb _ _ e)) (λ e. or-right (eqb (w .agents i .value) 0) _ (eq-eqb _ _ e)) z)
 
   pub upward-is : listensUpward w i ≡ true → EachIn (w .agents i .listens) (λ k. k < i)
   unfolding listensUpward
@@ -179,9 +195,11 @@ module _ (w : Network) (i : ℕ) where
       let l = both _ (informedListen w i) (d .0) in
       let m = both _ (linkedListen w i) (l .0) in
       let n = both _ (informsDownward w i) (m .0) in
-      let o = both (holdsValue w i) (listensUpward w i) (n .0) in
+      let o = both _ (listensUpward w i) (n .0) in
+      let v = both (holdsValue w i) (lastFits w i) (o .0) in
       record {
-        valued = valued-is (o .0);
+        valued = valued-is (v .0);
+        lasting = lasting-is (v .1);
         upward = upward-is (o .1);
         downward = downward-is (n .1);
         linking = linking-is (m .1);
@@ -197,6 +215,7 @@ module _ (w : Network) (i : ℕ) where
       rw (le-leb i (w .problem .count) h, agentInShape)
       (rw (
         to-valued (a .valued),
+        to-lasting (a .lasting),
         to-upward (a .upward),
         to-downward (a .downward),
         to-linking (a .linking),
@@ -213,9 +232,11 @@ unused-is a e =
     let c = both _ (allTo maxDomain (λ v. not (isSome (a .nogoods v)))) (f .0) in
     let d = both _ (eachNamed (a .view) (λ k v. false)) (c .0) in
     let l = both _ (eachIn (a .informs) (λ k. false)) (d .0) in
-    let m = both (eqb (a .value) 0) _ (l .0) in
+    let m = both _ (eachIn (a .listens) (λ k. false)) (l .0) in
+    let n = both (eqb (a .value) 0) (eqb (a .last) 0) (m .0) in
     record {
-      valueless = eqb-true _ _ (m .0);
+      valueless = eqb-true _ _ (n .0);
+      never = eqb-true _ _ (n .1);
       deaf = λ k lo hi h. false≢true (each-in _ _ (m .1) k lo hi h);
       mute = λ k lo hi h. false≢true (each-in _ _ (l .1) k lo hi h);
       blind = λ k lo hi h. false≢true (each-named _ _ (d .1) k lo hi h);
@@ -228,6 +249,7 @@ unfolding unused isSome
 to-unused a u =
     rw (
       eq-eqb (a .value) 0 (u .valueless),
+      eq-eqb (a .last) 0 (u .never),
       to-each-in (a .listens) (λ k. false) (λ k lo hi h. absurd (u .deaf k lo hi h)),
       to-each-in (a .informs) (λ k. false) (λ k lo hi h. absurd (u .mute k lo hi h)),
       to-each-named (a .view) (λ k v. false) (λ k lo hi h. absurd (u .blind k lo hi h)),
@@ -301,6 +323,7 @@ to-channel-shaped w i j c =
 
 pub record Shaped (w : Network) : Type 0 where
   pub range : Ranged (w .problem)
+  pub ruled : isRule (w .rule) ≡ true
   pub agents : (i : ℕ) → 1 ≤ i → i ≤ w .problem .count → AgentShaped w i
   pub beyond : (i : ℕ) → w .problem .count < i → i ≤ maxAgents → Unused (w .agents i)
   pub channels : (i j : ℕ) → 1 ≤ i → i ≤ maxAgents → 1 ≤ j → j ≤ maxAgents → ChannelShaped w i j
@@ -308,11 +331,13 @@ pub record Shaped (w : Network) : Type 0 where
 pub shaped : (w : Network) → inShape w ≡ true → Shaped w
 unfolding inShape
 shaped w e =
-    let c = both (inRange (w .problem) && allTo maxAgents (agentInShape w)) _ e in
-    let d = both (inRange (w .problem)) (allTo maxAgents (agentInShape w)) (c .0) in
-    let r = ranged (w .problem) (d .0) in
+    let c = both (inRange (w .problem) && isRule (w .rule) && allTo maxAgents (agentInShape w)) _ e in
+    let d = both (inRange (w .problem) && isRule (w .rule)) (allTo maxAgents (agentInShape w)) (c .0) in
+    let g = both (inRange (w .problem)) (isRule (w .rule)) (d .0) in
+    let r = ranged (w .problem) (g .0) in
     record {
       range = r;
+      ruled = g .1;
       agents = λ i lo hi. agent-shaped w i hi (allTo-at maxAgents _ (d .1) i lo (omega (arith, r .high)));
       beyond = λ i lo hi. agent-unused w i lo (allTo-at maxAgents _ (d .1) i (omega arith) hi);
       channels = λ i j li hi lj hj.
@@ -323,7 +348,7 @@ shaped w e =
 pub to-shape : (w : Network) → Shaped w → inShape w ≡ true
 unfolding inShape
 to-shape w s =
-    to-both _ _ (to-both (inRange (w .problem)) _ (to-range (w .problem) (s .range))
+    to-both _ _ (to-both _ _ (to-both (inRange (w .problem)) _ (to-range (w .problem) (s .range)) (s .ruled))
     (to-allTo maxAgents (agentInShape w) (λ i lo hi.
     test (leb i (w .problem .count))
     (λ q. to-agent-shaped w i (leb-true _ _ q) (s .agents i lo (leb-true _ _ q)))

@@ -35,8 +35,8 @@ pub struct Decoded {
     pub problem: Problem,
 }
 
-// The empty problem under a fault's number.
-fn rejected(number: u8) -> Decoded
+// The empty problem under a refusal's number.
+pub fn rejected(number: u8) -> Decoded
     ensures { λ r. ⌜ (outcomeOf r ≡ record { number = number; problem = emptyProblem }) × Sized (r .problem) ⌝ }
 {
     Decoded {

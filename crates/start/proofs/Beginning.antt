@@ -22,18 +22,18 @@ use Rattle.start.proofs.Posting.{withPosts}
 
 -- ---- its step
 
-pub begun-by : (p : Problem) (i : ℕ) (a : Agent) (own : Own) (m n : ℕ)
-    → BeginsAs a (begin (ownOf own) (bansOf p i) (members m) (members n)) → ownOf own ≡ selfOf p i
-    → members m ≡ (λ k. linked p k i) → members n ≡ (λ k. linked p i k) → BeginsAs a (begun p i)
+pub begun-by : (rule : ℕ) (p : Problem) (i : ℕ) (a : Agent) (own : Own) (m n : ℕ)
+    → BeginsAs a (begin (ownOf own) (bansOf p i) (members m) (members n)) → ownOf own ≡ selfOf rule p i
+    → members m ≡ (λ k. linked p k i) → members n ≡ (λ k. linked p i k) → BeginsAs a (begun rule p i)
 unfolding begun
-begun-by p i a own m n e s l k = rw (s, l, k) at e
+begun-by rule p i a own m n e s l k = rw (s, l, k) at e
 
 -- those it informs are below
-pub informs-below : (p : Problem) (i : ℕ) (a : Agent) → Ranged p → 1 ≤ i → i ≤ p .count → BeginsAs a (begun p i)
+pub informs-below : (rule : ℕ) (p : Problem) (i : ℕ) (a : Agent) → Ranged p → 1 ≤ i → i ≤ p .count → BeginsAs a (begun rule p i)
     → (j : ℕ) → members (a .informs) j ≡ true → (i < j) × (j ≤ 12)
 unfolding agentOf maxAgents
-informs-below p i a r l h b j e =
-    let informed = begins p r i l h .informed in
+informs-below rule p i a r l h b j e =
+    let informed = begins rule p r i l h .informed in
     let s : linked p i j ≡ true = ap (λ (g : ℕ → Bool). g j) (sym (ap (λ (x : Agent′). x .informs) (b .agent) ∙ informed)) ∙ e in
     let q = linked-pair p i j s in
     (q .1, q .2)
@@ -45,6 +45,7 @@ abbrev pub withAgent : Network → ℕ → Agent → Network
 withAgent o m a =
     record {
       count = o .count;
+      rule = o .rule;
       domains = o .domains;
       bans = o .bans;
       verdict = o .verdict;

@@ -22,52 +22,54 @@ use Rattle.start.specs.Started.{unbegun}
 use Rattle.start.proofs.Posting.{Silent}
 
 -- the first m agents have begun
-openedAgent : Problem → ℕ → ℕ → Agent
-openedAgent p m i = elim (within m i) [ true ↦ begun p i .agent | false ↦ unusedAgent ]
+openedAgent : ℕ → Problem → ℕ → ℕ → Agent
+openedAgent rule p m i = elim (within m i) [ true ↦ begun rule p i .agent | false ↦ unusedAgent ]
 
-openedChannel : Problem → ℕ → ℕ → ℕ → List Message
-openedChannel p m i j = elim (within m i) [ true ↦ sentTo j (begun p i .sent) | false ↦ [] ]
+openedChannel : ℕ → Problem → ℕ → ℕ → ℕ → List Message
+openedChannel rule p m i j = elim (within m i) [ true ↦ sentTo j (begun rule p i .sent) | false ↦ [] ]
 
-pub opened : Problem → ℕ → Network′
-opened p m =
+pub opened : ℕ → Problem → ℕ → Network′
+opened rule p m =
     record {
       problem = p;
-      verdict = not (allTo m (λ i. not (begun p i .verdict)));
-      agents = openedAgent p m;
-      channel = openedChannel p m;
+      rule = rule;
+      verdict = not (allTo m (λ i. not (begun rule p i .verdict)));
+      agents = openedAgent rule p m;
+      channel = openedChannel rule p m;
     }
 
-pub all-opened : (p : Problem) → opened p (p .count) ≡ start p
+pub all-opened : (rule : ℕ) (p : Problem) → opened rule p (p .count) ≡ start rule p
 unfolding opened openedAgent openedChannel start startAgent startChannel
-all-opened p = refl
+all-opened rule p = refl
 
 -- one that has not
-waits-agent : (p : Problem) (m i : ℕ) → within m i ≡ false → openedAgent p m i ≡ unusedAgent
+waits-agent : (rule : ℕ) (p : Problem) (m i : ℕ) → within m i ≡ false → openedAgent rule p m i ≡ unusedAgent
 unfolding openedAgent
-waits-agent p m i e = rw (e, openedAgent)
+waits-agent rule p m i e = rw (e, openedAgent)
 
-waits-channel : (p : Problem) (m i j : ℕ) → within m i ≡ false → openedChannel p m i j ≡ []
+waits-channel : (rule : ℕ) (p : Problem) (m i j : ℕ) → within m i ≡ false → openedChannel rule p m i j ≡ []
 unfolding openedChannel
-waits-channel p m i j e = rw (e, openedChannel)
+waits-channel rule p m i j e = rw (e, openedChannel)
 
 -- ---- nobody has begun
 
-pub none-opened : (p : Problem) → networkOf (unbegun (p .count) (p .domains) (p .bans)) ≡ opened p 0
+pub none-opened : (rule : ℕ) (p : Problem) → networkOf (unbegun rule (p .count) (p .domains) (p .bans)) ≡ opened rule p 0
 unfolding unbegun networkOf channelOf problemOf emptyNetwork opened allTo
-none-opened p = λ k. record {
+none-opened rule p = λ k. record {
   problem = p;
+  rule = rule;
   verdict = ap (λ (w : Network′). w .verdict) record-empty k;
   agents =
-      (ap (λ (w : Network′). w .agents) record-empty ∙ sym (fun-ext (λ i. waits-agent p 0 i (not-within 0 i (λ l h. omega arith))))) k;
+      (ap (λ (w : Network′). w .agents) record-empty ∙ sym (fun-ext (λ i. waits-agent rule p 0 i (not-within 0 i (λ l h. omega arith))))) k;
   channel =
       (ap (λ (w : Network′). w .channel) record-empty
-      ∙ sym (fun-ext (λ i. fun-ext (λ j. waits-channel p 0 i j (not-within 0 i (λ l h. omega arith)))))) k;
+      ∙ sym (fun-ext (λ i. fun-ext (λ j. waits-channel rule p 0 i j (not-within 0 i (λ l h. omega arith)))))) k;
 }
 
--- the start of the empty problem, in which there is nobody
-pub nobody-starts : start emptyProblem ≡ emptyNetwork
+-- the start of the empty problem, in which there is nobody, with no rule
+pub nobody-starts : start 0 emptyProblem ≡ emptyNetwork
 unfolding emptyProblem noBans maxAgents maxPairs unbegun emptyRecord
-nobody-starts = sym (all-opened emptyProblem) ∙ sym (none-opened emptyProblem) ∙ record-empty
+nobody-starts = sym (all-opened 0 emptyProblem) ∙ sym (none-opened 0 emptyProblem) ∙ record-empty
 
 -- ---- one more
 
@@ -84,33 +86,34 @@ fell true false = refl
 fell false true = refl
 fell false false = refl
 
-pub silent-next : (p : Problem) (m : ℕ) → Silent (opened p m) (suc m)
+pub silent-next : (rule : ℕ) (p : Problem) (m : ℕ) → Silent (opened rule p m) (suc m)
 unfolding opened
-silent-next p m j = waits-channel p m (suc m) j (not-within m (suc m) (λ l h. omega arith))
+silent-next rule p m j = waits-channel rule p m (suc m) j (not-within m (suc m) (λ l h. omega arith))
 
-module _ (p : Problem) (m : ℕ) where
+module _ (rule : ℕ) (p : Problem) (m : ℕ) where
   last-within : (i : ℕ) → i ≡ suc m → within (suc m) i ≡ true
   last-within i q = to-within (suc m) i (omega arith) (omega arith)
 
-  agents-next : (i : ℕ) → openedAgent p (suc m) i ≡ at (openedAgent p m) (suc m) (begun p (suc m) .agent) i
+  agents-next : (i : ℕ) → openedAgent rule p (suc m) i ≡ at (openedAgent rule p m) (suc m) (begun rule p (suc m) .agent) i
   unfolding openedAgent
   agents-next i =
       eq-test i (suc m)
-      (λ q. rw (last-within i q, openedAgent) (rw (q, at-same (openedAgent p m) (suc m) (begun p (suc m) .agent))))
-      (λ q. rw (at-other (openedAgent p m) (suc m) (begun p (suc m) .agent) i q, within-more m i q, openedAgent))
+      (λ q. rw (last-within i q, openedAgent) (rw (q, at-same (openedAgent rule p m) (suc m) (begun rule p (suc m) .agent))))
+      (λ q. rw (at-other (openedAgent rule p m) (suc m) (begun rule p (suc m) .agent) i q, within-more m i q, openedAgent))
 
-  channels-next : (i j : ℕ) → openedChannel p (suc m) i j ≡ posted (suc m) (begun p (suc m) .sent) (openedChannel p m) i j
+  channels-next : (i j : ℕ) → openedChannel rule p (suc m) i j ≡ posted (suc m) (begun rule p (suc m) .sent) (openedChannel rule p m) i j
   unfolding openedChannel posted opened
   channels-next i j =
       eq-test i (suc m)
-      (λ q. rw (last-within i q, eq-eqb i (suc m) q, openedChannel, posted) (rw (q, silent-next p m j)))
+      (λ q. rw (last-within i q, eq-eqb i (suc m) q, openedChannel, posted) (rw (q, silent-next rule p m j)))
       (λ q. rw (ne-eqb i (suc m) q, posted, within-more m i q, openedChannel))
 
-  pub opened-next : opened p (suc m) ≡ withStep (opened p m) (suc m) (begun p (suc m))
+  pub opened-next : opened rule p (suc m) ≡ withStep (opened rule p m) (suc m) (begun rule p (suc m))
   unfolding opened withStep allTo
   opened-next = λ i. record {
     problem = p;
-    verdict = fell (begun p (suc m) .verdict) (allTo m (λ i. not (begun p i .verdict))) i;
+    rule = rule;
+    verdict = fell (begun rule p (suc m) .verdict) (allTo m (λ i. not (begun rule p i .verdict))) i;
     agents = fun-ext agents-next i;
     channel = fun-ext (λ x. fun-ext (channels-next x)) i;
   }

@@ -13,6 +13,7 @@ unfoldable pub withPosts : Network′ → ℕ → List Post → Network′
 withPosts w i posts =
     record {
       problem = w .problem;
+      rule = w .rule;
       verdict = w .verdict;
       agents = w .agents;
       channel = posted i posts (w .channel);

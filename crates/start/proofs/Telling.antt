@@ -25,6 +25,7 @@ abbrev pub withPlaces : Network → List Place → Network
 withPlaces o places =
     record {
       count = o .count;
+      rule = o .rule;
       domains = o .domains;
       bans = o .bans;
       verdict = o .verdict;

@@ -72,6 +72,7 @@ module _ (m value all : ℕ) (o r : Network) (row told : ℕ) (T : Telling (suc 
       ap (λ (q : Network). networkOf (withRow q m row)) (T .same)
       ∙ ap (λ (channel : ℕ → ℕ → List Message). record {
         problem = networkOf o .problem;
+        rule = networkOf o .rule;
         verdict = networkOf o .verdict;
         agents = networkOf o .agents;
         channel = channel;

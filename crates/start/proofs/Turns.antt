@@ -23,17 +23,18 @@ use Rattle.start.proofs.Told.{all-told}
 use Rattle.start.proofs.Beginning.{withAgent, step-put}
 use Rattle.start.proofs.Opened.{opened, none-opened, silent-next, opened-next}
 
-pub record Opening (p : Problem) (m : ℕ) (r : Network) : Type 0 where
-  pub network : networkOf r ≡ opened p m
+pub record Opening (rule : ℕ) (p : Problem) (m : ℕ) (r : Network) : Type 0 where
+  pub network : networkOf r ≡ opened rule p m
   pub heads : r .heads ≡ replicate 12 0
   pub agents : length (r .agents) ≡ 12
   pub counts : length (r .counts) ≡ 12
   pub places : length (r .places) ≡ 1056
 
 -- nobody has begun: the record, as it is written
-pub not-begun : (n : ℕ) (domains bans : List ℕ) (a : Agent) (p : Place) → a ≡ emptyAgent → p ≡ noPlace
+pub not-begun : (rule n : ℕ) (domains bans : List ℕ) (a : Agent) (p : Place) → a ≡ emptyAgent → p ≡ noPlace
     → record {
       count = n;
+      rule = rule;
       domains = domains;
       bans = bans;
       verdict = false;
@@ -42,15 +43,15 @@ pub not-begun : (n : ℕ) (domains bans : List ℕ) (a : Agent) (p : Place) → 
       counts = replicate 12 0;
       places = replicate 1056 p;
     }
-    ≡ unbegun n domains bans
+    ≡ unbegun rule n domains bans
 unfolding unbegun emptyRecord
-not-begun n domains bans a p e f = rw (e, f)
+not-begun rule n domains bans a p e f = rw (e, f)
 
-pub none-begun : (p : Problem) (r : Network) → r ≡ unbegun (p .count) (p .domains) (p .bans) → Opening p 0 r
+pub none-begun : (rule : ℕ) (p : Problem) (r : Network) → r ≡ unbegun rule (p .count) (p .domains) (p .bans) → Opening rule p 0 r
 unfolding unbegun emptyRecord
-none-begun p r e =
+none-begun rule p r e =
     record {
-      network = ap networkOf e ∙ none-opened p;
+      network = ap networkOf e ∙ none-opened rule p;
       heads = ap (λ (n : Network). n .heads) e;
       agents = ap (λ (n : Network). length (n .agents)) e ∙ length-replicate 12 emptyAgent;
       counts = ap (λ (n : Network). length (n .counts)) e ∙ length-replicate {A = ℕ} 12 0;
@@ -61,7 +62,7 @@ none-begun p r e =
 pub told-channel : (m j : ℕ) → m < 12 → (suc m < j) × (j ≤ 12) → isChannel (suc m) j ≡ true
 told-channel m j h b = to-channel (suc m) j (omega arith) h (omega arith) (b .1) (λ q. omega arith)
 
-module _ (p : Problem) (m : ℕ) (r : Network) (O : Opening p m r) (h : m < 12) (a : Agent) (step : BeginsAs a (begun p (suc m)))
+module _ (rule : ℕ) (p : Problem) (m : ℕ) (r : Network) (O : Opening rule p m r) (h : m < 12) (a : Agent) (step : BeginsAs a (begun rule p (suc m)))
     (below : (j : ℕ) → members (a .informs) j ≡ true → (suc m < j) × (j ≤ 12)) where
   -- its record put in
   abbrev begins : Network
@@ -75,17 +76,17 @@ module _ (p : Problem) (m : ℕ) (r : Network) (O : Opening p m r) (h : m < 12) 
 
   silent : Silent (networkOf begins) (suc m)
   unfolding networkOf channelOf
-  silent j = ap (λ (w : Network′). w .channel (suc m) j) (O .network) ∙ silent-next p m j
+  silent j = ap (λ (w : Network′). w .channel (suc m) j) (O .network) ∙ silent-next rule p m j
 
   module _ (q : Network) (row told : ℕ) (T : Telling (suc m) (a .value) (a .informs) begins q row told) (done : told ≡ 0) where
-    reached : networkOf (withRow q m row) ≡ opened p (suc m)
+    reached : networkOf (withRow q m row) ≡ opened rule p (suc m)
     reached =
         all-told m (a .value) (a .informs) begins q row told T done no-others (omega (arith, O .counts)) (O .heads) silent
-        ∙ step-put r m a (begun p (suc m)) step (omega (arith, O .agents))
-        ∙ ap (λ (w : Network′). withStep w (suc m) (begun p (suc m))) (O .network)
-        ∙ sym (opened-next p m)
+        ∙ step-put r m a (begun rule p (suc m)) step (omega (arith, O .agents))
+        ∙ ap (λ (w : Network′). withStep w (suc m) (begun rule p (suc m))) (O .network)
+        ∙ sym (opened-next rule p m)
 
-    pub one-more : Opening p (suc m) (withRow q m row)
+    pub one-more : Opening rule p (suc m) (withRow q m row)
     one-more =
         record {
           network = reached;

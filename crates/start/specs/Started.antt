@@ -1,18 +1,28 @@
 -- What a start hands back. A primed name is the definitions'.
 use Prim.Native.Nat.{ℕ}
 use mathlib.Core.Path.{_≡_}
+use mathlib.Core.Bool.{true, false}
 use mathlib.Core.List.{List}
-use Rattle.protocol.specs.Network.{Started as Started′}
+use Rattle.problem.specs.Problem.{emptyProblem}
+use Rattle.problem.specs.Sheet.{decode}
+use Rattle.protocol.specs.Network.{isRule, badRule, Started as Started′}
+use Rattle.sheet.specs.Abstract.{Outcome, outcome}
 use Rattle.network.specs.declared.Network.{Network}
 use Rattle.network.specs.Abstract.{networkOf}
 use Rattle.network.specs.Empty.{emptyRecord}
 use Rattle.start.specs.declared.Started.{Started}
 
--- the empty network's record with a problem in it, where nobody has begun
-unfoldable pub unbegun : ℕ → List ℕ → List ℕ → Network
-unbegun n domains bans =
+-- what a start goes by: with a rule that is none, the empty problem under the number of that
+unfoldable pub given : ℕ → List ℕ → Outcome
+given rule sheet =
+    elim (isRule rule) [ true ↦ outcome (decode sheet) | false ↦ record { number = badRule; problem = emptyProblem } ]
+
+-- the empty network's record with a rule and a problem in it, where nobody has begun
+unfoldable pub unbegun : ℕ → ℕ → List ℕ → List ℕ → Network
+unbegun rule n domains bans =
     record {
       count = n;
+      rule = rule;
       domains = domains;
       bans = bans;
       verdict = emptyRecord .verdict;

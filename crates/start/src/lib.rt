@@ -6,7 +6,8 @@ ghost use Rattle.protocol.specs.Network.{startSheet};
 ghost use Rattle.packed.specs.Packed.{members};
 ghost use Rattle.network.specs.Abstract.{noPlace};
 ghost use Rattle.network.specs.Empty.{emptyAgent};
-ghost use Rattle.start.specs.Started.{StartsAs};
+ghost use Rattle.sheet.specs.Abstract.{outcomeOf};
+ghost use Rattle.start.specs.Started.{given, StartsAs};
 use agent::Agent;
 use agent::Counts;
 use agent::Lhs;
@@ -14,14 +15,16 @@ use agent::Message;
 use agent::Own;
 use network::Network;
 use network::Place;
+use network::is_rule;
 use network::places::channel_at;
 use network::places::place_at;
 use network::places::words_before;
 use packed::first;
 use packed::with_digit;
 use packed::without;
+use sheet::Decoded;
 
-// The network and number 0, or the empty network and a fault's number, 1 to 4.
+// The network and number 0, or the empty network and the number of the sheet's fault, 1 to 4, or 11 for a rule that is none.
 pub struct Started {
     pub network: Network,
     pub number: u8,
@@ -72,6 +75,7 @@ fn nobody() -> Agent
     };
     Agent {
         value: 0,
+        last: 0,
         stored: 0,
         listens: 0,
         informs: 0,
@@ -91,12 +95,27 @@ fn nothing() -> Place
     }
 }
 
-// The start for a sheet: every agent of its problem begins, and what it sends waits, each message alone on its channel. A refused sheet has the empty
-// problem, in which nobody begins. The network is built once, where nobody has begun: all in it is zero, and every place holds the same message.
-pub fn start(sheet: &[u8]) -> Started
-    ensures { λ r. ⌜ StartsAs (startSheet (now (sheet .entry))) r ⌝ }
+// What a start goes by: the sheet's problem and its number; with a rule that is none the empty problem and 11, and the sheet is not looked at.
+fn given(rule: u8, sheet: &[u8]) -> Decoded
+    ensures { λ d. ⌜ outcomeOf d ≡ given rule (now (sheet .entry)) ⌝ }
 {
-    let d = sheet::decode(sheet);
+    if is_rule(rule) {
+        return sheet::decode(sheet);
+    }
+    sheet::rejected(11)
+}
+
+// The start for a rule and a sheet: every agent of its problem begins, and what it sends waits, each message alone on its channel. What is
+// refused has the empty problem, in which nobody begins, and no rule. The network is built once, where nobody has begun: all in it is zero, and
+// every place holds the same message.
+pub fn start(rule: u8, sheet: &[u8]) -> Started
+    ensures { λ r. ⌜ StartsAs (startSheet rule (now (sheet .entry))) r ⌝ }
+{
+    let d = given(rule, sheet);
+    let mut kept: u8 = 0;
+    if d.number == 0 {
+        kept = rule;
+    }
     let p = d.problem;
     let n = p.count;
     let domains = p.domains;
@@ -105,6 +124,7 @@ pub fn start(sheet: &[u8]) -> Started
     let places = [nothing(); 1056];
     let mut r = Network {
         count: n,
+        rule: kept,
         domains: domains,
         bans: bans,
         verdict: false,
@@ -120,6 +140,7 @@ pub fn start(sheet: &[u8]) -> Started
         let own = Own {
             number: i,
             domain: domains[at],
+            rule: kept,
         };
         let agent = Agent::begin(own, listens(&bans, i), informs(&bans, i));
         r.agents[at] = agent;

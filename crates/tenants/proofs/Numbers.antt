@@ -17,7 +17,7 @@ use Rattle.problem.proofs.Range.{Ranged, ranged}
 use Rattle.agent_rules.specs.Message.{Message, Info, Back, AddLink}
 use Rattle.agent_rules.specs.Agent.{Agent}
 use Rattle.agent_rules.specs.Shape.{maxNamed}
-use Rattle.protocol.specs.Network.{Network}
+use Rattle.protocol.specs.Network.{Network, isRule}
 use Rattle.protocol.specs.Shape.{eachIn, unused, agentInShape, lhsFits, messageFits, inShape}
 use Rattle.protocol.specs.Delivery.{numbersGood}
 use Rattle.tenants.proofs.Room.{line-shape}
@@ -33,7 +33,7 @@ deaf a k k₁ k₂ l =
 module _ (w : Network) (shape : inShape w ≡ true) where
   range : Ranged (w .problem)
   unfolding inShape
-  range = ranged (w .problem) (both _ _ (both _ _ shape .0) .0)
+  range = ranged (w .problem) (both _ _ (both _ _ (both _ _ shape .0) .0) .0)
 
   -- who owns a value is one of 1 to n
   owner : (k x : ℕ) → k ≤ maxAgents → owns (w .problem) k x ≡ true → k ≤ w .problem .count
@@ -48,7 +48,7 @@ module _ (w : Network) (shape : inShape w ≡ true) where
   listener : (k x : ℕ) → 1 ≤ k → k ≤ maxAgents → 1 ≤ x → x ≤ maxAgents → w .agents k .listens x ≡ true → k ≤ w .problem .count
   unfolding inShape agentInShape
   listener k x k₁ k₂ x₁ x₂ l =
-      let here = allTo-at maxAgents (agentInShape w) (both (inRange (w .problem)) _ (both _ _ shape .0) .1) k k₁ k₂ in
+      let here = allTo-at maxAgents (agentInShape w) (both (inRange (w .problem) && isRule (w .rule)) _ (both _ _ shape .0) .1) k k₁ k₂ in
       test (leb k (w .problem .count))
       (λ q. leb-true k (w .problem .count) q)
       (λ q. absurd (false≢true (sym (deaf (w .agents k) x x₁ x₂ l) ∙ (rw (q, agentInShape) at here))))

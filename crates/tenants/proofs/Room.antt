@@ -14,7 +14,7 @@ use Rattle.base.proofs.Search.{at-other, at-cases, allTo-at, to-allTo}
 use Rattle.base.proofs.Peeling.{same-test}
 use Rattle.problem.specs.Problem.{maxAgents, inRange}
 use Rattle.agent_rules.specs.Message.{Message, sentTo}
-use Rattle.protocol.specs.Network.{Network, posted, withStep, withChannel, stepOn, handed}
+use Rattle.protocol.specs.Network.{Network, isRule, posted, withStep, withChannel, stepOn, handed}
 use Rattle.protocol.specs.Shape.{capacity, agentInShape, messageFits, hasRoom, channelInShape, inShape}
 use Rattle.protocol.specs.Delivery.{fits}
 use Rattle.tenants.specs.Tenants.{roomOn}
@@ -25,7 +25,7 @@ module _ (w : Network) (shape : inShape w ≡ true) (x y : ℕ) (x₁ : 1 ≤ x)
   pub line-shape : (length (w .channel x y) ≤ capacity) × (every (messageFits w x y) (w .channel x y) ≡ true)
   unfolding inShape channelInShape hasRoom
   line-shape =
-      let lines = both (inRange (w .problem) && allTo maxAgents (agentInShape w)) _ shape .1 in
+      let lines = both (inRange (w .problem) && isRule (w .rule) && allTo maxAgents (agentInShape w)) _ shape .1 in
       let here = allTo-at maxAgents (channelInShape w x) (allTo-at maxAgents (λ i. allTo maxAgents (channelInShape w i)) lines x x₁ x₂) y y₁ y₂ in
       let parts = both (hasRoom w x y) (every (messageFits w x y) (w .channel x y)) here in
       (leb-true (length (w .channel x y)) capacity (parts .0), parts .1)

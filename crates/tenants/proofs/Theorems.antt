@@ -27,7 +27,7 @@ answered-alike = same-answer
 -- ---- all the bans that name the agent
 
 above-alike : {j : ℕ} {w v : Network} → Alike Naming j w v → Alike NamingAbove j w v
-above-alike A = record { agent = A .agent; domain = A .domain; bans = λ i k x y e. A .bans i k x y (inr e) }
+above-alike A = record { rule = A .rule; agent = A .agent; domain = A .domain; bans = λ i k x y e. A .bans i k x y (inr e) }
 
 pub named-acts-alike : ActsAlike Naming
 named-acts-alike j w v A = acts-alike j w v (above-alike A)

@@ -35,7 +35,7 @@ sameBans j w v =
 -- the networks are alike in agent j
 unfoldable pub alike : ℕ → Network → Network → Bool
 alike j w v =
-    sameAgent (w .agents j) (v .agents j) && eqb (domain (w .problem) j) (domain (v .problem) j) && sameBans j w v
+    eqb (w .rule) (v .rule) && sameAgent (w .agents j) (v .agents j) && eqb (domain (w .problem) j) (domain (v .problem) j) && sameBans j w v
 
 -- the calls hand agent j these messages; it sends these, and ends with this record
 unfoldable pub actsAs : ℕ → List Handed → List Post → Agent → List Call → Network → Bool
@@ -80,7 +80,7 @@ AllHold (c ∷ cs) = (pairHolds c ≡ true) × AllHold cs
 
 -- what the calls leave of the start for a sheet
 unfoldable pub reached : List ℕ → List Call → Network
-reached s calls = leftByAll calls (startSheet s .network)
+reached s calls = leftByAll calls (startSheet 1 s .network)
 
 -- agents 3 and 4 cannot both have their value
 unfoldable pub sheetDoomed : List ℕ

@@ -18,8 +18,9 @@ Naming j i k = (i ≡ j) ⊎ (k ≡ j)
 abbrev pub NamingAbove : ℕ → ℕ → ℕ → Type 0
 NamingAbove j i k = k ≡ j
 
--- "alike in one scanner: its own record, its slot count and the bans that name it"
+-- "alike in one scanner: its own record, its slot count and the bans that name it", and of one rule
 pub record Alike (Names : ℕ → ℕ → ℕ → Type 0) (j : ℕ) (w v : Network) : Type 0 where
+  pub rule : w .rule ≡ v .rule
   pub agent : w .agents j ≡ v .agents j
   pub domain : domain (w .problem) j ≡ domain (v .problem) j
   pub bans : (i k x y : ℕ) → Names j i k → banned (w .problem) i k x y ≡ banned (v .problem) i k x y

@@ -41,10 +41,10 @@ at-rest p r w I e =
         let s = true-view _ (w .agents j .view i) (w .agents i .value) P in
         G .free i (rw s (lt-ltb 0 (w .agents i .value) (I .good i l (omega arith) .low)), rw s b)
 
-pub rested : (p : Problem) → inRange p ≡ true → (ds : List Line) → replay ds (start p) .verdict ≡ false
-    → ((i j : ℕ) → replay ds (start p) .channel i j ≡ []) → Obeys p (λ i. replay ds (start p) .agents i .value)
-rested p r ds v e = at-rest p r (replay ds (start p)) (reached p r ds v) e
+pub rested : (rule : ℕ) (p : Problem) → inRange p ≡ true → (ds : List Line) → replay ds (start rule p) .verdict ≡ false
+    → ((i j : ℕ) → replay ds (start rule p) .channel i j ≡ []) → Obeys p (λ i. replay ds (start rule p) .agents i .value)
+rested rule p r ds v e = at-rest p r (replay ds (start rule p)) (reached rule p r ds v) e
 
-pub ended : (p : Problem) → inRange p ≡ true → (ds : List Line) → replay ds (start p) .verdict ≡ true
+pub ended : (rule : ℕ) (p : Problem) → inRange p ≡ true → (ds : List Line) → replay ds (start rule p) .verdict ≡ true
     → (σ : Assignment) → Obeys p σ → ⊥
-ended p r ds v = reach-all p r ds .ended v
+ended rule p r ds v = reach-all rule p r ds .ended v

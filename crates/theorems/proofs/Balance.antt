@@ -45,7 +45,7 @@ use Rattle.theorems.specs.Figures.{
   totalWaiting,
 }
 use Rattle.theorems.specs.Claims.{SentIsReceivedAndWaiting, SentIsReceivedAndWaitingOf, EveryProblem}
-use Rattle.theorems.proofs.Tries.{problem-stays}
+use Rattle.theorems.proofs.Tries.{given-stays}
 use Rattle.theorems.proofs.Replay.{calls-replay}
 use Rattle.theorems.proofs.Deeds.{hands-none, hands-head}
 use Rattle.theorems.proofs.Figures.{counts-exact}
@@ -144,7 +144,7 @@ module _ (x : Sort) {d : Line} {m : Message} {t : Step} {w w′ : Network} (H : 
 -- a receiver's posts go to agents 1 to n
 module _ (w : Network) (i j : ℕ) (m : Message) (others : List Message) (H : Head w i j m others) where
   post-inside : (y : ℕ) (q : Message)
-      → PostFits (owns (w .problem)) (selfOf (w .problem) j) (stepOn w i j m .agent .listens)
+      → PostFits (owns (w .problem)) (selfOf (w .rule) (w .problem) j) (stepOn w i j m .agent .listens)
       (λ y. (w .agents j .informs y ≡ true) ⊎ Answered i m y) y q
       → (1 ≤ y) × (y ≤ w .problem .count)
   unfolding selfOf
@@ -219,7 +219,7 @@ replay-balance x n (l ∷ ls) w e =
     subst (λ (k : ℕ).
     sum k (λ i. number x (messagesIn (postsNow i l w))) + grid k (waits x w)
     ≡ sum k (λ i. number x (map messageOf (handedNow i l w))) + grid k (waits x w′)) e (try-balance x l w) in
-    omega (arith, sent, got, now, replay-balance x n ls w′ (rw (problem-stays l w) e))
+    omega (arith, sent, got, now, replay-balance x n ls w′ (rw (given-stays l w .0) e))
   where
     sent : sum n (λ i. number x (messagesIn (postsNow i l w ++ postsBy i ls (attemptOf l w .network))))
         ≡ sum n (λ i. number x (messagesIn (postsNow i l w))) + sum n (λ i. number x (messagesIn (postsBy i ls (attemptOf l w .network))))
@@ -235,59 +235,59 @@ replay-balance x n (l ∷ ls) w e =
 
 -- ---- the start: all that was sent waits
 
-module _ (p : Problem) (r : inRange p ≡ true) (x : Sort) where
-  begun-inside : (i : ℕ) → 1 ≤ i → i ≤ p .count → (y : ℕ) → All (λ _. (1 ≤ y) × (y ≤ p .count)) (sentTo y (begun p i .sent))
+module _ (rule : ℕ) (p : Problem) (r : inRange p ≡ true) (x : Sort) where
+  begun-inside : (i : ℕ) → 1 ≤ i → i ≤ p .count → (y : ℕ) → All (λ _. (1 ≤ y) × (y ≤ p .count)) (sentTo y (begun rule p i .sent))
   begun-inside i lo hi y =
       test (linked p i y)
-      (λ e. let (l, h, n) = linked-inside p (ranged p r) i y e in constant (omega arith, n) (sentTo y (begun p i .sent)))
-      (λ e. rw (begins p (ranged p r) i lo hi .silent y e) tt)
+      (λ e. let (l, h, n) = linked-inside p (ranged p r) i y e in constant (omega arith, n) (sentTo y (begun rule p i .sent)))
+      (λ e. rw (begins rule p (ranged p r) i lo hi .silent y e) tt)
     where
       constant : {P : Type 0} → P → (ms : List Message) → All (λ _. P) ms
       constant h [] = tt
       constant h (m ∷ ms) = (h, constant h ms)
 
-  start-balance : sum (p .count) (λ i. number x (messagesIn (startPosts p i))) ≡ grid (p .count) (waits x (start p))
+  start-balance : sum (p .count) (λ i. number x (messagesIn (startPosts rule p i))) ≡ grid (p .count) (waits x (start rule p))
   unfolding grid waits start startPosts
-  start-balance = sum-same (p .count) _ (λ i. sum (p .count) (λ j. number x (startChannel p i j))) row
+  start-balance = sum-same (p .count) _ (λ i. sum (p .count) (λ j. number x (startChannel rule p i j))) row
     where
-      row : (i : ℕ) → 1 ≤ i → i ≤ p .count → number x (messagesIn (startPosts p i)) ≡ sum (p .count) (λ j. number x (startChannel p i j))
+      row : (i : ℕ) → 1 ≤ i → i ≤ p .count → number x (messagesIn (startPosts rule p i)) ≡ sum (p .count) (λ j. number x (startChannel rule p i j))
       row i lo hi =
-          let posts : startPosts p i ≡ begun p i .sent = rw (to-within (p .count) i lo hi, startPosts) in
+          let posts : startPosts rule p i ≡ begun rule p i .sent = rw (to-within (p .count) i lo hi, startPosts) in
           ap (λ (ps : List Post). number x (messagesIn ps)) posts
-          ∙ sym (posts-sum (p .count) x (begun p i .sent) (begun-inside i lo hi))
-          ∙ sum-same (p .count) (λ j. number x (sentTo j (begun p i .sent))) (λ j. number x (startChannel p i j))
-          (λ j _ _. rw (channel-in p (ranged p r) i j lo hi))
+          ∙ sym (posts-sum (p .count) x (begun rule p i .sent) (begun-inside i lo hi))
+          ∙ sum-same (p .count) (λ j. number x (sentTo j (begun rule p i .sent))) (λ j. number x (startChannel rule p i j))
+          (λ j _ _. rw (channel-in rule p (ranged p r) i j lo hi))
 
 -- ---- the claims
 
 pub sent-is-received-and-waiting-of : EveryProblem SentIsReceivedAndWaitingOf
 unfolding totalOf waitingOf onAllLines sentFrom receivedBy postsIn handedIn grid waits start
-sent-is-received-and-waiting-of p r calls below x =
+sent-is-received-and-waiting-of rule is-rule p r calls below x =
     omega (
       arith,
       sent,
       got,
-      sum-add (p .count) (λ i. number x (messagesIn (startPosts p i))) (λ i. number x (messagesIn (postsBy i ls (start p)))),
-      start-balance p r x,
-      replay-balance x (p .count) ls (start p) refl,
+      sum-add (p .count) (λ i. number x (messagesIn (startPosts rule p i))) (λ i. number x (messagesIn (postsBy i ls (start rule p)))),
+      start-balance rule p r x,
+      replay-balance x (p .count) ls (start rule p) refl,
       left,
     )
   where
     ls : List Line
-    ls = triedByAll calls (start p)
+    ls = triedByAll calls (start rule p)
 
-    sent : sum (p .count) (λ i. leftByAll calls (start p) .agents i .counts .sent x)
-        ≡ sum (p .count) (λ i. number x (messagesIn (startPosts p i)) + number x (messagesIn (postsBy i ls (start p))))
+    sent : sum (p .count) (λ i. leftByAll calls (start rule p) .agents i .counts .sent x)
+        ≡ sum (p .count) (λ i. number x (messagesIn (startPosts rule p i)) + number x (messagesIn (postsBy i ls (start rule p))))
     sent =
         sum-same (p .count) _ _ (λ i lo hi.
-        counts-exact p r calls below i lo hi x .0 ∙ posts-number x (startPosts p i) (postsBy i ls (start p)))
+        counts-exact rule is-rule p r calls below i lo hi x .0 ∙ posts-number x (startPosts rule p i) (postsBy i ls (start rule p)))
 
-    got : sum (p .count) (λ i. leftByAll calls (start p) .agents i .counts .received x)
-        ≡ sum (p .count) (λ i. number x (map messageOf (handedTo i ls (start p))))
-    got = sum-same (p .count) _ _ (λ i lo hi. counts-exact p r calls below i lo hi x .1)
+    got : sum (p .count) (λ i. leftByAll calls (start rule p) .agents i .counts .received x)
+        ≡ sum (p .count) (λ i. number x (map messageOf (handedTo i ls (start rule p))))
+    got = sum-same (p .count) _ _ (λ i lo hi. counts-exact rule is-rule p r calls below i lo hi x .1)
 
-    left : grid (p .count) (waits x (leftByAll calls (start p))) ≡ grid (p .count) (waits x (replay ls (start p)))
-    left = rw (calls-replay calls (start p))
+    left : grid (p .count) (waits x (leftByAll calls (start rule p))) ≡ grid (p .count) (waits x (replay ls (start rule p)))
+    left = rw (calls-replay calls (start rule p))
 
 -- every message is of one sort
 sorts-all : (ms : List Message) → ofAllSorts (λ x. number x ms) ≡ length ms
@@ -306,7 +306,7 @@ sum-three n f = sum-add n (λ i. f Infos i + f Backs i) (f AddLinks) ∙ rw (sum
 
 pub sent-is-received-and-waiting : EveryProblem SentIsReceivedAndWaiting
 unfolding totalSent totalReceived totalWaiting totalOf waitingOf onAllLines ofAllSorts
-sent-is-received-and-waiting p r calls below =
+sent-is-received-and-waiting rule is-rule p r calls below =
     sum-three n (λ x i. w .agents i .counts .sent x)
     ∙ omega (
       arith,
@@ -321,11 +321,11 @@ sent-is-received-and-waiting p r calls below =
     n = p .count
 
     w : Network
-    w = leftByAll calls (start p)
+    w = leftByAll calls (start rule p)
 
     by : (x : Sort) → sum n (λ i. w .agents i .counts .sent x)
         ≡ sum n (λ i. w .agents i .counts .received x) + sum n (λ i. sum n (λ j. number x (w .channel i j)))
-    by x = sent-is-received-and-waiting-of p r calls below x
+    by x = sent-is-received-and-waiting-of rule is-rule p r calls below x
 
     lines : sum n (λ i. sum n (λ j. length (w .channel i j))) ≡ ofAllSorts (λ x. sum n (λ i. sum n (λ j. number x (w .channel i j))))
     lines =

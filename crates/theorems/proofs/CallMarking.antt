@@ -3,7 +3,7 @@
 use mathlib.Core.Path.{_≡_, refl, sym, ap, _∙_}
 use mathlib.Core.Bool.{true, false, false≢true}
 use mathlib.Core.List.{List, [], _∷_, _++_, map}
-use Prim.Native.Nat.{_+_}
+use Prim.Native.Nat.{ℕ, _+_}
 use Rattle.problem.specs.Problem.{Problem, inRange}
 use Rattle.protocol.specs.Network.{Network, start}
 use Rattle.protocol.specs.Run.{Line, oneIf, run}
@@ -44,22 +44,22 @@ unfolding stretchesOf linesOf triedBy
 call-lines (Deliver i j) w = refl
 call-lines (Run k) w = lines-tries (run k w .rounds)
 
-exactly-full : (p : Problem) (before : List Line) (ss : List Stretch) → ExactlyFull p before ss → AllFull p before ss
-exactly-full p before [] E = tt
-exactly-full p before (s ∷ ss) E = (E .0, exactly-full p (before ++ s .lines) ss (E .2))
+exactly-full : (rule : ℕ) (p : Problem) (before : List Line) (ss : List Stretch) → ExactlyFull rule p before ss → AllFull rule p before ss
+exactly-full rule p before [] E = tt
+exactly-full rule p before (s ∷ ss) E = (E .0, exactly-full rule p (before ++ s .lines) ss (E .2))
 
-call-full : (p : Problem) → inRange p ≡ true → (before : List Line) (c : Call)
-    → AllFull p before (stretchesOf c (replay before (start p)))
+call-full : (rule : ℕ) (p : Problem) → inRange p ≡ true → (before : List Line) (c : Call)
+    → AllFull rule p before (stretchesOf c (replay before (start rule p)))
 unfolding stretchesOf
-call-full p r before (Deliver i j) = (λ e. absurd (false≢true e), tt)
-call-full p r before (Run k) =
-    exactly-full p before (map roundStretch (run k (replay before (start p)) .rounds)) (run-counted p r before k .exact)
+call-full rule p r before (Deliver i j) = (λ e. absurd (false≢true e), tt)
+call-full rule p r before (Run k) =
+    exactly-full rule p before (map roundStretch (run k (replay before (start rule p)) .rounds)) (run-counted rule p r before k .exact)
 
-call-made : (p : Problem) → inRange p ≡ true → (before : List Line) (c : Call)
-    → markedIn (stretchesOf c (replay before (start p))) ≡ madeBy c (replay before (start p))
+call-made : (rule : ℕ) (p : Problem) → inRange p ≡ true → (before : List Line) (c : Call)
+    → markedIn (stretchesOf c (replay before (start rule p))) ≡ madeBy c (replay before (start rule p))
 unfolding stretchesOf markedIn madeBy oneIf
-call-made p r before (Deliver i j) = refl
-call-made p r before (Run k) = sym (run-counted p r before k .returned)
+call-made rule p r before (Deliver i j) = refl
+call-made rule p r before (Run k) = sym (run-counted rule p r before k .returned)
 
 -- ---- a list of calls
 
@@ -70,24 +70,25 @@ marking-lines (c ∷ cs) w =
     rw (lines-append (stretchesOf c w) (marking cs (leftBy c w)), call-lines c w, marking-lines cs (leftBy c w))
 
 -- the network that a call leaves, as one reached by tries
-left-by : (p : Problem) (before : List Line) (c : Call)
-    → leftBy c (replay before (start p)) ≡ replay (before ++ triedBy c (replay before (start p))) (start p)
-left-by p before c = call-replay c (replay before (start p)) ∙ sym (replay-append before (triedBy c (replay before (start p))) (start p))
+left-by : (rule : ℕ) (p : Problem) (before : List Line) (c : Call)
+    → leftBy c (replay before (start rule p)) ≡ replay (before ++ triedBy c (replay before (start rule p))) (start rule p)
+left-by rule p before c =
+    call-replay c (replay before (start rule p)) ∙ sym (replay-append before (triedBy c (replay before (start rule p))) (start rule p))
 
-pub marking-full : (p : Problem) → inRange p ≡ true → (cs : List Call) (before : List Line)
-    → AllFull p before (marking cs (replay before (start p)))
+pub marking-full : (rule : ℕ) (p : Problem) → inRange p ≡ true → (cs : List Call) (before : List Line)
+    → AllFull rule p before (marking cs (replay before (start rule p)))
 unfolding marking
-marking-full p r [] before = tt
-marking-full p r (c ∷ cs) before =
-    let w = replay before (start p) in
-    full-append p before (stretchesOf c w) (marking cs (leftBy c w)) (call-full p r before c)
-    (rw (call-lines c w, left-by p before c) (marking-full p r cs (before ++ triedBy c w)))
+marking-full rule p r [] before = tt
+marking-full rule p r (c ∷ cs) before =
+    let w = replay before (start rule p) in
+    full-append rule p before (stretchesOf c w) (marking cs (leftBy c w)) (call-full rule p r before c)
+    (rw (call-lines c w, left-by rule p before c) (marking-full rule p r cs (before ++ triedBy c w)))
 
-pub marking-made : (p : Problem) → inRange p ≡ true → (cs : List Call) (before : List Line)
-    → markedIn (marking cs (replay before (start p))) ≡ madeByAll cs (replay before (start p))
+pub marking-made : (rule : ℕ) (p : Problem) → inRange p ≡ true → (cs : List Call) (before : List Line)
+    → markedIn (marking cs (replay before (start rule p))) ≡ madeByAll cs (replay before (start rule p))
 unfolding marking markedIn madeByAll
-marking-made p r [] before = refl
-marking-made p r (c ∷ cs) before =
-    let w = replay before (start p) in
-    rw (marked-append (stretchesOf c w) (marking cs (leftBy c w)), call-made p r before c, left-by p before c)
-    (ap (λ m. madeBy c w + m) (marking-made p r cs (before ++ triedBy c w)))
+marking-made rule p r [] before = refl
+marking-made rule p r (c ∷ cs) before =
+    let w = replay before (start rule p) in
+    rw (marked-append (stretchesOf c w) (marking cs (leftBy c w)), call-made rule p r before c, left-by rule p before c)
+    (ap (λ m. madeBy c w + m) (marking-made rule p r cs (before ++ triedBy c w)))

@@ -3,7 +3,7 @@
 use mathlib.Core.Path.{_≡_, sym, _∙_}
 use mathlib.Core.Bool.{true}
 use mathlib.Core.List.{List, [], _∷_, _++_, map, map-append}
-use Prim.Native.Nat.{ℕ, _+_, _≤_, _<_}
+use Prim.Native.Nat.{ℕ, _≤_, _<_}
 use native.Mathlib.Omega.{arith}
 use Rattle.base.specs.Finite.{within}
 use Rattle.base.proofs.Tests.{test}
@@ -57,7 +57,7 @@ step-raises : (j : ℕ) (w : Network) (i : ℕ) (m : Message)
     → RaisedBy (w .agents j .counts) (messagesIn (stepOn w i j m .sent)) (m ∷ []) (stepOn w i j m .agent .counts)
 unfolding stepOn
 step-raises j w i m =
-    let c = agent-facts .counts (selfOf (w .problem) j) (bansOf (w .problem) j) (w .agents j) i m in
+    let c = agent-facts .counts (selfOf (w .rule) (w .problem) j) (bansOf (w .problem) j) (w .agents j) i m in
     record { sent = c .sent; received = c .received }
 
 -- so its counts are raised by what it was handed and sent
@@ -118,28 +118,29 @@ unused-raises : RaisedBy noCounts (messagesIn []) [] (unusedAgent .counts)
 unfolding messagesIn unusedAgent noCounts
 unused-raises = raised-by-none noCounts (λ x. (omega arith, omega arith))
 
-start-raises : (p : Problem) → inRange p ≡ true → (i : ℕ) → RaisedBy noCounts (messagesIn (startPosts p i)) [] (start p .agents i .counts)
+start-raises : (rule : ℕ) (p : Problem) → inRange p ≡ true → (i : ℕ)
+    → RaisedBy noCounts (messagesIn (startPosts rule p i)) [] (start rule p .agents i .counts)
 unfolding start startAgent startPosts
-start-raises p r i =
+start-raises rule p r i =
     test (within (p .count) i)
-    (λ e. rw (e, startAgent, startPosts) (record { sent = starts p (ranged p r) i .sent; received = starts p (ranged p r) i .received }))
+    (λ e. rw (e, startAgent, startPosts) (record { sent = starts rule p (ranged p r) i .sent; received = starts rule p (ranged p r) i .received }))
     (λ e. rw (e, startAgent, startPosts) unused-raises)
 
-calls-raise : (p : Problem) → inRange p ≡ true → (calls : List Call) (i : ℕ)
-    → RaisedBy noCounts (sentFrom p calls i) (receivedBy p calls i) (leftByAll calls (start p) .agents i .counts)
+calls-raise : (rule : ℕ) (p : Problem) → inRange p ≡ true → (calls : List Call) (i : ℕ)
+    → RaisedBy noCounts (sentFrom rule p calls i) (receivedBy rule p calls i) (leftByAll calls (start rule p) .agents i .counts)
 unfolding sentFrom receivedBy postsIn handedIn messagesOf
-calls-raise p r calls i =
-    let S = start-raises p r i in
-    rw (calls-replay calls (start p), messages-append (startPosts p i) (postsBy i (triedByAll calls (start p)) (start p)))
-    (raised-by-both S (replay-raises i (triedByAll calls (start p)) (start p) (raised-by-top S)))
+calls-raise rule p r calls i =
+    let S = start-raises rule p r i in
+    rw (calls-replay calls (start rule p), messages-append (startPosts rule p i) (postsBy i (triedByAll calls (start rule p)) (start rule p)))
+    (raised-by-both S (replay-raises i (triedByAll calls (start rule p)) (start rule p) (raised-by-top S)))
 
 pub counts-capped : EveryProblem CountsCapped
 unfolding noCounts
-counts-capped p r calls i x = let R = calls-raise p r calls i in (R .sent x, R .received x)
+counts-capped rule _ p r calls i x = let R = calls-raise rule p r calls i in (R .sent x, R .received x)
 
 pub counts-exact : EveryProblem CountsExact
-counts-exact p r calls below i lo hi x =
-    let c = counts-capped p r calls i x in
+counts-exact rule is-rule p r calls below i lo hi x =
+    let c = counts-capped rule is-rule p r calls i x in
     let b = below i lo hi x in
     (c .0 ∙ exactly (rw (c .0) at (b .0)), c .1 ∙ exactly (rw (c .1) at (b .1)))
   where

@@ -251,12 +251,12 @@ module _ (p : Problem) (r : inRange p ≡ true) (d : Line) (w w′ : Network) (I
       go (other ny hy) (other nx hx) =
           rw (hy, hx, M .handing .same x y nx (other-to x y d ny), M .handing .same y x ny (other-to y x d nx)) (L .pair x y (rw hy at l))
 
-  pub keeps : w′ .problem ≡ p → w′ .verdict ≡ false → Invariant p w′
-  keeps e v =
+  pub keeps : w′ .problem ≡ p → w′ .rule ≡ w .rule → w′ .verdict ≡ false → Invariant p w′
+  keeps e s v =
       record {
         problem = e;
         running = v;
-        good = λ k l h. good k l h (agent k);
+        good = λ k l h. rw s (good k l h (agent k));
         links = record {
           informed = informed-kept;
           lower = lower-kept;
@@ -266,6 +266,6 @@ module _ (p : Problem) (r : inRange p ≡ true) (d : Line) (w w′ : Network) (I
         };
       }
     where
-      good : (k : ℕ) → 1 ≤ k → k ≤ p .count → OnAgent d t w w′ k → Good (Obeys p) (selfOf p k) (bansOf p k) (w′ .agents k)
+      good : (k : ℕ) → 1 ≤ k → k ≤ p .count → OnAgent d t w w′ k → Good (Obeys p) (selfOf (w .rule) p k) (bansOf p k) (w′ .agents k)
       good k l h (mine q s) = rw (s, q) (M .facts .good)
       good k l h (other ne s) = rw s (I .good k l h)

@@ -21,7 +21,7 @@ pub record Move (p : Problem) (d : Line) (w w′ : Network) : Type 0 where
   pub message : Message
   pub step : Step
   pub handing : Handing d message step w w′
-  pub facts : Facts (Obeys p) (selfOf p (d .to)) (bansOf p (d .to)) (w .agents (d .to)) (d .from) message step
+  pub facts : Facts (Obeys p) (selfOf (w .rule) p (d .to)) (bansOf p (d .to)) (w .agents (d .to)) (d .from) message step
   pub from-in : (1 ≤ d .from) × (d .from ≤ p .count)
   pub to-in : (1 ≤ d .to) × (d .to ≤ p .count)
 
@@ -53,10 +53,11 @@ pub record Links (p : Problem) (agents : ℕ → Agent) (channel : ℕ → ℕ �
   pub pair : (x y : ℕ) → agents y .listens x ≡ true
       → Linked (agents x .informs y) (agents y .view x) (agents x .value) (channel x y) (channel y x)
 
+-- The rule is the network's own, and no move changes it: all that follows from here is of either rule.
 pub record Invariant (p : Problem) (w : Network) : Type 0 where
   pub problem : w .problem ≡ p
   pub running : w .verdict ≡ false
-  pub good : (i : ℕ) → 1 ≤ i → i ≤ p .count → Good (Obeys p) (selfOf p i) (bansOf p i) (w .agents i)
+  pub good : (i : ℕ) → 1 ≤ i → i ≤ p .count → Good (Obeys p) (selfOf (w .rule) p i) (bansOf p i) (w .agents i)
   pub links : Links p (w .agents) (w .channel)
 
 -- ---- what a try does, from a network with the invariant

@@ -22,11 +22,12 @@ use Rattle.theorems.proofs.Keeps.{keeps}
 
 -- ---- an accepted delivery
 
-to-handed : (p : Problem) (agents : ℕ → Agent) (i j : ℕ) (m : Message) → Waits p agents i j m → Handed (Obeys p) (selfOf p j) (agents j) i m
+to-handed : (rule : ℕ) (p : Problem) (agents : ℕ → Agent) (i j : ℕ) (m : Message) → Waits p agents i j m
+    → Handed (Obeys p) (selfOf rule p j) (agents j) i m
 unfolding selfOf
-to-handed p agents i j (Info v) h = h
-to-handed p agents i j (Back lhs v) h = (h .2, h .1)
-to-handed p agents i j AddLink h = tt
+to-handed rule p agents i j (Info v) h = h
+to-handed rule p agents i j (Back lhs v) h = (h .2, h .1)
+to-handed rule p agents i j AddLink h = tt
 
 -- for the network's own problem, which the invariant says is p
 module _ (d : Line) (w : Network) (r : inRange (w .problem) ≡ true) (I : Invariant (w .problem) w) (m : Message) (ms : List Message)
@@ -37,8 +38,8 @@ module _ (d : Line) (w : Network) (r : inRange (w .problem) ≡ true) (I : Invar
   abbrev j : ℕ
   j = d .to
 
-  given : Handed (Obeys (w .problem)) (selfOf (w .problem) j) (w .agents j) i m
-  given = to-handed (w .problem) (w .agents) i j m ((rw l at (I .links .waiting i j)) .0)
+  given : Handed (Obeys (w .problem)) (selfOf (w .rule) (w .problem) j) (w .agents j) i m
+  given = to-handed (w .rule) (w .problem) (w .agents) i j m ((rw l at (I .links .waiting i j)) .0)
 
   to-move : stepOn w i j m .verdict ≡ false → Move (w .problem) d w (handed w i j m ms)
   unfolding stepOn
@@ -48,8 +49,8 @@ module _ (d : Line) (w : Network) (r : inRange (w .problem) ≡ true) (I : Invar
         message = m;
         step = stepOn w i j m;
         handing = handing d w m ms ne l;
-        facts = agent-facts .runs (Obeys (w .problem)) (selfOf (w .problem) j) (bansOf (w .problem) j) (w .agents j) i m
-            (setting (w .problem) r j lj hj) given (I .good j lj hj) v;
+        facts = agent-facts .runs (Obeys (w .problem)) (selfOf (w .rule) (w .problem) j) (bansOf (w .problem) j) (w .agents j) i m
+            (setting (w .rule) (w .problem) r j lj hj) given (I .good j lj hj) v;
         from-in = (li, hi);
         to-in = (lj, hj);
       }
@@ -58,15 +59,15 @@ module _ (d : Line) (w : Network) (r : inRange (w .problem) ≡ true) (I : Invar
   unfolding stepOn
   no-solution v =
       let (li, hi, lj, hj, ne) = numbers w i j g in
-      agent-facts .ends (Obeys (w .problem)) (selfOf (w .problem) j) (bansOf (w .problem) j) (w .agents j) i m
-      (setting (w .problem) r j lj hj) given (I .good j lj hj) v
+      agent-facts .ends (Obeys (w .problem)) (selfOf (w .rule) (w .problem) j) (bansOf (w .problem) j) (w .agents j) i m
+      (setting (w .rule) (w .problem) r j lj hj) given (I .good j lj hj) v
 
   delivers : Next (w .problem) d w (record { network = handed w i j m ms; answer = Accepted; sent = stepOn w i j m .sent })
   unfolding handed withStep withChannel
   delivers =
       test (stepOn w i j m .verdict)
       (λ v. stops refl (rw (v, or-true)) (no-solution v))
-      (λ v. let M = to-move v in moves refl M (keeps (w .problem) r d w _ I M refl (rw (v, or-false) (I .running))))
+      (λ v. let M = to-move v in moves refl M (keeps (w .problem) r d w _ I M refl refl (rw (v, or-false) (I .running))))
 
 pub next : (p : Problem) → inRange p ≡ true → (d : Line) (w : Network) → Invariant p w → Next p d w (attemptOf d w)
 unfolding attemptOf rejecting isAccepted

@@ -157,18 +157,18 @@ replay-once (d ∷ ds) w O = replay-once ds (attemptOf d w .network) (try-once d
 
 -- ---- the start
 
-pub start-once : (p : Problem) → Ranged p → Once (start p)
+pub start-once : (rule : ℕ) (p : Problem) → Ranged p → Once (start rule p)
 unfolding start
-start-once p r x y =
+start-once rule p r x y =
     record {
-      informed = λ n. linked-listens p r x y (informs-linked p r x y n);
-      heeded = All-map _ _ (λ m n q. absurd (n q)) (start p .channel y x) none;
-      once = one-put [] (start p .channel y x) tt none;
+      informed = λ n. linked-listens rule p r x y (informs-linked rule p r x y n);
+      heeded = All-map _ _ (λ m n q. absurd (n q)) (start rule p .channel y x) none;
+      once = one-put [] (start rule p .channel y x) tt none;
       none = λ _. none;
     }
   where
-    none : All (Not IsAddLink) (start p .channel y x)
+    none : All (Not IsAddLink) (start rule p .channel y x)
     none =
         test (linked p y x)
-        (λ e. rw (linked-channel p r y x e) ((λ q. q), tt))
-        (λ e. rw (unlinked-channel p r y x e) tt)
+        (λ e. rw (linked-channel rule p r y x e) ((λ q. q), tt))
+        (λ e. rw (unlinked-channel rule p r y x e) tt)

@@ -3,6 +3,7 @@
 use mathlib.Core.Path.{_≡_, sym, _∙_}
 use mathlib.Core.List.{List, [], _∷_}
 use mathlib.Core.Bool.{true, false, false≢true}
+use Prim.Native.Nat.{ℕ}
 use Rattle.base.proofs.Tests.{test}
 use Rattle.problem.specs.Problem.{Problem, inRange, Obeys}
 use Rattle.agent_rules.specs.Message.{Assignment}
@@ -37,13 +38,13 @@ module _ (p : Problem) (r : inRange p ≡ true) (E : Network → Type 0)
   replayed [] w R = R
   replayed (d ∷ ds) w R = replayed ds (attemptOf d w .network) (tried d w R)
 
-  pub reach : E (start p) → (ds : List Line) → Reached p E (replay ds (start p))
-  reach e ds = replayed ds (start p) (runs p E (start p) (start-invariant p r) e)
+  pub reach : (rule : ℕ) → E (start rule p) → (ds : List Line) → Reached p E (replay ds (start rule p))
+  reach rule e ds = replayed ds (start rule p) (runs p E (start rule p) (start-invariant rule p r) e)
 
 -- with nothing more
-pub reach-all : (p : Problem) → inRange p ≡ true → (ds : List Line) → Reached p (λ w. Unit {0}) (replay ds (start p))
-reach-all p r ds = reach p r (λ w. Unit {0}) (λ d w w′ I M e. tt) tt ds
+pub reach-all : (rule : ℕ) (p : Problem) → inRange p ≡ true → (ds : List Line) → Reached p (λ w. Unit {0}) (replay ds (start rule p))
+reach-all rule p r ds = reach p r (λ w. Unit {0}) (λ d w w′ I M e. tt) rule tt ds
 
-pub reached : (p : Problem) → inRange p ≡ true → (ds : List Line) → replay ds (start p) .verdict ≡ false
-    → Invariant p (replay ds (start p))
-reached p r ds v = reach-all p r ds .running v .0
+pub reached : (rule : ℕ) (p : Problem) → inRange p ≡ true → (ds : List Line) → replay ds (start rule p) .verdict ≡ false
+    → Invariant p (replay ds (start rule p))
+reached rule p r ds v = reach-all rule p r ds .running v .0

@@ -59,13 +59,13 @@ module _ (p : Problem) (q : inRange p ≡ true) where
       go (moves _ M j) r = onward p 0 I Stops d ds w i (act M (λ l. absurd (omega (arith, M .to-in .0)))) (r j)
       go (stops _ v _) r = inr record { a = []; d = d; b = ds; cuts = refl; before = i; event = v }
 
-  from-start : (T : ℕ) → Bound p 0 I T → (ds : List Line) (r : ℕ) → Rounds r ds (start p) → r ≤ T + 1
-  from-start T B ds r R = go (running ds (start p) (start-invariant p q))
+  from-start : (rule T : ℕ) → Bound p 0 I T → (ds : List Line) (r : ℕ) → Rounds r ds (start rule p) → r ≤ T + 1
+  from-start rule T B ds r R = go (running ds (start rule p) (start-invariant rule p q))
     where
-      go : Window p 0 I ds (start p) ⊎ Until p 0 I Stops ds (start p) → r ≤ T + 1
-      go (inl P) = omega (arith, B ds (start p) r P R)
+      go : Window p 0 I ds (start rule p) ⊎ Until p 0 I Stops ds (start rule p) → r ≤ T + 1
+      go (inl P) = omega (arith, B ds (start rule p) r P R)
       go (inr U) =
-          let (t, Rb, le) = rounds-until p 0 I Stops T B ds (start p) r R U in
+          let (t, Rb, le) = rounds-until p 0 I Stops T B ds (start rule p) r R U in
           omega (arith, le, no-rounds t (U .b) _ (U .event) Rb)
 
 -- ---- the numbers
@@ -78,11 +78,11 @@ most-power n d (suc j) =
     let o = mul-le-mul-left (3 * n + 4) (one-le-pow j (d + 2) (omega arith)) in
     rw pow-suc (omega (arith, i, o))
 
-pub round-bound-lines : (p : Problem) → inRange p ≡ true → (ds : List Line) (r : ℕ) → Rounds r ds (start p) → r ≤ mostRounds p
+pub round-bound-lines : (rule : ℕ) (p : Problem) → inRange p ≡ true → (ds : List Line) (r : ℕ) → Rounds r ds (start rule p) → r ≤ mostRounds p
 unfolding mostRounds largestDomain
-round-bound-lines p q ds r R =
+round-bound-lines rule p q ds r R =
     let n = p .count in
     let d = largestDomain p in
-    let h = from-start p q (most n d n) (windows p d (le-greatest n (domain p)) n 0 (omega arith)) ds r R in
+    let h = from-start p q rule (most n d n) (windows p d (le-greatest n (domain p)) n 0 (omega arith)) ds r R in
     let s : 3 * n + 4 ≤ 7 * n = omega (arith, ranged p q .low) in
     omega (arith, h, most-power n d n, mul-le-mul-right ((d + 2) ^ n) s)

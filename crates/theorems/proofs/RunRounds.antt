@@ -45,49 +45,50 @@ unfolding linesOf roundStretch triesOf
 lines-tries [] = refl
 lines-tries (r ∷ rs) = ap (λ ls. map lineOf (r .tried) ++ ls) (lines-tries rs)
 
-exactly-append : (p : Problem) (before : List Line) (ss ts : List Stretch) → ExactlyFull p before ss
-    → ExactlyFull p (before ++ linesOf ss) ts → ExactlyFull p before (ss ++ ts)
+exactly-append : (rule : ℕ) (p : Problem) (before : List Line) (ss ts : List Stretch) → ExactlyFull rule p before ss
+    → ExactlyFull rule p (before ++ linesOf ss) ts → ExactlyFull rule p before (ss ++ ts)
 unfolding linesOf
-exactly-append p before [] ts E F = rw (append-nil before) at F
-exactly-append p before (s ∷ ss) ts E F =
-    (E .0, E .1, exactly-append p (before ++ s .lines) ss ts (E .2) (rw (append-assoc before (s .lines) (linesOf ss)) F))
+exactly-append rule p before [] ts E F = rw (append-nil before) at F
+exactly-append rule p before (s ∷ ss) ts E F =
+    (E .0, E .1, exactly-append rule p (before ++ s .lines) ss ts (E .2) (rw (append-assoc before (s .lines) (linesOf ss)) F))
 
 -- ---- the run
 
 -- the rounds made so far, behind what was tried before the run, and how many were counted
-pub record Counted (p : Problem) (before : List Line) (made : ℕ) (rs : List Round) (w : Network) : Type 0 where
-  pub follows : FollowsRounds (replay before (start p)) rs w
-  pub exact : ExactlyFull p before (map roundStretch rs)
+pub record Counted (rule : ℕ) (p : Problem) (before : List Line) (made : ℕ) (rs : List Round) (w : Network) : Type 0 where
+  pub follows : FollowsRounds (replay before (start rule p)) rs w
+  pub exact : ExactlyFull rule p before (map roundStretch rs)
   pub returned : made ≡ markedIn (map roundStretch rs)
 
-counted-more : (p : Problem) → inRange p ≡ true → (before : List Line) (made : ℕ) (rs : List Round) (w : Network) → w .verdict ≡ false
-    → idle w ≡ false → Counted p before made rs w
-    → Counted p before (made + oneIf (roundOf w .full)) (rs ++ (roundOf w ∷ [])) (round w .network)
+counted-more : (rule : ℕ) (p : Problem) → inRange p ≡ true → (before : List Line) (made : ℕ) (rs : List Round) (w : Network) → w .verdict ≡ false
+    → idle w ≡ false → Counted rule p before made rs w
+    → Counted rule p before (made + oneIf (roundOf w .full)) (rs ++ (roundOf w ∷ [])) (round w .network)
 unfolding roundStretch markedIn
-counted-more p r before made rs w v b C =
+counted-more rule p r before made rs w v b C =
     let s = roundStretch (roundOf w) in
-    let here : replay (before ++ linesOf (map roundStretch rs)) (start p) ≡ w =
-    rw (lines-tries rs, replay-append before (triesOf rs) (start p)) (C .follows .leaves) in
-    let I : Invariant p w = rw here at (reached p r (before ++ linesOf (map roundStretch rs)) (rw here v)) in
+    let here : replay (before ++ linesOf (map roundStretch rs)) (start rule p) ≡ w =
+    rw (lines-tries rs, replay-append before (triesOf rs) (start rule p)) (C .follows .leaves) in
+    let I : Invariant p w = rw here at (reached rule p r (before ++ linesOf (map roundStretch rs)) (rw here v)) in
     record {
-      follows = rounds-more (replay before (start p)) w rs (C .follows);
+      follows = rounds-more (replay before (start rule p)) w rs (C .follows);
       exact = rw (map-append roundStretch rs (roundOf w ∷ []))
-          (exactly-append p before (map roundStretch rs) (s ∷ []) (C .exact)
-          (λ m. from-full p _ _ (rw here (counted-full p w I b m)), λ F. full-counted w (rw here at (to-full p _ _ F)), tt));
+          (exactly-append rule p before (map roundStretch rs) (s ∷ []) (C .exact)
+          (λ m. from-full rule p _ _ (rw here (counted-full p w I b m)), λ F. full-counted w (rw here at (to-full rule p _ _ F)), tt));
       returned = rw (map-append roundStretch rs (roundOf w ∷ []), marked-append (map roundStretch rs) (s ∷ []), C .returned)
           (omega arith);
     }
 
 -- a run from any network that is reached
-pub run-counted : (p : Problem) → inRange p ≡ true → (before : List Line) (k : ℕ)
-    → Counted p before (run k (replay before (start p)) .made) (run k (replay before (start p)) .rounds) (run k (replay before (start p)) .network)
+pub run-counted : (rule : ℕ) (p : Problem) → inRange p ≡ true → (before : List Line) (k : ℕ)
+    → Counted rule p before (run k (replay before (start rule p)) .made) (run k (replay before (start rule p)) .rounds)
+    (run k (replay before (start rule p)) .network)
 unfolding markedIn
-run-counted p r before k =
-    kept-by-rounds (Counted p before) (counted-more p r before) k (replay before (start p))
-    (record { follows = rounds-none (replay before (start p)); exact = tt; returned = refl })
+run-counted rule p r before k =
+    kept-by-rounds (Counted rule p before) (counted-more rule p r before) k (replay before (start rule p))
+    (record { follows = rounds-none (replay before (start rule p)); exact = tt; returned = refl })
 
 pub run-counts : EveryProblem RunsCount
-run-counts p r calls k =
-    let C = run-counted p r (triedByAll calls (start p)) k in
-    let e = calls-replay calls (start p) in
+run-counts rule _ p r calls k =
+    let C = run-counted rule p r (triedByAll calls (start rule p)) k in
+    let e = calls-replay calls (start rule p) in
     record { cuts = lines-tries _; exact = rw e (C .exact); returned = rw e (C .returned) }

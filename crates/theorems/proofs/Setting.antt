@@ -9,9 +9,10 @@ use Rattle.problem.proofs.Range.{ranged, banned-inside}
 use Rattle.agent_facts.specs.Facts.{Setting}
 use Rattle.protocol.specs.Network.{selfOf, bansOf}
 
-pub setting : (p : Problem) → inRange p ≡ true → (i : ℕ) → 1 ≤ i → i ≤ p .count → Setting (Obeys p) (selfOf p i) (bansOf p i)
+pub setting : (rule : ℕ) (p : Problem) → inRange p ≡ true → (i : ℕ) → 1 ≤ i → i ≤ p .count
+    → Setting (Obeys p) (selfOf rule p i) (bansOf p i)
 unfolding selfOf bansOf owns
-setting p r i l h =
+setting rule p r i l h =
     let most = ranged p r .high in
     record {
       low = l;

@@ -24,47 +24,49 @@ use Rattle.shape_laws.proofs.Start.{
 }
 use Rattle.theorems.proofs.Moves.{Waits, Linked, Invariant}
 
-module _ (p : Problem) (r : Ranged p) where
-  good : (i : ℕ) → 1 ≤ i → i ≤ p .count → Good (Obeys p) (selfOf p i) (bansOf p i) (begun p i .agent)
+module _ (rule : ℕ) (p : Problem) (r : Ranged p) where
+  good : (i : ℕ) → 1 ≤ i → i ≤ p .count → Good (Obeys p) (selfOf rule p i) (bansOf p i) (begun rule p i .agent)
   unfolding selfOf
   good i l h =
-      let b = begins p r i l h in
-      let (low, high) = within-true _ (begun p i .agent .value) (b .owned) in
+      let b = begins rule p r i l h in
+      let (low, high) = within-true _ (begun rule p i .agent .value) (b .owned) in
       record {
         low = low;
         high = high;
+        kept = b .kept;
         free = λ k q. unknown (rw (b .view k) at (q .0));
-        fresh = b .nogoods (begun p i .agent .value);
+        fresh = b .nogoods (begun rule p i .agent .value);
         agree = λ v lhs e. no-some (rw (b .nogoods v) at e);
         implied = λ v lhs e. no-some (rw (b .nogoods v) at e);
         viewed = λ k n. unknown (rw (b .view k) at n);
         upward = λ k e. let q = linked-inside p r k i (rw (b .listened) at e) in (q .0, q .1);
       }
 
-  waits : (x y : ℕ) → All (Waits p (startAgent p) x y) (startChannel p x y)
+  waits : (x y : ℕ) → All (Waits p (startAgent rule p) x y) (startChannel rule p x y)
   waits x y =
       test (linked p x y)
-      (λ e. rw (linked-channel p r x y e) (linked-listens p r x y e, tt))
-      (λ e. rw (unlinked-channel p r x y e) tt)
+      (λ e. rw (linked-channel rule p r x y e) (linked-listens rule p r x y e, tt))
+      (λ e. rw (unlinked-channel rule p r x y e) tt)
 
   paired : (x y : ℕ) → linked p x y ≡ true
-      → Linked (startAgent p x .informs y) (startAgent p y .view x) (startAgent p x .value) (startChannel p x y) (startChannel p y x)
+      → Linked (startAgent rule p x .informs y) (startAgent rule p y .view x) (startAgent rule p x .value)
+      (startChannel rule p x y) (startChannel rule p y x)
   unfolding seen afterOne
-  paired x y e = inr (linked-informs p r x y e, inl (rw (linked-channel p r x y e) refl))
+  paired x y e = inr (linked-informs rule p r x y e, inl (rw (linked-channel rule p r x y e) refl))
 
-pub start-invariant : (p : Problem) → inRange p ≡ true → Invariant p (start p)
+pub start-invariant : (rule : ℕ) (p : Problem) → inRange p ≡ true → Invariant p (start rule p)
 unfolding start
-start-invariant p e =
+start-invariant rule p e =
     let r = ranged p e in
     record {
       problem = refl;
-      running = start-running p r;
-      good = λ i l h. rw (agent-in p r i l h) (good p r i l h);
+      running = start-running rule p r;
+      good = λ i l h. rw (agent-in rule p r i l h) (good rule p r i l h);
       links = record {
-        informed = λ x y n. linked-listens p r x y (informs-linked p r x y n);
-        lower = λ y x n. linked-inside p r x y (listens-linked p r x y n);
-        linked = linked-listens p r;
-        waiting = waits p r;
-        pair = λ x y n. paired p r x y (listens-linked p r x y n);
+        informed = λ x y n. linked-listens rule p r x y (informs-linked rule p r x y n);
+        lower = λ y x n. linked-inside p r x y (listens-linked rule p r x y n);
+        linked = linked-listens rule p r;
+        waiting = waits rule p r;
+        pair = λ x y n. paired rule p r x y (listens-linked rule p r x y n);
       };
     }

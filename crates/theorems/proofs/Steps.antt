@@ -21,7 +21,7 @@ use Rattle.theorems.proofs.Moves.{Move}
 abbrev pub QuietOrBusy : (p : Problem) (d : Line) (w w′ : Network) → Move p d w w′ → Type 0
 QuietOrBusy p d w w′ M =
     Quiet (w .agents (d .to)) (d .from) (M .message) (M .step)
-    ⊎ Busy (Obeys p) (selfOf p (d .to)) (bansOf p (d .to)) (w .agents (d .to)) (d .from) (M .message) (M .step)
+    ⊎ Busy (Obeys p) (selfOf (w .rule) p (d .to)) (bansOf p (d .to)) (w .agents (d .to)) (d .from) (M .message) (M .step)
 
 pub quiet-or-busy : (p : Problem) (d : Line) (w w′ : Network) (M : Move p d w w′) → QuietOrBusy p d w w′ M
 quiet-or-busy p d w w′ M = test (M .facts .chooses) (λ c. inr (M .facts .busy c)) (λ c. inl (M .facts .quiet c))

@@ -3,6 +3,7 @@
 use mathlib.Core.Path.{_≡_}
 use mathlib.Core.List.{List, [], _∷_}
 use mathlib.Core.Bool.{true}
+use Prim.Native.Nat.{ℕ}
 use Rattle.problem.specs.Problem.{Problem}
 use Rattle.problem.proofs.Range.{ranged}
 use Rattle.problem.proofs.Sheet.{decode-in-range as decoded}
@@ -32,12 +33,14 @@ use Rattle.theorems.specs.Claims.{
   JammedExactly,
   NoneAfterNothing,
   RoundsUsed,
+  RuleKept,
   EveryProblem,
   EverySheet,
 }
 use Rattle.theorems.proofs.Reached.{reached}
 use Rattle.theorems.proofs.Accuracy.{rested, ended}
 use Rattle.theorems.proofs.Once.{replay-once, start-once}
+use Rattle.theorems.proofs.Tries.{replay-rule}
 use Rattle.theorems.proofs.Replay.{run-replays, calls-replay}
 use Rattle.theorems.proofs.Visits.{idle-empty}
 use Rattle.theorems.proofs.Markings.{marking-rounds}
@@ -50,35 +53,35 @@ use Rattle.theorems.proofs.Jams.{jammed-exactly as jammed, none-after-n
 
 -- Demand 2: a network reached with nothing waiting and no verdict breaks no ban.
 pub sound-at-rest : EveryProblem SoundAtRest
-sound-at-rest p r calls v i =
-    let e = calls-replay calls (start p) in
+sound-at-rest rule _ p r calls v i =
+    let e = calls-replay calls (start rule p) in
     let v′ = rw e at v in
-    rw e (rested p r (triedByAll calls (start p)) v′ (idle-empty p _ (reached p r (triedByAll calls (start p)) v′) (rw e at i)))
+    rw e (rested rule p r (triedByAll calls (start rule p)) v′ (idle-empty p _ (reached rule p r (triedByAll calls (start rule p)) v′) (rw e at i)))
 
 -- Demand 2: the verdict comes only where no choice of values obeys all bans.
 pub complete-verdict : EveryProblem CompleteVerdict
-complete-verdict p r calls v = ended p r (triedByAll calls (start p)) (rw (calls-replay calls (start p)) at v)
+complete-verdict rule _ p r calls v = ended rule p r (triedByAll calls (start rule p)) (rw (calls-replay calls (start rule p)) at v)
 
 -- Demand 3: every way to mark full rounds off has at most 16 × n × (d + 2)^n of them.
 pub round-bound : EveryProblem RoundBound
 unfolding replay
-round-bound p r calls marks _ full = round-bound-lines p r (linesOf marks) (markedIn marks) (marking-rounds p [] marks full)
+round-bound rule _ p r calls marks _ full = round-bound-lines rule p r (linesOf marks) (markedIn marks) (marking-rounds rule p [] marks full)
 
 -- Demand 3: the full rounds that the runs of a list return are one marking.
 pub runs-mark : EveryProblem RunsMark
 unfolding replay
-runs-mark p r calls =
+runs-mark rule _ p r calls =
     record {
-      marking = marking calls (start p);
-      lines = marking-lines calls (start p);
-      full = marking-full p r calls [];
-      number = marking-made p r calls [];
+      marking = marking calls (start rule p);
+      lines = marking-lines calls (start rule p);
+      full = marking-full rule p r calls [];
+      number = marking-made rule p r calls [];
     }
 
 -- .. so together they obey the bound too.
 pub run-bound : EveryProblem RunBound
-run-bound p r calls =
-    let M = runs-mark p r calls in rw (← M .number) (round-bound p r calls (M .marking) (M .lines) (M .full))
+run-bound rule is-rule p r calls =
+    let M = runs-mark rule is-rule p r calls in rw (← M .number) (round-bound rule is-rule p r calls (M .marking) (M .lines) (M .full))
 
 -- Demand 3: a run returns exactly how many of its rounds were full.
 pub runs-count : EveryProblem RunsCount
@@ -86,14 +89,14 @@ runs-count = run-counts
 
 -- A link is asked for once, under a verdict too.
 pub asked-once : EveryProblem AskedOnce
-asked-once p r calls x y =
-    let O = replay-once (triedByAll calls (start p)) (start p) (start-once p (ranged p r)) x y in
-    rw (calls-replay calls (start p)) (O .once, O .none)
+asked-once rule _ p r calls x y =
+    let O = replay-once (triedByAll calls (start rule p)) (start rule p) (start-once rule p (ranged p r)) x y in
+    rw (calls-replay calls (start rule p)) (O .once, O .none)
 
 -- Every network reached is in shape.
 pub stays-in-shape : EveryProblem StaysInShape
 unfolding leftByAll leftBy
-stays-in-shape p r calls = go calls (start p) (start-in-shape p r)
+stays-in-shape rule is-rule p r calls = go calls (start rule p) (start-in-shape rule is-rule p r)
   where
     go : (calls : List Call) (w : Network) → inShape w ≡ true → inShape (leftByAll calls w) ≡ true
     go [] w h = h
@@ -115,8 +118,8 @@ sent-is-received-and-waiting-of = balance-of
 
 -- ---- sheets: what holds of every problem in range holds of every accepted sheet
 
-every-sheet : (C : Problem → Type 0) → EveryProblem C → EverySheet C
-every-sheet C proved sheet p e = proved p (decoded sheet p e)
+every-sheet : (C : ℕ → Problem → Type 0) → EveryProblem C → EverySheet C
+every-sheet C proved rule is-rule sheet p e = proved rule is-rule p (decoded sheet p e)
 
 pub sheet-sound : EverySheet SoundAtRest
 sheet-sound = every-sheet SoundAtRest sound-at-rest
@@ -181,3 +184,7 @@ rounds-used = used
 
 pub counts-never-fall : CountsNeverFall
 counts-never-fall = never-fall
+
+-- No delivery and no run changes the rule.
+pub rule-kept : RuleKept
+rule-kept w calls = rw (calls-replay calls w) (replay-rule (triedByAll calls w) w)

@@ -1,6 +1,6 @@
 -- Tries one after the other: what they leave, what they are answered, and how many deliveries of one line are accepted. Each by induction along
 -- the list.
-use mathlib.Core.Path.{_≡_, refl, ap}
+use mathlib.Core.Path.{_≡_, refl, ap, _∙_}
 use mathlib.Core.Bool.{cond}
 use mathlib.Core.List.{List, [], _∷_, _++_, map, head-eq-of-cons-eq, tail-eq-of-cons-eq}
 use Prim.Native.Nat.{ℕ}
@@ -18,14 +18,20 @@ unfolding replay
 replay-append [] b w = refl
 replay-append (l ∷ a) b w = replay-append a b (attemptOf l w .network)
 
--- the problem stays what it is
-pub problem-stays : (l : Line) (w : Network) → attemptOf l w .network .problem ≡ w .problem
+-- the problem and the rule stay what they are
+pub given-stays : (l : Line) (w : Network) → (attemptOf l w .network .problem ≡ w .problem) × (attemptOf l w .network .rule ≡ w .rule)
 unfolding attemptOf rejecting handed withStep withChannel
-problem-stays l w = go (outcome w (l .from) (l .to))
+given-stays l w = go (outcome w (l .from) (l .to))
   where
-    go : Outcome w (l .from) (l .to) (deliver w (l .from) (l .to)) → deliver w (l .from) (l .to) .network .problem ≡ w .problem
-    go (refused r _ e) = rw e
-    go (accepted m others T e) = rw e
+    go : Outcome w (l .from) (l .to) (deliver w (l .from) (l .to))
+        → (deliver w (l .from) (l .to) .network .problem ≡ w .problem) × (deliver w (l .from) (l .to) .network .rule ≡ w .rule)
+    go (refused r _ e) = rw e (refl, refl)
+    go (accepted m others T e) = rw e (refl, refl)
+
+pub replay-rule : (ls : List Line) (w : Network) → replay ls w .rule ≡ w .rule
+unfolding replay
+replay-rule [] w = refl
+replay-rule (l ∷ ls) w = replay-rule ls (attemptOf l w .network) ∙ given-stays l w .1
 
 answers-append : (a b : List Line) (w : Network) → answers (a ++ b) w ≡ answers a w ++ answers b (replay a w)
 unfolding answers replay

@@ -61,6 +61,6 @@ waits-from (l ∷ ls) w i j =
     rw (← drop-drop (acceptedOn i j ls (attemptOf l w .network)) (acceptedNow i j l w), step l w i j)
     (waits-from ls (attemptOf l w .network) i j)
 
-pub waits-channel : (p : Problem) (before : List Line) (i j : ℕ) → waitsAfter p before i j ≡ replay before (start p) .channel i j
+pub waits-channel : (rule : ℕ) (p : Problem) (before : List Line) (i j : ℕ) → waitsAfter rule p before i j ≡ replay before (start rule p) .channel i j
 unfolding waitsAfter
-waits-channel p before i j = waits-from before (start p) i j
+waits-channel rule p before i j = waits-from before (start rule p) i j

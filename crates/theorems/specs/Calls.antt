@@ -97,17 +97,17 @@ sentOn i j (l ∷ ls) w = sentNow i j l w ++ sentOn i j ls (attemptOf l w .netwo
 
 -- "What waits on a line at some place of the list is what these rules send on it at the start and at the deliveries accepted so far, less the
 -- accepted deliveries of that line."
-unfoldable pub waitsAfter : Problem → List Line → ℕ → ℕ → List Message
-waitsAfter p before i j =
-    drop (acceptedOn i j before (start p)) (start p .channel i j ++ sentOn i j before (start p))
+unfoldable pub waitsAfter : ℕ → Problem → List Line → ℕ → ℕ → List Message
+waitsAfter rule p before i j =
+    drop (acceptedOn i j before (start rule p)) (start rule p .channel i j ++ sentOn i j before (start rule p))
 
 -- ---- full rounds
 
 -- A stretch of the list, behind what was tried before it, is a full round: "something waits at its start and every line has at least as many
 -- accepted deliveries in the stretch as messages waited there".
-pub record FullRound (p : Problem) (before stretch : List Line) : Type 0 where
-  pub waits : (i : ℕ) × (j : ℕ) × (1 ≤ length (waitsAfter p before i j))
-  pub delivers : (i j : ℕ) → length (waitsAfter p before i j) ≤ acceptedOn i j stretch (replay before (start p))
+pub record FullRound (rule : ℕ) (p : Problem) (before stretch : List Line) : Type 0 where
+  pub waits : (i : ℕ) × (j : ℕ) × (1 ≤ length (waitsAfter rule p before i j))
+  pub delivers : (i j : ℕ) → length (waitsAfter rule p before i j) ≤ acceptedOn i j stretch (replay before (start rule p))
 
 -- A marking: the list cut into stretches, some of them marked as rounds, the others gaps.
 pub record Stretch : Type 0 where
@@ -123,17 +123,17 @@ markedIn [] = 0
 markedIn (s ∷ ss) = oneIf (s .marked) + markedIn ss
 
 -- every stretch that is marked is a full round at its place
-abbrev pub AllFull : Problem → List Line → List Stretch → Type 0
-AllFull p before [] = Unit {0}
-AllFull p before (s ∷ ss) = (s .marked ≡ true → FullRound p before (s .lines)) × AllFull p (before ++ s .lines) ss
+abbrev pub AllFull : ℕ → Problem → List Line → List Stretch → Type 0
+AllFull rule p before [] = Unit {0}
+AllFull rule p before (s ∷ ss) = (s .marked ≡ true → FullRound rule p before (s .lines)) × AllFull rule p (before ++ s .lines) ss
 
 -- every stretch is marked exactly if it is a full round at its place
-abbrev pub ExactlyFull : Problem → List Line → List Stretch → Type 0
-ExactlyFull p before [] = Unit {0}
-ExactlyFull p before (s ∷ ss) =
-    (s .marked ≡ true → FullRound p before (s .lines))
-    × (FullRound p before (s .lines) → s .marked ≡ true)
-    × ExactlyFull p (before ++ s .lines) ss
+abbrev pub ExactlyFull : ℕ → Problem → List Line → List Stretch → Type 0
+ExactlyFull rule p before [] = Unit {0}
+ExactlyFull rule p before (s ∷ ss) =
+    (s .marked ≡ true → FullRound rule p before (s .lines))
+    × (FullRound rule p before (s .lines) → s .marked ≡ true)
+    × ExactlyFull rule p (before ++ s .lines) ss
 
 -- a run's own rounds: "those in which it visits the lines"
 unfoldable pub roundStretch : Round → Stretch

@@ -9,7 +9,7 @@ use Rattle.problem.specs.Problem.{Problem, largestDomain, inRange, Obeys}
 use Rattle.problem.specs.Sheet.{Valid, decode}
 use Rattle.agent_rules.specs.Sorts.{IsAddLink, Not, OneLink}
 use Rattle.agent_rules.specs.Counts.{Sort, number, raised}
-use Rattle.protocol.specs.Network.{Network, start}
+use Rattle.protocol.specs.Network.{Network, start, isRule}
 use Rattle.protocol.specs.Shape.{inShape}
 use Rattle.protocol.specs.Delivery.{deliver}
 use Rattle.protocol.specs.Run.{idle, Round, Jammed, Open, allowed, run}
@@ -38,49 +38,49 @@ unfoldable pub mostRounds : Problem → ℕ
 mostRounds p = 16 * p .count * (largestDomain p + 2) ^ p .count
 
 -- Demand 2: a network reached from the start with nothing waiting and no verdict breaks no ban.
-abbrev pub SoundAtRest : Problem → Type 0
-SoundAtRest p =
-    (calls : List Call) → leftByAll calls (start p) .verdict ≡ false → idle (leftByAll calls (start p)) ≡ true
-    → Obeys p (λ i. leftByAll calls (start p) .agents i .value)
+abbrev pub SoundAtRest : ℕ → Problem → Type 0
+SoundAtRest rule p =
+    (calls : List Call) → leftByAll calls (start rule p) .verdict ≡ false → idle (leftByAll calls (start rule p)) ≡ true
+    → Obeys p (λ i. leftByAll calls (start rule p) .agents i .value)
 
 -- Demand 2: the verdict comes only where no choice of values obeys all bans.
-abbrev pub CompleteVerdict : Problem → Type 0
-CompleteVerdict p = (calls : List Call) → leftByAll calls (start p) .verdict ≡ true → (σ : ℕ → ℕ) → Obeys p σ → ⊥
+abbrev pub CompleteVerdict : ℕ → Problem → Type 0
+CompleteVerdict rule p = (calls : List Call) → leftByAll calls (start rule p) .verdict ≡ true → (σ : ℕ → ℕ) → Obeys p σ → ⊥
 
 -- Every network reached from the start is in shape.
-abbrev pub StaysInShape : Problem → Type 0
-StaysInShape p = (calls : List Call) → inShape (leftByAll calls (start p)) ≡ true
+abbrev pub StaysInShape : ℕ → Problem → Type 0
+StaysInShape rule p = (calls : List Call) → inShape (leftByAll calls (start rule p)) ≡ true
 
 -- Demand 3: however the list's deliveries are marked off into rounds without overlap, the full ones are at most 16 × n × (d + 2)^n.
-abbrev pub RoundBound : Problem → Type 0
-RoundBound p =
-    (calls : List Call) (marking : List Stretch) → linesOf marking ≡ triedByAll calls (start p) → AllFull p [] marking
+abbrev pub RoundBound : ℕ → Problem → Type 0
+RoundBound rule p =
+    (calls : List Call) (marking : List Stretch) → linesOf marking ≡ triedByAll calls (start rule p) → AllFull rule p [] marking
     → markedIn marking ≤ mostRounds p
 
 -- Demand 3: "the full rounds of all runs in a list are one way to mark them off": a marking of all that the list tries, with as many rounds as its
 -- runs return together.
-pub record RunsMarked (p : Problem) (calls : List Call) : Type 0 where
+pub record RunsMarked (rule : ℕ) (p : Problem) (calls : List Call) : Type 0 where
   pub marking : List Stretch
-  pub lines : linesOf marking ≡ triedByAll calls (start p)
-  pub full : AllFull p [] marking
-  pub number : markedIn marking ≡ madeByAll calls (start p)
+  pub lines : linesOf marking ≡ triedByAll calls (start rule p)
+  pub full : AllFull rule p [] marking
+  pub number : markedIn marking ≡ madeByAll calls (start rule p)
 
-abbrev pub RunsMark : Problem → Type 0
-RunsMark p = (calls : List Call) → RunsMarked p calls
+abbrev pub RunsMark : ℕ → Problem → Type 0
+RunsMark rule p = (calls : List Call) → RunsMarked rule p calls
 
 -- So the full rounds that all runs of a list return, together, obey the bound too.
-abbrev pub RunBound : Problem → Type 0
-RunBound p = (calls : List Call) → madeByAll calls (start p) ≤ mostRounds p
+abbrev pub RunBound : ℕ → Problem → Type 0
+RunBound rule p = (calls : List Call) → madeByAll calls (start rule p) ≤ mostRounds p
 
 -- Demand 3: "each run .. returns exactly how many of its rounds were full": a run's own rounds cut up what it tries; it counts a round exactly if it
 -- is full at its place in the list, and returns how many it counts.
-pub record RunCounts (p : Problem) (calls : List Call) (k : ℕ) : Type 0 where
-  pub cuts : linesOf (map roundStretch (run k (leftByAll calls (start p)) .rounds)) ≡ triesOf (run k (leftByAll calls (start p)) .rounds)
-  pub exact : ExactlyFull p (triedByAll calls (start p)) (map roundStretch (run k (leftByAll calls (start p)) .rounds))
-  pub returned : run k (leftByAll calls (start p)) .made ≡ markedIn (map roundStretch (run k (leftByAll calls (start p)) .rounds))
+pub record RunCounts (rule : ℕ) (p : Problem) (calls : List Call) (k : ℕ) : Type 0 where
+  pub cuts : linesOf (map roundStretch (run k (leftByAll calls (start rule p)) .rounds)) ≡ triesOf (run k (leftByAll calls (start rule p)) .rounds)
+  pub exact : ExactlyFull rule p (triedByAll calls (start rule p)) (map roundStretch (run k (leftByAll calls (start rule p)) .rounds))
+  pub returned : run k (leftByAll calls (start rule p)) .made ≡ markedIn (map roundStretch (run k (leftByAll calls (start rule p)) .rounds))
 
-abbrev pub RunsCount : Problem → Type 0
-RunsCount p = (calls : List Call) (k : ℕ) → RunCounts p calls k
+abbrev pub RunsCount : ℕ → Problem → Type 0
+RunsCount rule p = (calls : List Call) (k : ℕ) → RunCounts rule p calls k
 
 -- Delivering a run's tries one by one from the network that it was given leaves the network that it returns, and refuses exactly the tries that
 -- it saw refused. Of every network, in shape or not.
@@ -93,41 +93,41 @@ Replay = (k : ℕ) (w : Network) → Replays k w
 
 -- A link is asked for once: on no network reached from the start, under a verdict or not, does a request wait from an agent already informed, nor
 -- do two requests wait on one channel.
-abbrev pub AskedOnce : Problem → Type 0
-AskedOnce p =
+abbrev pub AskedOnce : ℕ → Problem → Type 0
+AskedOnce rule p =
     (calls : List Call) (x y : ℕ)
-    → OneLink (leftByAll calls (start p) .channel y x)
-    × (leftByAll calls (start p) .agents x .informs y ≡ true → All (Not IsAddLink) (leftByAll calls (start p) .channel y x))
+    → OneLink (leftByAll calls (start rule p) .channel y x)
+    × (leftByAll calls (start rule p) .agents x .informs y ≡ true → All (Not IsAddLink) (leftByAll calls (start rule p) .channel y x))
 
 -- ---- figures. docs/RULES.md, 'Figures on every scanner'
 
 -- "while no count has reached the top, each equals the number of messages of its sort that the start and the accepted deliveries sent from that
 -- scanner, or handed to it"
-abbrev pub CountsExact : Problem → Type 0
-CountsExact p =
-    (calls : List Call) → BelowTop p (leftByAll calls (start p)) → (i : ℕ) → 1 ≤ i → i ≤ p .count → (x : Sort)
-    → (leftByAll calls (start p) .agents i .counts .sent x ≡ number x (sentFrom p calls i))
-    × (leftByAll calls (start p) .agents i .counts .received x ≡ number x (receivedBy p calls i))
+abbrev pub CountsExact : ℕ → Problem → Type 0
+CountsExact rule p =
+    (calls : List Call) → BelowTop p (leftByAll calls (start rule p)) → (i : ℕ) → 1 ≤ i → i ≤ p .count → (x : Sort)
+    → (leftByAll calls (start rule p) .agents i .counts .sent x ≡ number x (sentFrom rule p calls i))
+    × (leftByAll calls (start rule p) .agents i .counts .received x ≡ number x (receivedBy rule p calls i))
 
 -- "is that number, and stays there": whatever the others are, a count is that number, or the top where the number is above it.
-abbrev pub CountsCapped : Problem → Type 0
-CountsCapped p =
+abbrev pub CountsCapped : ℕ → Problem → Type 0
+CountsCapped rule p =
     (calls : List Call) (i : ℕ) (x : Sort)
-    → (leftByAll calls (start p) .agents i .counts .sent x ≡ raised 0 (number x (sentFrom p calls i)))
-    × (leftByAll calls (start p) .agents i .counts .received x ≡ raised 0 (number x (receivedBy p calls i)))
+    → (leftByAll calls (start rule p) .agents i .counts .sent x ≡ raised 0 (number x (sentFrom rule p calls i)))
+    × (leftByAll calls (start rule p) .agents i .counts .received x ≡ raised 0 (number x (receivedBy rule p calls i)))
 
 -- "and the total sent, over all scanners, equals the total received plus what waits on all lines"
-abbrev pub SentIsReceivedAndWaiting : Problem → Type 0
-SentIsReceivedAndWaiting p =
-    (calls : List Call) → BelowTop p (leftByAll calls (start p))
-    → totalSent p (leftByAll calls (start p)) ≡ totalReceived p (leftByAll calls (start p)) + totalWaiting p (leftByAll calls (start p))
+abbrev pub SentIsReceivedAndWaiting : ℕ → Problem → Type 0
+SentIsReceivedAndWaiting rule p =
+    (calls : List Call) → BelowTop p (leftByAll calls (start rule p))
+    → totalSent p (leftByAll calls (start rule p)) ≡ totalReceived p (leftByAll calls (start rule p)) + totalWaiting p (leftByAll calls (start rule p))
 
 -- .. and so in each sort by itself.
-abbrev pub SentIsReceivedAndWaitingOf : Problem → Type 0
-SentIsReceivedAndWaitingOf p =
-    (calls : List Call) → BelowTop p (leftByAll calls (start p)) → (x : Sort)
-    → totalOf p (leftByAll calls (start p)) (λ c. c .sent x)
-    ≡ totalOf p (leftByAll calls (start p)) (λ c. c .received x) + waitingOf p (leftByAll calls (start p)) x
+abbrev pub SentIsReceivedAndWaitingOf : ℕ → Problem → Type 0
+SentIsReceivedAndWaitingOf rule p =
+    (calls : List Call) → BelowTop p (leftByAll calls (start rule p)) → (x : Sort)
+    → totalOf p (leftByAll calls (start rule p)) (λ c. c .sent x)
+    ≡ totalOf p (leftByAll calls (start rule p)) (λ c. c .received x) + waitingOf p (leftByAll calls (start rule p)) x
 
 -- ---- of every network and every sheet
 
@@ -176,10 +176,16 @@ pub record UsesRounds (k : ℕ) (w : Network) : Type 0 where
 abbrev pub RoundsUsed : Type 0
 RoundsUsed = (k : ℕ) (w : Network) → UsesRounds k w
 
--- ---- for which problems
+-- "No delivery and no run changes the rule.", on forged networks either.
+abbrev pub RuleKept : Type 0
+RuleKept = (w : Network) (calls : List Call) → leftByAll calls w .rule ≡ w .rule
 
-abbrev pub EveryProblem : (Problem → Type 0) → Type 0
-EveryProblem C = (p : Problem) → inRange p ≡ true → C p
+-- ---- for which rules and problems
 
-abbrev pub EverySheet : (Problem → Type 0) → Type 0
-EverySheet C = (sheet : List ℕ) (p : Problem) → decode sheet ≡ Valid p → C p
+-- either rule, and every problem in range
+abbrev pub EveryProblem : (ℕ → Problem → Type 0) → Type 0
+EveryProblem C = (rule : ℕ) → isRule rule ≡ true → (p : Problem) → inRange p ≡ true → C rule p
+
+-- either rule, and every sheet that the start accepts
+abbrev pub EverySheet : (ℕ → Problem → Type 0) → Type 0
+EverySheet C = (rule : ℕ) → isRule rule ≡ true → (sheet : List ℕ) (p : Problem) → decode sheet ≡ Valid p → C rule p

@@ -13,18 +13,18 @@ use Rattle.theorems.specs.Deeds.{Handed, handedIn, postsIn}
 
 -- ---- "the start and the accepted deliveries sent from that scanner, or handed to it"
 
-unfoldable pub startPosts : Problem → ℕ → List Post
-startPosts p i = elim (within (p .count) i) [ true ↦ begun p i .sent | false ↦ [] ]
+unfoldable pub startPosts : ℕ → Problem → ℕ → List Post
+startPosts rule p i = elim (within (p .count) i) [ true ↦ begun rule p i .sent | false ↦ [] ]
 
-unfoldable pub sentFrom : Problem → List Call → ℕ → List Message
-sentFrom p calls i = messagesIn (startPosts p i ++ postsIn i calls (start p))
+unfoldable pub sentFrom : ℕ → Problem → List Call → ℕ → List Message
+sentFrom rule p calls i = messagesIn (startPosts rule p i ++ postsIn i calls (start rule p))
 
 unfoldable pub messageOf : Handed → Message
 messageOf h = h .message
 
 -- the start hands nothing over
-unfoldable pub receivedBy : Problem → List Call → ℕ → List Message
-receivedBy p calls i = map messageOf (handedIn i calls (start p))
+unfoldable pub receivedBy : ℕ → Problem → List Call → ℕ → List Message
+receivedBy rule p calls i = map messageOf (handedIn i calls (start rule p))
 
 -- ---- "while no count has reached the top": of agents 1 to n
 

@@ -1,7 +1,12 @@
 // The checks: what a line finds on the rail of the case under hand, and what it must find.
 ghost use Prim.Native.Nat.{_<_};
+use crate::rails::all_news;
+use crate::rails::held;
+use crate::rails::is_line;
 use crate::rails::same_rail;
 use cases::kinds::DELIVER;
+use cases::kinds::DIFFERS;
+use cases::kinds::LAST;
 use cases::kinds::LINE;
 use cases::kinds::REFUSED;
 use cases::kinds::RUN;
@@ -12,7 +17,6 @@ use cases::lines::Numbers;
 use cases::lines::small;
 use cases::sheets::Sheet;
 use network::Network;
-use packed::digit;
 use run::Ending;
 use start::Started;
 use words::printing::Out;
@@ -27,25 +31,32 @@ pub struct Found {
 
 // ---- the start
 
-// The start of the sheet that is the first n bytes.
-fn start_on(bytes: &[u8], n: usize) -> Started {
-    if n <= bytes.len() {
-        return start::start(&bytes[..n]);
-    }
-    start::start(bytes)
+// The rule that a line starts the sheet under: its number k, or 1.
+fn rule_at(n: Numbers, k: usize) -> u8
+    requires { ⌜ k < 16 ⌝ }
+{
+    if k < n.count { small(n, k) } else { 1 }
 }
 
-// A refused sheet gives the empty rail.
-fn started(out: Out, s: Sheet) -> Found {
+// The start, under a rule, of the sheet that is the first n bytes.
+fn start_on(rule: u8, bytes: &[u8], n: usize) -> Started {
+    if n <= bytes.len() {
+        return start::start(rule, &bytes[..n]);
+    }
+    start::start(rule, bytes)
+}
+
+// An accepted sheet gives a rail that holds the rule, a refused one, or a refused rule, the empty rail.
+fn started(out: Out, rule: u8, s: Sheet) -> Found {
     let bytes = s.bytes;
-    let answer = start_on(&bytes, s.length);
+    let answer = start_on(rule, &bytes, s.length);
     let rail = answer.network;
     let number = answer.number;
     if number == 0 {
         return Found {
             rail,
             number: 0,
-            right: true,
+            right: rail.rule == rule,
             out,
         };
     }
@@ -129,46 +140,64 @@ fn slot_right(rail: Network, n: Numbers, k: usize) -> bool
     a.number == 6 && a.value == 0
 }
 
-// The first scanner whose slot is not right, and 0 where all are.
-fn first_wrong(rail: Network, n: Numbers) -> u64 {
+// The last slot that scanner k + 1 took is the one that the line gives; 0 where there is no such scanner.
+fn last_right(rail: Network, n: Numbers, k: usize) -> bool
+    requires { ⌜ k < 12 ⌝ }
+{
+    let a = rail.agents[k];
+    a.last as u64 == n.values[k]
+}
+
+// The slot or the last slot of scanner k + 1, as the kind of the line says.
+fn given_right(rail: Network, kind: usize, n: Numbers, k: usize) -> bool
+    requires { ⌜ k < 12 ⌝ }
+{
+    if kind == LAST {
+        return last_right(rail, n, k);
+    }
+    slot_right(rail, n, k)
+}
+
+// The first scanner for which the line is not right, and 0 where it is for all.
+fn first_wrong(rail: Network, kind: usize, n: Numbers) -> u64 {
     for k in 0..12 {
-        if !slot_right(rail, n, k) {
+        if !given_right(rail, kind, n, k) {
             return k as u64 + 1;
         }
     }
     0
 }
 
-// How many messages wait on the line between two scanners; none where there is no such line.
-fn held(rail: Network, from: u8, to: u8) -> u64 {
-    if from == 0 {
-        return 0;
+// How many messages wait on the line that a line of the text names; none where there is no such line.
+fn waiting(rail: Network, n: Numbers) -> u64 {
+    let from = small(n, 0);
+    let to = small(n, 1);
+    if is_line(from, to) {
+        return held(rail, from, to) as u64;
     }
-    if 12 < from {
-        return 0;
-    }
-    if to == 0 {
-        return 0;
-    }
-    if 12 < to {
-        return 0;
-    }
-    if from == to {
-        return 0;
-    }
-    digit(rail.counts[from as usize - 1], to) as u64
+    0
 }
 
-// How many messages wait on the line that a line of the text names.
-fn waiting(rail: Network, n: Numbers) -> u64 {
-    held(rail, small(n, 0), small(n, 1))
+// Where a line of the text says so, all that waits on the line that it names is news of one slot.
+fn news_right(rail: Network, kind: usize, n: Numbers) -> bool {
+    if kind != LINE || n.count < 4 {
+        return true;
+    }
+    let from = small(n, 0);
+    let to = small(n, 1);
+    if is_line(from, to) {
+        return all_news(rail, from, to, small(n, 3));
+    }
+    false
 }
 
 fn looked(rail: Network, kept: Network, kind: usize, n: Numbers) -> u64 {
     match kind {
-        TAKEN => first_wrong(rail, n),
+        TAKEN => first_wrong(rail, kind, n),
+        LAST => first_wrong(rail, kind, n),
         LINE => waiting(rail, n),
         SAME => same_rail(rail, kept) as u64,
+        DIFFERS => same_rail(rail, kept) as u64,
         _ => 0,
     }
 }
@@ -186,14 +215,14 @@ pub fn tried(
     line: &[u8],
 ) -> Found {
     match kind {
-        START => started(out, s),
-        REFUSED => started(out, s),
+        START => started(out, rule_at(n, 0), s),
+        REFUSED => started(out, rule_at(n, 1), s),
         RUN => ran(out, rail, n, line),
         DELIVER => delivered(out, rail, n),
         _ => Found {
             rail,
             number: looked(rail, kept, kind, n),
-            right: true,
+            right: news_right(rail, kind, n),
             out,
         },
     }

@@ -7,23 +7,30 @@
 //   each 2:1-7 3:1         such a record for each of the slots 1 to 7 of scanner 2
 //   hex 03 01 01 00        more bytes of the sheet as they are
 //   zeros 33800            more bytes, all zero
-//   start                  the sheet is accepted; what follows is tried on its rail
+//   start                  the sheet is accepted; what follows is tried on its rail, which holds rule 1
+//   start 2                the same under rule 2
 //   refused 4              the sheet is refused with this number, and the rail is empty
+//   refused 11 rule 3      the same under this rule
 //   keep                   the rail is kept beside, for the next line
 //   same                   the rail is the same as the one that was kept
+//   differs                it is another
 //   run plan 5             the run ends so, after so many full rounds of 100,000 allowed
 //   run open 1 of 1        the same, with so many allowed
 //   taken 2 1 1            the slots of the scanners, asked one by one, and there is no further one
+//   last 2 1 1             the last slots that the scanners took
 //   deliver 2-3            the head of a line is delivered
 //   deliver 1-2 refused 7  the delivery is refused with this number
 //   line 2-4 holds 8       so many messages wait on a line
+//   line 2-3 holds 1 news of 1  the same, and each of them is news of this slot
 mod checks;
 mod rails;
 
 use cases::kinds::CASE;
 use cases::kinds::DELIVER;
+use cases::kinds::DIFFERS;
 use cases::kinds::FAILED;
 use cases::kinds::KEEP;
+use cases::kinds::LAST;
 use cases::kinds::LINE;
 use cases::kinds::REFUSED;
 use cases::kinds::RUN;
@@ -69,9 +76,18 @@ fn with_out(tally: Tally, out: Out) -> Tally {
     Tally { of, out }
 }
 
+// The kind as which a check is tallied.
+fn sort_of(kind: usize) -> usize {
+    match kind {
+        DIFFERS => SAME,
+        LAST => TAKEN,
+        _ => kind,
+    }
+}
+
 // The tally after a line that must find a number, and found one.
 fn judged(tally: Tally, kind: usize, line: &[u8], must: u64, number: u64, right: bool) -> Tally {
-    let t = tallied(tally, kind);
+    let t = tallied(tally, sort_of(kind));
     if right && number == must && kind != UNKNOWN {
         return t;
     }

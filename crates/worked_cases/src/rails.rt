@@ -1,4 +1,5 @@
-// Whether two rails are the same: n, slot counts, verdict, bans, scanner records and the messages that wait on each line, in order.
+// Whether two rails are the same: n, rule, slot counts, verdict, bans, scanner records and the messages that wait on each line, in order; and what
+// waits on one line.
 ghost use mathlib.Core.Path.{_≡_};
 ghost use mathlib.Core.Bool.{true};
 ghost use Prim.Native.Nat.{_<_};
@@ -50,6 +51,9 @@ fn same_agent(a: Agent, b: Agent) -> bool {
     if a.value != b.value {
         return false;
     }
+    if a.last != b.last {
+        return false;
+    }
     if a.listens != b.listens {
         return false;
     }
@@ -97,6 +101,32 @@ fn same_message(a: Message, b: Message) -> bool {
     }
 }
 
+// There is a line between scanners with these numbers.
+pub fn is_line(from: u8, to: u8) -> bool
+    ensures { λ b. ⌜ (b ≡ true → isChannel from to ≡ true) ⌝ }
+{
+    if from == 0 {
+        return false;
+    }
+    if 12 < from {
+        return false;
+    }
+    if to == 0 {
+        return false;
+    }
+    if 12 < to {
+        return false;
+    }
+    from != to
+}
+
+// How many messages wait on a line.
+pub fn held(r: Network, from: u8, to: u8) -> u8
+    requires { ⌜ isChannel from to ≡ true ⌝ }
+{
+    digit(r.counts[from as usize - 1], to)
+}
+
 // Message t of a line, from the head on.
 fn waiting(r: Network, from: u8, to: u8, t: u8) -> Message
     requires { ⌜ (isChannel from to ≡ true) × (t < 8) ⌝ }
@@ -110,13 +140,36 @@ fn waiting(r: Network, from: u8, to: u8, t: u8) -> Message
 fn same_line(a: Network, b: Network, from: u8, to: u8) -> bool
     requires { ⌜ isChannel from to ≡ true ⌝ }
 {
-    let count = digit(a.counts[from as usize - 1], to);
-    if count != digit(b.counts[from as usize - 1], to) {
+    let count = held(a, from, to);
+    if count != held(b, from, to) {
         return false;
     }
     for t in 0..8 {
         if t < count {
             if !same_message(waiting(a, from, to, t), waiting(b, from, to, t)) {
+                return false;
+            }
+        }
+    }
+    true
+}
+
+fn is_news(m: Message, slot: u8) -> bool {
+    match m {
+        Message::Info(v) => v == slot,
+        Message::Back(_, _) => false,
+        Message::AddLink => false,
+    }
+}
+
+// All that waits on a line is news of this slot.
+pub fn all_news(r: Network, from: u8, to: u8, slot: u8) -> bool
+    requires { ⌜ isChannel from to ≡ true ⌝ }
+{
+    let count = held(r, from, to);
+    for t in 0..8 {
+        if t < count {
+            if !is_news(waiting(r, from, to, t), slot) {
                 return false;
             }
         }
@@ -146,11 +199,14 @@ fn same_slots(a: [u8; 12], b: [u8; 12]) -> bool {
     true
 }
 
-// What was asked for, and the bans.
+// What was asked for, under which rule, and the bans.
 fn same_problem(a: Network, b: Network) -> bool {
     let slots = a.domains;
     let other_slots = b.domains;
     if a.count != b.count {
+        return false;
+    }
+    if a.rule != b.rule {
         return false;
     }
     if !same_slots(slots, other_slots) {

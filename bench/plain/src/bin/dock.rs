@@ -1,9 +1,9 @@
-//! Reads a sheet on standard input, runs with 100,000 rounds and prints.
+//! Reads a sheet on standard input, runs with 100,000 rounds under rule 1 and prints.
 
 use std::fmt::Write as _;
 use std::io::{Read, Write as _};
 
-use plain::{Network, Problem, Word, MAX_SHEET, PROGRAM_ROUNDS};
+use plain::{Network, Rule, Word, MAX_SHEET, PROGRAM_ROUNDS};
 
 fn main() {
     let mut sheet = Vec::with_capacity(MAX_SHEET + 1);
@@ -13,11 +13,10 @@ fn main() {
 }
 
 fn answer(sheet: &[u8]) -> String {
-    let problem = match Problem::decode(sheet) {
-        Ok(problem) => problem,
+    let mut network = match Network::start_sheet(Rule::Loud.number(), sheet) {
+        Ok(network) => network,
         Err(rejection) => return format!("sheet refused {}\n", rejection.number()),
     };
-    let mut network = Network::start(&problem);
     let run = match network.run(PROGRAM_ROUNDS) {
         Ok(run) => run,
         Err(rejection) => unreachable!("a started network refused with {}", rejection.number()),

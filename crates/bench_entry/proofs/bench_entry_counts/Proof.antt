@@ -24,7 +24,7 @@ all-mixed-requires c κs = search needs
 
 returns : tie.Need-returns
 returns c =
-    let n : length (c .before .before .before .before .run .result .network .agents) ≡ 12 = simp length-map at (c .before .before .before .before .run .ok .1 .1 .0 .1 .1 .1 .1 .1 .1 .0 .1 .0 .1) in
+    let n : length (c .before .before .before .before .run .result .network .agents) ≡ 12 = simp length-map at (c .before .before .before .before .run .ok .1 .1 .0 .1 .1 .1 .1 .1 .1 .1 .0 .1 .0 .1) in
     c .all-mixed .ensures
     ∙ counts-given _ _ _ (c .before .before .before .before .run .result) (c .before .before .before .before .before .before .start .ensures .network) (c .before .before .before .before .run .ensures) _ _
     (omega (arith, n, c .before .before .if1 .taken)) (c .before .before .if1 .taken)

@@ -12,10 +12,10 @@ use Rattle.bench_entry.proofs.bench_entry_deliver.Statement.{statement}
 use Rattle.bench_entry.proofs.bench_entry_deliver.Tie as tie
 
 abbrev Inv-loop : tie.InvT-loop
-Inv-loop sheet calls network sum₀ i₀ sum i = (i ≤ 13) × (sum ≡ askedTo i (networkOf network) sum₀)
+Inv-loop rule sheet calls network sum₀ i₀ sum i = (i ≤ 13) × (sum ≡ askedTo i (networkOf network) sum₀)
 
 abbrev μ-loop : tie.MeasureT-loop
-μ-loop sheet calls network sum₀ i₀ sum i = 13 - i
+μ-loop rule sheet calls network sum₀ i₀ sum i = 13 - i
 
 start-requires : tie.Need-start-requires Inv-loop μ-loop
 start-requires c κs = search needs
@@ -52,7 +52,7 @@ loop-again c =
 returns : tie.Need-returns Inv-loop μ-loop
 returns c =
     let s = c .before .before .before .before .before .start .ensures in
-    all-asked _ _ _ _ _ _ _ (c .before .before .before .play .ensures (startSheet _) (s .network) (s .number)) (omega arith) (c .before .loop .inv .1)
+    all-asked _ _ _ _ _ _ _ (c .before .before .before .play .ensures (startSheet _ _) (s .network) (s .number)) (omega arith) (c .before .loop .inv .1)
 
 pub bench-entry-deliver-spec : {M : Type 1} → statement M
 bench-entry-deliver-spec =

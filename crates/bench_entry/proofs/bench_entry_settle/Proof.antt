@@ -13,10 +13,10 @@ use Rattle.bench_entry.proofs.bench_entry_settle.Statement.{statement}
 use Rattle.bench_entry.proofs.bench_entry_settle.Tie as tie
 
 abbrev Inv-loop : tie.InvT-loop
-Inv-loop sheet rounds ran ending agents values₀ k₀ values k = (k ≤ 12) × (values ≡ valuesTo k (networkOf (ran .network)))
+Inv-loop rule sheet rounds ran ending agents values₀ k₀ values k = (k ≤ 12) × (values ≡ valuesTo k (networkOf (ran .network)))
 
 abbrev μ-loop : tie.MeasureT-loop
-μ-loop sheet rounds ran ending agents values₀ k₀ values k = 12 - k
+μ-loop rule sheet rounds ran ending agents values₀ k₀ values k = 12 - k
 
 start-requires : tie.Need-start-requires Inv-loop μ-loop
 start-requires c κs = search needs
@@ -60,7 +60,7 @@ loop-less c = search needs
 
 loop-again : tie.Need-loop-again Inv-loop μ-loop
 loop-again c =
-    let n : length (c .before .before .before .before .before .run .result .network .agents) ≡ 12 = simp length-map at (c .before .before .before .before .before .run .ok .1 .1 .0 .1 .1 .1 .1 .1 .1 .0 .1 .0 .1) in
+    let n : length (c .before .before .before .before .before .run .result .network .agents) ≡ 12 = simp length-map at (c .before .before .before .before .before .run .ok .1 .1 .0 .1 .1 .1 .1 .1 .1 .1 .0 .1 .0 .1) in
     (omega arith, rw add-one (one-value (c .before .before .before .before .before .run .result .network) _ _ _ (omega arith) (c .before .before .before .loop .inv .1)))
 
 mul-result : tie.Need-mul-result Inv-loop μ-loop

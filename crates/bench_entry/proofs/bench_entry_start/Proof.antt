@@ -1,4 +1,4 @@
--- The fault's number, or the sender's row less what is no channel's.
+-- The refusal's number, or the sender's row less what is no channel's.
 use mathlib.Core.Path.{sym, _∙_}
 use native.Mathlib.Numerals.{add-one}
 use Rattle.bench_entry.proofs.Giving.{row-given, row-held, none-held}
@@ -32,12 +32,12 @@ lines-of-requires c κs = search needs
 
 returns-2 : tie.Need-returns-2
 returns-2 c =
-    row-given _ _ _ (sym (c .before .before .before .before .before .start .ensures .number) ∙ c .before .before .before .if1 .left) (c .before .before .before .before .before .start .ensures .network) _
+    row-given _ _ _ _ (sym (c .before .before .before .before .before .start .ensures .number) ∙ c .before .before .before .if1 .left) (c .before .before .before .before .before .start .ensures .network) _
     (λ j. rw add-one at (c .lines-of .ensures j) ∙ row-held _ _ j)
 
 returns-3 : tie.Need-returns-3
 returns-3 c =
-    row-given _ _ _ (sym (c .before .before .before .before .start .ensures .number) ∙ c .before .before .if1 .left) (c .before .before .before .before .start .ensures .network) _ (λ j. none-held _ _ j (c .if2 .left))
+    row-given _ _ _ _ (sym (c .before .before .before .before .start .ensures .number) ∙ c .before .before .if1 .left) (c .before .before .before .before .start .ensures .network) _ (λ j. none-held _ _ j (c .if2 .left))
 
 pub bench-entry-start-spec : {M : Type 1} → statement M
 bench-entry-start-spec =

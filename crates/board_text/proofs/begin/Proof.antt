@@ -19,7 +19,8 @@ returns c =
       numbered = e .number;
       started = e .network;
       whole = λ input h.
-          let s : startSheet _ ≡ startSheet input = ap startSheet (sym h) ∙ start-cut input in
+          let rule = c .before .before .before .before .args .rule in
+          let s : startSheet rule _ ≡ startSheet rule input = ap (startSheet rule) (sym h) ∙ start-cut rule input in
           (e .number ∙ ap (λ (x : Started). x .number) s, e .network ∙ ap (λ (x : Started). x .network) s);
     }
 

@@ -1,6 +1,6 @@
 -- The text with 100,000 rounds. Assumes nothing.
 use borrow.Author.Needs.{needs}
-use Rattle.dock_text.specs.Text.{programRounds}
+use Rattle.dock_text.specs.Settling.{programRounds}
 use Rattle.dock_text.proofs.program_text.Statement.{statement}
 use Rattle.dock_text.proofs.program_text.Tie as tie
 

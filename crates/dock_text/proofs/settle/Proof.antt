@@ -2,7 +2,7 @@
 use mathlib.Core.Path.{_≡_, ap, _∙_}
 use Rattle.protocol.specs.Network.{Network, startSheet}
 use Rattle.protocol.specs.Run.{endingNumber, run}
-use Rattle.dock_text.specs.Settling.{settled}
+use Rattle.dock_text.specs.Settling.{programRule, settled}
 use Rattle.dock_text.proofs.Refused.{refused-run}
 use borrow.Author.Needs.{needs}
 use Rattle.dock_text.proofs.settle.Statement.{statement}
@@ -15,13 +15,13 @@ run-requires : tie.Need-run-requires
 run-requires c κs = search needs
 
 returns : tie.Need-returns
-unfolding settled
+unfolding settled programRule
 returns c =
     let e = c .before .before .start .ensures in
     let r = c .run .ensures in
     let k = c .before .before .before .before .args .rounds in
     let s = c .before .before .before .before .args .sheet .now in
-    let refused : (c .before .before .start .result .number ≡ 0 → ⊥) → startSheet s .number ≡ 0 → ⊥ = λ n z. n (e .number ∙ z) in
+    let refused : (c .before .before .start .result .number ≡ 0 → ⊥) → startSheet programRule s .number ≡ 0 → ⊥ = λ n z. n (e .number ∙ z) in
     let answered = r .number ∙ ap (λ (w : Network). endingNumber (run k w .ending)) (e .network) in
     record {
       number = e .number;

@@ -1,14 +1,15 @@
 -- The problem; then the masks of all agents; the agents, upward; the channels, sender by sender. What an invariant says is what was found to fit.
 use borrow.Author.Needs.{needs}
 use Prim.Native.Nat.{ℕ, _+_, _*_, _-_, _≤_, _<_}
-use mathlib.Core.Path.{_≡_, refl, sym, ap, _∙_}
-use mathlib.Core.Bool.{true}
+use mathlib.Core.Path.{_≡_, refl, sym, ap, ap₂, _∙_}
+use mathlib.Core.Bool.{true, _&&_}
 use mathlib.Core.List.{List, [], map}
 use native.Mathlib.Omega.{arith}
 use lib.ListN.{length, take, getD, length-map, length-set, List·getD-map}
 use lib.Seq.{take-all}
 use borrow.Author.Tests.{not-true, not-false}
 use Rattle.base.proofs.Arrays.{copied}
+use Rattle.base.proofs.Tests.{both}
 use Rattle.problem.specs.Problem.{inRange}
 use Rattle.problem.proofs.Range.{ranged as in-range}
 use Rattle.packed.specs.Packed.{assignment}
@@ -18,6 +19,7 @@ use Rattle.agent.specs.declared.Agent.{Agent}
 use Rattle.agent.specs.declared.Message.the-variants.{Info}
 use Rattle.packed.proofs.Known.{known-true}
 use Rattle.packed.proofs.Naming.{naming, naming-few, naming-fewer}
+use Rattle.protocol.specs.Network.{isRule}
 use Rattle.protocol.specs.Shape.{messageFits, unused, inShape}
 use Rattle.network.specs.Abstract.{isChannel, problemOf, placeOf, networkOf}
 use Rattle.network.specs.Parts.{Domains, setOf, linksInShape}
@@ -29,7 +31,7 @@ use Rattle.network.proofs.Clauses.{agent-at}
 use Rattle.network.proofs.Links.{agentPasses, passes-beyond, passes-within}
 use Rattle.network.proofs.Rings.{lastLeft, message-at}
 use Rattle.network.proofs.Sweeping.{Swept, channelsInShape, beginning, one-unfit, message-unfit, message-passed, channel-here, channel-full, channel-next, sender-next, swept}
-use Rattle.network.proofs.Whole.{listensOf, informsOf, linking, lengths, problem-unfit, AgentsFit, agent-unfit, agent-passed, agents-passed}
+use Rattle.network.proofs.Whole.{listensOf, informsOf, linking, lengths, head-unfit, AgentsFit, agent-unfit, agent-passed, agents-passed}
 use Rattle.network.proofs.in_shape.Statement.{statement}
 use Rattle.network.proofs.in_shape.Tie as tie
 
@@ -38,6 +40,7 @@ abbrev noAgent : Agent
 noAgent =
     record {
       value = 0;
+      last = 0;
       stored = 0;
       listens = 0;
       informs = 0;
@@ -79,15 +82,18 @@ Inv-loop3 r n domains listens k i₀ rest₀ j₀ left₀ i rest j left = Checke
 abbrev μ-loop3 : tie.MeasureT-loop3
 μ-loop3 r n domains listens k i₀ rest₀ j₀ left₀ i rest j left = (12 - i) * 1000 + naming rest * 16 + left
 
+is-rule-requires : tie.Need-is-rule-requires Inv-loop μ-loop Inv-loop2 μ-loop2 Inv-loop3 μ-loop3
+is-rule-requires c κs = search needs
+
 in-range-requires : tie.Need-in-range-requires Inv-loop μ-loop Inv-loop2 μ-loop2 Inv-loop3 μ-loop3
 in-range-requires c κs = search needs
 
 returns : tie.Need-returns Inv-loop μ-loop Inv-loop2 μ-loop2 Inv-loop3 μ-loop3
 unfolding problemOf
 returns c =
-    let r = c .before .before .before .before .before .args .t1 in
+    let r = c .before .before .before .before .before .before .args .t1 in
     let s = lengths r (search needs) (search needs) in
-    sym (problem-unfit r (sym (c .before .in-range .ensures (problemOf r) s refl refl refl) ∙ not-true _ (c .if1 .taken)))
+    sym (head-unfit r (ap₂ _&&_ (sym (c .before .before .before .before .before .is-rule .ensures)) (sym (c .before .in-range .ensures (problemOf r) s refl refl refl)) ∙ not-true _ (c .if1 .taken)))
 
 domain-digits-requires : tie.Need-domain-digits-requires Inv-loop μ-loop Inv-loop2 μ-loop2 Inv-loop3 μ-loop3
 domain-digits-requires c κs = search needs
@@ -120,16 +126,16 @@ loop-less : tie.Need-loop-less Inv-loop μ-loop Inv-loop2 μ-loop2 Inv-loop3 μ-
 loop-less c = search needs
 
 staffed : (c : tie.Start Inv-loop μ-loop Inv-loop2 μ-loop2 Inv-loop3 μ-loop3) → length (c .args .t1 .agents) ≡ 12
-staffed c = simp length-map at (c .good .0 .1 .1 .1 .1 .1 .1 .0 .1 .0 .1)
+staffed c = simp length-map at (c .good .0 .1 .1 .1 .1 .1 .1 .1 .0 .1 .0 .1)
 
 placed : (c : tie.Start Inv-loop μ-loop Inv-loop2 μ-loop2 Inv-loop3 μ-loop3) → length (c .args .t1 .places) ≡ 1056
-placed c = simp length-map at (c .good .0 .1 .1 .1 .1 .1 .1 .1 .1 .1 .0 .1 .0 .1)
+placed c = simp length-map at (c .good .0 .1 .1 .1 .1 .1 .1 .1 .1 .1 .1 .0 .1 .0 .1)
 
 loop-again : tie.Need-loop-again Inv-loop μ-loop Inv-loop2 μ-loop2 Inv-loop3 μ-loop3
 loop-again c =
-    let agents = c .before .before .before .before .before .before .before .before .before .before .before .args .t1 .agents in
+    let agents = c .before .before .before .before .before .before .before .before .before .before .before .before .args .t1 .agents in
     let loop = c .before .before .loop in
-    let n : length agents ≡ 12 = staffed (c .before .before .before .before .before .before .before .before .before .before .before) in
+    let n : length agents ≡ 12 = staffed (c .before .before .before .before .before .before .before .before .before .before .before .before) in
     let l : loop .k < length (map listensOf agents) = rw length-map (omega arith) in
     let i : loop .k < length (map informsOf agents) = rw length-map (omega arith) in (
       omega arith,
@@ -142,24 +148,27 @@ loop-again c =
 same : {A : Type 0} {l m : List A} {k : ℕ} → k ≡ 12 → length l ≡ 12 → length m ≡ 12 → take k l ≡ take k m → l ≡ m
 same {l = l} {m = m} {k = k} e a b t = sym (take-all k l (omega arith)) ∙ t ∙ take-all k m (omega arith)
 
-ranged : (c : tie.Else1 Inv-loop μ-loop Inv-loop2 μ-loop2 Inv-loop3 μ-loop3) → inRange (problemOf (c .before .before .before .before .before .args .t1)) ≡ true
+-- the rule and the problem
+headed : (c : tie.Else1 Inv-loop μ-loop Inv-loop2 μ-loop2 Inv-loop3 μ-loop3)
+    → (isRule (c .before .before .before .before .before .before .args .t1 .rule) ≡ true) × (inRange (problemOf (c .before .before .before .before .before .before .args .t1)) ≡ true)
 unfolding problemOf
-ranged c =
-    let r = c .before .before .before .before .before .args .t1 in
+headed c =
+    let r = c .before .before .before .before .before .before .args .t1 in
     let s = lengths r (search needs) (search needs) in
-    sym (c .before .in-range .ensures (problemOf r) s refl refl refl) ∙ not-false _ (c .if1 .left)
+    both _ _ (ap₂ _&&_ (sym (c .before .before .before .before .before .is-rule .ensures)) (sym (c .before .in-range .ensures (problemOf r) s refl refl refl)) ∙ not-false _ (c .if1 .left))
 
 loop2-holds : tie.Need-loop2-holds Inv-loop μ-loop Inv-loop2 μ-loop2 Inv-loop3 μ-loop3
 unfolding problemOf
 loop2-holds c =
-    let r = c .before .before .before .before .before .before .before .before .before .before .args .t1 in
+    let r = c .before .before .before .before .before .before .before .before .before .before .before .args .t1 in
     let loop = c .before .loop in
     let k : loop .k ≡ 12 = omega arith in
-    let n = staffed (c .before .before .before .before .before .before .before .before .before .before) in
+    let n = staffed (c .before .before .before .before .before .before .before .before .before .before .before) in
     record {
       few = omega arith;
-      ranged = ranged (c .before .before .before .before .before);
-      owned = λ k. c .before .before .domain-digits .ensures (problemOf r) refl (search needs) k ∙ small-domain (problemOf r) (in-range (problemOf r) (ranged (c .before .before .before .before .before))) k;
+      ranged = headed (c .before .before .before .before .before) .1;
+      ruled = headed (c .before .before .before .before .before) .0;
+      owned = λ k. c .before .before .domain-digits .ensures (problemOf r) refl (search needs) k ∙ small-domain (problemOf r) (in-range (problemOf r) (headed (c .before .before .before .before .before) .1)) k;
       links = linking r (loop .listens) (loop .informs) (same k (loop .inv .1) (rw length-map n) (loop .inv .3)) (same k (loop .inv .2) (rw length-map n) (loop .inv .4));
       agents = λ x l u. absurd (omega arith);
     }
@@ -178,34 +187,34 @@ add-i c = search needs
 
 -- the agent looked at, and what was found of it
 
-agent : (c : tie.After-a2 Inv-loop μ-loop Inv-loop2 μ-loop2 Inv-loop3 μ-loop3) → networkOf (c .before .before .before .before .before .before .before .before .before .before .before .before .before .args .t1) .agents (c .before .before .loop2 .i + 1) ≡ agentOf (getD (c .before .before .before .before .before .before .before .before .before .before .before .before .before .args .t1 .agents) (c .before .before .loop2 .i) noAgent)
-agent c = agent-at (c .before .before .before .before .before .before .before .before .before .before .before .before .before .args .t1) (c .before .before .loop2 .i) noAgent (staffed (c .before .before .before .before .before .before .before .before .before .before .before .before .before)) (c .before .loop2-test .taken)
+agent : (c : tie.After-a2 Inv-loop μ-loop Inv-loop2 μ-loop2 Inv-loop3 μ-loop3) → networkOf (c .before .before .before .before .before .before .before .before .before .before .before .before .before .before .args .t1) .agents (c .before .before .loop2 .i + 1) ≡ agentOf (getD (c .before .before .before .before .before .before .before .before .before .before .before .before .before .before .args .t1 .agents) (c .before .before .loop2 .i) noAgent)
+agent c = agent-at (c .before .before .before .before .before .before .before .before .before .before .before .before .before .before .args .t1) (c .before .before .loop2 .i) noAgent (staffed (c .before .before .before .before .before .before .before .before .before .before .before .before .before .before)) (c .before .loop2-test .taken)
 
-blank : (c : tie.After-unused Inv-loop μ-loop Inv-loop2 μ-loop2 Inv-loop3 μ-loop3) → agentPasses (networkOf (c .before .before .before .before .before .before .before .before .before .before .before .before .before .before .before .args .t1)) (c .before .before .before .before .loop2 .i + 1) ≡ c .unused .result
+blank : (c : tie.After-unused Inv-loop μ-loop Inv-loop2 μ-loop2 Inv-loop3 μ-loop3) → agentPasses (networkOf (c .before .before .before .before .before .before .before .before .before .before .before .before .before .before .before .before .args .t1)) (c .before .before .before .before .loop2 .i + 1) ≡ c .unused .result
 unfolding networkOf problemOf
-blank c = passes-beyond (networkOf (c .before .before .before .before .before .before .before .before .before .before .before .before .before .before .before .args .t1)) (c .before .before .before .before .loop2 .i + 1) (c .before .if2 .taken) ∙ ap unused (agent (c .before .before)) ∙ sym (c .unused .ensures)
+blank c = passes-beyond (networkOf (c .before .before .before .before .before .before .before .before .before .before .before .before .before .before .before .before .args .t1)) (c .before .before .before .before .loop2 .i + 1) (c .before .if2 .taken) ∙ ap unused (agent (c .before .before)) ∙ sym (c .unused .ensures)
 
-linked : (c : tie.After-links-in-shape Inv-loop μ-loop Inv-loop2 μ-loop2 Inv-loop3 μ-loop3) → linksInShape (networkOf (c .before .before .before .before .before .before .before .before .before .before .before .before .before .before .before .before .before .before .args .t1)) (c .before .before .before .before .before .before .before .loop2 .i + 1) ≡ c .links-in-shape .result
+linked : (c : tie.After-links-in-shape Inv-loop μ-loop Inv-loop2 μ-loop2 Inv-loop3 μ-loop3) → linksInShape (networkOf (c .before .before .before .before .before .before .before .before .before .before .before .before .before .before .before .before .before .before .before .args .t1)) (c .before .before .before .before .before .before .before .loop2 .i + 1) ≡ c .links-in-shape .result
 unfolding networkOf problemOf agentOf
-linked c = sym (c .links-in-shape .ensures (networkOf (c .before .before .before .before .before .before .before .before .before .before .before .before .before .before .before .before .before .before .args .t1)) refl refl (c .before .before .before .before .before .before .before .loop2 .inv .links .informs) (ap (λ (x : Agent′). x .listens) (agent (c .before .before .before .before .before))))
+linked c = sym (c .links-in-shape .ensures (networkOf (c .before .before .before .before .before .before .before .before .before .before .before .before .before .before .before .before .before .before .before .args .t1)) refl refl (c .before .before .before .before .before .before .before .loop2 .inv .links .informs) (ap (λ (x : Agent′). x .listens) (agent (c .before .before .before .before .before))))
 
-holding : (c : tie.After-holds-in-shape Inv-loop μ-loop Inv-loop2 μ-loop2 Inv-loop3 μ-loop3) → agentPasses (networkOf (c .before .before .before .before .before .before .before .before .before .before .before .before .before .before .before .before .before .before .before .before .args .t1)) (c .before .before .before .before .before .before .before .before .before .loop2 .i + 1) ≡ c .holds-in-shape .result
+holding : (c : tie.After-holds-in-shape Inv-loop μ-loop Inv-loop2 μ-loop2 Inv-loop3 μ-loop3) → agentPasses (networkOf (c .before .before .before .before .before .before .before .before .before .before .before .before .before .before .before .before .before .before .before .before .before .args .t1)) (c .before .before .before .before .before .before .before .before .before .loop2 .i + 1) ≡ c .holds-in-shape .result
 unfolding networkOf problemOf
 holding c =
-    passes-within (networkOf (c .before .before .before .before .before .before .before .before .before .before .before .before .before .before .before .before .before .before .before .before .args .t1)) (c .before .before .before .before .before .before .before .before .before .loop2 .i + 1) (omega (arith, c .before .before .before .before .before .before .if2 .left))
-    ∙ rw (linked (c .before .before) ∙ not-false _ (c .before .if4 .left)) (sym (c .holds-in-shape .ensures (networkOf (c .before .before .before .before .before .before .before .before .before .before .before .before .before .before .before .before .before .before .before .before .args .t1)) refl (c .before .before .before .before .before .before .before .before .before .loop2 .inv .owned) (agent (c .before .before .before .before .before .before .before))))
+    passes-within (networkOf (c .before .before .before .before .before .before .before .before .before .before .before .before .before .before .before .before .before .before .before .before .before .args .t1)) (c .before .before .before .before .before .before .before .before .before .loop2 .i + 1) (omega (arith, c .before .before .before .before .before .before .if2 .left))
+    ∙ rw (linked (c .before .before) ∙ not-false _ (c .before .if4 .left)) (sym (c .holds-in-shape .ensures (networkOf (c .before .before .before .before .before .before .before .before .before .before .before .before .before .before .before .before .before .before .before .before .before .args .t1)) refl (c .before .before .before .before .before .before .before .before .before .loop2 .inv .owned) (agent (c .before .before .before .before .before .before .before))))
 
 unused-requires : tie.Need-unused-requires Inv-loop μ-loop Inv-loop2 μ-loop2 Inv-loop3 μ-loop3
 unused-requires c κs = search needs
 
 returns-2 : tie.Need-returns-2 Inv-loop μ-loop Inv-loop2 μ-loop2 Inv-loop3 μ-loop3
-returns-2 c = sym (agent-unfit (c .before .before .before .before .before .before .before .before .before .before .before .before .before .before .before .before .args .t1) _ _ _ (c .before .before .before .before .before .loop2 .i) (c .before .before .before .before .before .loop2 .inv) (c .before .before .before .before .loop2-test .taken) (blank (c .before) ∙ not-true _ (c .if3 .taken)))
+returns-2 c = sym (agent-unfit (c .before .before .before .before .before .before .before .before .before .before .before .before .before .before .before .before .before .args .t1) _ _ _ (c .before .before .before .before .before .loop2 .i) (c .before .before .before .before .before .loop2 .inv) (c .before .before .before .before .loop2-test .taken) (blank (c .before) ∙ not-true _ (c .if3 .taken)))
 
 loop2-less : tie.Need-loop2-less Inv-loop μ-loop Inv-loop2 μ-loop2 Inv-loop3 μ-loop3
 loop2-less c = search needs
 
 loop2-again : tie.Need-loop2-again Inv-loop μ-loop Inv-loop2 μ-loop2 Inv-loop3 μ-loop3
-loop2-again c = agent-passed (c .before .before .before .before .before .before .before .before .before .before .before .before .before .before .before .before .args .t1) _ _ _ (c .before .before .before .before .before .loop2 .i) (c .before .before .before .before .before .loop2 .inv) (c .before .before .before .before .loop2-test .taken) (blank (c .before) ∙ not-false _ (c .if3 .left))
+loop2-again c = agent-passed (c .before .before .before .before .before .before .before .before .before .before .before .before .before .before .before .before .before .args .t1) _ _ _ (c .before .before .before .before .before .loop2 .i) (c .before .before .before .before .before .loop2 .inv) (c .before .before .before .before .loop2-test .taken) (blank (c .before) ∙ not-false _ (c .if3 .left))
 
 links-in-shape-requires : tie.Need-links-in-shape-requires Inv-loop μ-loop Inv-loop2 μ-loop2 Inv-loop3 μ-loop3
 links-in-shape-requires c κs = search needs
@@ -213,24 +222,24 @@ links-in-shape-requires c κs = search needs
 returns-3 : tie.Need-returns-3 Inv-loop μ-loop Inv-loop2 μ-loop2 Inv-loop3 μ-loop3
 unfolding networkOf problemOf
 returns-3 c =
-    sym (agent-unfit (c .before .before .before .before .before .before .before .before .before .before .before .before .before .before .before .before .before .before .before .args .t1) _ _ _ (c .before .before .before .before .before .before .before .before .loop2 .i) (c .before .before .before .before .before .before .before .before .loop2 .inv) (c .before .before .before .before .before .before .before .loop2-test .taken)
-    (passes-within (networkOf (c .before .before .before .before .before .before .before .before .before .before .before .before .before .before .before .before .before .before .before .args .t1)) (c .before .before .before .before .before .before .before .before .loop2 .i + 1) (omega (arith, c .before .before .before .before .before .if2 .left)) ∙ rw (linked (c .before) ∙ not-true _ (c .if4 .taken))))
+    sym (agent-unfit (c .before .before .before .before .before .before .before .before .before .before .before .before .before .before .before .before .before .before .before .before .args .t1) _ _ _ (c .before .before .before .before .before .before .before .before .loop2 .i) (c .before .before .before .before .before .before .before .before .loop2 .inv) (c .before .before .before .before .before .before .before .loop2-test .taken)
+    (passes-within (networkOf (c .before .before .before .before .before .before .before .before .before .before .before .before .before .before .before .before .before .before .before .before .args .t1)) (c .before .before .before .before .before .before .before .before .loop2 .i + 1) (omega (arith, c .before .before .before .before .before .if2 .left)) ∙ rw (linked (c .before) ∙ not-true _ (c .if4 .taken))))
 
 holds-in-shape-requires : tie.Need-holds-in-shape-requires Inv-loop μ-loop Inv-loop2 μ-loop2 Inv-loop3 μ-loop3
 holds-in-shape-requires c κs = search needs
 
 returns-4 : tie.Need-returns-4 Inv-loop μ-loop Inv-loop2 μ-loop2 Inv-loop3 μ-loop3
-returns-4 c = sym (agent-unfit (c .before .before .before .before .before .before .before .before .before .before .before .before .before .before .before .before .before .before .before .before .before .args .t1) _ _ _ (c .before .before .before .before .before .before .before .before .before .before .loop2 .i) (c .before .before .before .before .before .before .before .before .before .before .loop2 .inv) (c .before .before .before .before .before .before .before .before .before .loop2-test .taken) (holding (c .before) ∙ not-true _ (c .if5 .taken)))
+returns-4 c = sym (agent-unfit (c .before .before .before .before .before .before .before .before .before .before .before .before .before .before .before .before .before .before .before .before .before .before .args .t1) _ _ _ (c .before .before .before .before .before .before .before .before .before .before .loop2 .i) (c .before .before .before .before .before .before .before .before .before .before .loop2 .inv) (c .before .before .before .before .before .before .before .before .before .loop2-test .taken) (holding (c .before) ∙ not-true _ (c .if5 .taken)))
 
 loop2-less-2 : tie.Need-loop2-less-2 Inv-loop μ-loop Inv-loop2 μ-loop2 Inv-loop3 μ-loop3
 loop2-less-2 c = search needs
 
 loop2-again-2 : tie.Need-loop2-again-2 Inv-loop μ-loop Inv-loop2 μ-loop2 Inv-loop3 μ-loop3
-loop2-again-2 c = agent-passed (c .before .before .before .before .before .before .before .before .before .before .before .before .before .before .before .before .before .before .before .before .before .args .t1) _ _ _ (c .before .before .before .before .before .before .before .before .before .before .loop2 .i) (c .before .before .before .before .before .before .before .before .before .before .loop2 .inv) (c .before .before .before .before .before .before .before .before .before .loop2-test .taken) (holding (c .before) ∙ not-false _ (c .if5 .left))
+loop2-again-2 c = agent-passed (c .before .before .before .before .before .before .before .before .before .before .before .before .before .before .before .before .before .before .before .before .before .before .args .t1) _ _ _ (c .before .before .before .before .before .before .before .before .before .before .loop2 .i) (c .before .before .before .before .before .before .before .before .before .before .loop2 .inv) (c .before .before .before .before .before .before .before .before .before .loop2-test .taken) (holding (c .before) ∙ not-false _ (c .if5 .left))
 
 loop3-holds : tie.Need-loop3-holds Inv-loop μ-loop Inv-loop2 μ-loop2 Inv-loop3 μ-loop3
 loop3-holds c =
-    let r = c .before .before .before .before .before .before .before .before .before .before .before .before .args .t1 in
+    let r = c .before .before .before .before .before .before .before .before .before .before .before .before .before .args .t1 in
     let loop = c .before .loop2 in
     (record { owned = loop .inv .owned; rest = agents-passed r _ _ _ (loop .i) (loop .inv) (omega arith); sets = loop .inv .links .listens }, beginning r)
 
@@ -275,19 +284,19 @@ message-fits-requires : tie.Need-message-fits-requires Inv-loop μ-loop Inv-loop
 message-fits-requires c κs = let b = ends _ _ (line (c .before .before .before .before .before .before)) in (b .from-low, b .from-high, b .to-low, b .to-high)
 
 -- that message is the one that the test of the channel asks for
-looked : (c : tie.After-message-fits Inv-loop μ-loop Inv-loop2 μ-loop2 Inv-loop3 μ-loop3) → messageFits (networkOf (c .before .before .before .before .before .before .before .before .before .before .before .before .before .before .before .before .before .before .before .before .before .args .t1)) (c .before .before .before .before .before .before .before .before .loop3 .i) (c .before .before .before .before .before .before .before .before .loop3 .j) (lastLeft (c .before .before .before .before .before .before .before .before .before .before .before .before .before .before .before .before .before .before .before .before .before .args .t1) (c .before .before .before .before .before .before .before .before .loop3 .i) (c .before .before .before .before .before .before .before .before .loop3 .j) (c .before .before .before .before .before .before .before .before .loop3 .left)) ≡ c .message-fits .result
+looked : (c : tie.After-message-fits Inv-loop μ-loop Inv-loop2 μ-loop2 Inv-loop3 μ-loop3) → messageFits (networkOf (c .before .before .before .before .before .before .before .before .before .before .before .before .before .before .before .before .before .before .before .before .before .before .args .t1)) (c .before .before .before .before .before .before .before .before .loop3 .i) (c .before .before .before .before .before .before .before .before .loop3 .j) (lastLeft (c .before .before .before .before .before .before .before .before .before .before .before .before .before .before .before .before .before .before .before .before .before .before .args .t1) (c .before .before .before .before .before .before .before .before .loop3 .i) (c .before .before .before .before .before .before .before .before .loop3 .j) (c .before .before .before .before .before .before .before .before .loop3 .left)) ≡ c .message-fits .result
 unfolding networkOf problemOf placeOf lastLeft
 looked c =
-    let r = c .before .before .before .before .before .before .before .before .before .before .before .before .before .before .before .before .before .before .before .before .before .args .t1 in
+    let r = c .before .before .before .before .before .before .before .before .before .before .before .before .before .before .before .before .before .before .before .before .before .before .args .t1 in
     let loop = c .before .before .before .before .before .before .before .before .loop3 in
     let t6 = c .before .before .before .before .before .before .before in
     ap (λ (p : Place). messageFits (networkOf r) (loop .i) (loop .j) (placeOf p))
-    (message-at r (loop .i) (loop .j) (c .before .before .before .before .before .digit .result) (c .before .before .before .before .channel-at .result) (c .before .before .before .place-at .result) (loop .left - 1) noMessage (placed (c .before .before .before .before .before .before .before .before .before .before .before .before .before .before .before .before .before .before .before .before .before)) (ends _ _ (line t6) .from-low) (c .before .before .before .before .before .digit .ensures .0) (c .before .before .before .before .channel-at .ensures .0) (c .before .before .before .place-at .ensures))
+    (message-at r (loop .i) (loop .j) (c .before .before .before .before .before .digit .result) (c .before .before .before .before .channel-at .result) (c .before .before .before .place-at .result) (loop .left - 1) noMessage (placed (c .before .before .before .before .before .before .before .before .before .before .before .before .before .before .before .before .before .before .before .before .before .before)) (ends _ _ (line t6) .from-low) (c .before .before .before .before .before .digit .ensures .0) (c .before .before .before .before .channel-at .ensures .0) (c .before .before .before .place-at .ensures))
     ∙ sym (c .message-fits .ensures (networkOf r) (loop .inv .0 .owned) (loop .inv .0 .sets))
 
 returns-5 : tie.Need-returns-5 Inv-loop μ-loop Inv-loop2 μ-loop2 Inv-loop3 μ-loop3
 returns-5 c =
-    let r = c .before .before .before .before .before .before .before .before .before .before .before .before .before .before .before .before .before .before .before .before .before .before .args .t1 in
+    let r = c .before .before .before .before .before .before .before .before .before .before .before .before .before .before .before .before .before .before .before .before .before .before .before .args .t1 in
     let loop = c .before .before .before .before .before .before .before .before .before .loop3 in
     sym (loop .inv .0 .rest
     ∙ one-unfit r (loop .i) (loop .j) (line (c .before .before .before .before .before .before .before .before))
@@ -298,7 +307,7 @@ loop3-less c = omega (arith, waiting (c .before .before .before .before .before 
 
 loop3-again : tie.Need-loop3-again Inv-loop μ-loop Inv-loop2 μ-loop2 Inv-loop3 μ-loop3
 loop3-again c =
-    let r = c .before .before .before .before .before .before .before .before .before .before .before .before .before .before .before .before .before .before .before .before .before .before .args .t1 in
+    let r = c .before .before .before .before .before .before .before .before .before .before .before .before .before .before .before .before .before .before .before .before .before .before .before .args .t1 in
     let loop = c .before .before .before .before .before .before .before .before .before .loop3 in
     (loop .inv .0, message-passed r (loop .i) (loop .rest) (loop .j) (loop .left) (loop .inv .1) (waiting (c .before .before .before .before .before .before .before .before)) (looked (c .before) ∙ not-false _ (c .if7 .left)))
 
@@ -310,7 +319,7 @@ digit-requires-2 c κs = (c .first-digit .ensures .2, c .first-digit .ensures .3
 
 returns-6 : tie.Need-returns-6 Inv-loop μ-loop Inv-loop2 μ-loop2 Inv-loop3 μ-loop3
 returns-6 c =
-    let r = c .before .before .before .before .before .before .before .before .before .before .before .before .before .before .before .before .before .before .args .t1 in
+    let r = c .before .before .before .before .before .before .before .before .before .before .before .before .before .before .before .before .before .before .before .args .t1 in
     let loop = c .before .before .before .before .before .loop3 in
     let k = c .before .before .first-digit .result in
     let h = known-true (assignment (loop .rest) k) (c .before .before .first-digit .ensures .1) in
@@ -328,7 +337,7 @@ loop3-less-2 c =
 
 loop3-again-2 : tie.Need-loop3-again-2 Inv-loop μ-loop Inv-loop2 μ-loop2 Inv-loop3 μ-loop3
 loop3-again-2 c =
-    let r = c .before .before .before .before .before .before .before .before .before .before .before .before .before .before .before .before .before .before .before .args .t1 in
+    let r = c .before .before .before .before .before .before .before .before .before .before .before .before .before .before .before .before .before .before .before .before .args .t1 in
     let loop = c .before .before .before .before .before .before .loop3 in
     let k = c .before .before .before .first-digit .result in
     let h = known-true (assignment (loop .rest) k) (c .before .before .before .first-digit .ensures .1) in
@@ -361,12 +370,12 @@ loop3-less-3 c = omega (arith, naming-few (c .lines-of .result), c .before .befo
 loop3-again-3 : tie.Need-loop3-again-3 Inv-loop μ-loop Inv-loop2 μ-loop2 Inv-loop3 μ-loop3
 loop3-again-3 c =
     let loop = c .before .before .before .before .before .loop3 in
-    (loop .inv .0, sender-next (c .before .before .before .before .before .before .before .before .before .before .before .before .before .before .before .before .before .before .args .t1) (loop .i) (loop .rest) (loop .j) (loop .left) (loop .inv .1) (c .before .before .before .before .if6 .left) (c .before .before .before .if8 .left) (c .lines-of .result) (c .before .before .if10 .taken) (c .lines-of .ensures))
+    (loop .inv .0, sender-next (c .before .before .before .before .before .before .before .before .before .before .before .before .before .before .before .before .before .before .before .args .t1) (loop .i) (loop .rest) (loop .j) (loop .left) (loop .inv .1) (c .before .before .before .before .if6 .left) (c .before .before .before .if8 .left) (c .lines-of .result) (c .before .before .if10 .taken) (c .lines-of .ensures))
 
 returns-7 : tie.Need-returns-7 Inv-loop μ-loop Inv-loop2 μ-loop2 Inv-loop3 μ-loop3
 returns-7 c =
     let loop = c .before .before .before .loop3 in
-    sym (loop .inv .0 .rest ∙ swept (c .before .before .before .before .before .before .before .before .before .before .before .before .before .before .before .before .args .t1) (loop .i) (loop .rest) (loop .j) (loop .left) (loop .inv .1) (c .before .before .if6 .left) (c .before .if8 .left) (c .if10 .left))
+    sym (loop .inv .0 .rest ∙ swept (c .before .before .before .before .before .before .before .before .before .before .before .before .before .before .before .before .before .args .t1) (loop .i) (loop .rest) (loop .j) (loop .left) (loop .inv .1) (c .before .before .if6 .left) (c .before .if8 .left) (c .if10 .left))
 
 pub in-shape-spec : {M : Type 1} → statement M
 in-shape-spec =
@@ -378,6 +387,7 @@ in-shape-spec =
     μ-loop2
     Inv-loop3
     μ-loop3
+    is-rule-requires
     in-range-requires
     returns
     domain-digits-requires

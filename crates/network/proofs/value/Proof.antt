@@ -54,7 +54,7 @@ returns-4 c =
     let k = c .before .before .before .before .before in
     let r = k .args .t1 in
     let e : inShape (networkOf r) ≡ true = sym (c .before .before .before .before .in-shape .ensures) ∙ not-false _ (c .before .before .before .if1 .left) in
-    let n : length (r .agents) ≡ 12 = simp length-map at (k .good .0 .1 .1 .1 .1 .1 .1 .0 .1 .0 .1) in
+    let n : length (r .agents) ≡ 12 = simp length-map at (k .good .0 .1 .1 .1 .1 .1 .1 .1 .0 .1 .0 .1) in
     let m : r .count ≤ 12 = shape-count (networkOf r) e in
     rw (ask-agent (networkOf r) (k .args .i) e (to-within (r .count) (k .args .i) (omega arith) (omega arith)))
     (refl, value-at r (k .args .i) _ n (omega arith) (omega arith))

@@ -1,15 +1,17 @@
--- Agent by agent, the network is the start as far as they have begun; within one, as far as its Infos are stored. A refused sheet's problem has no
--- agents, so that the network stays the one before anybody has begun.
-use mathlib.Core.Path.{_≡_, refl, ap, _∙_}
+-- Agent by agent, the network is the start as far as they have begun; within one, as far as its Infos are stored. What is refused has no agents, so
+-- that the network stays the one before anybody has begun.
+use mathlib.Core.Path.{_≡_, refl, ap, ap₂, _∙_}
+use mathlib.Core.Logic.{⊎-elim}
 use mathlib.Core.Bool.{true}
 use mathlib.Core.List.{List}
 use Prim.Native.Nat.{ℕ, suc, _+_, _*_, _-_, _≤_, _<_}
 use native.Mathlib.Omega.{arith}
 use native.Mathlib.Numerals.{add-one}
 use borrow.Author.Needs.{needs}
+use borrow.Author.Tests.{eq-eqb, ne-eqb}
 use Rattle.problem.specs.Problem.{Problem, maxAgents, maxDomain, maxPairs, noBans, emptyProblem, domain}
 use Rattle.problem.proofs.Range.{linked-pair}
-use Rattle.protocol.specs.Network.{selfOf, bansOf, begun}
+use Rattle.protocol.specs.Network.{selfOf, bansOf, begun, start}
 use Rattle.packed.specs.Packed.{members}
 use Rattle.agent.specs.Abstract.{messageOf, selfOf as ownOf}
 use Rattle.agent.specs.Entries.{BeginsAs}
@@ -21,7 +23,7 @@ use Rattle.start.proofs.Telling.{Telling, telling-begins, telling-goes}
 use Rattle.start.proofs.Beginning.{begun-by, informs-below}
 use Rattle.start.proofs.Turns.{Opening, not-begun, none-begun, told-channel, one-more}
 use Rattle.start.proofs.Opened.{opened, all-opened}
-use Rattle.start.proofs.Sheets.{number-known, network-known, refused-empty, problem-ranged, few-agents}
+use Rattle.start.proofs.Sheets.{keptRule, number-known, network-known, refused-empty, problem-ranged, few-agents}
 use Rattle.start.proofs.start.Statement.{statement}
 use Rattle.start.proofs.start.Tie as tie
 
@@ -29,19 +31,19 @@ abbrev problem : ℕ → List ℕ → List ℕ → Problem
 problem n domains bans = record { count = n; domains = domains; bans = bans }
 
 abbrev Inv-loop2 : tie.InvT-loop2
-Inv-loop2 sheet d n domains bans r₀ i at value row₀ told₀ r row told = Telling i value told₀ r₀ r row told
+Inv-loop2 rule sheet d kept n domains bans r₀ i at value row₀ told₀ r row told = Telling i value told₀ r₀ r row told
 
 abbrev μ-loop2 : tie.MeasureT-loop2
-μ-loop2 sheet d n domains bans r₀ i at value row₀ told₀ r row told = told
+μ-loop2 rule sheet d kept n domains bans r₀ i at value row₀ told₀ r row told = told
 
 abbrev Inv-loop : tie.InvT-loop
-Inv-loop sheet d n domains bans r₀ i₀ r i = (i ≤ n) × Opening (problem n domains bans) i r × (i ≡ 0 → r ≡ r₀)
+Inv-loop rule sheet d kept n domains bans r₀ i₀ r i = (i ≤ n) × Opening kept (problem n domains bans) i r × (i ≡ 0 → r ≡ r₀)
 
 abbrev μ-loop : tie.MeasureT-loop
-μ-loop sheet d n domains bans r₀ i₀ r i = n - i
+μ-loop rule sheet d kept n domains bans r₀ i₀ r i = n - i
 
-decode-requires : tie.Need-decode-requires Inv-loop2 μ-loop2 Inv-loop μ-loop
-decode-requires c κs = search needs
+given-requires : tie.Need-given-requires Inv-loop2 μ-loop2 Inv-loop μ-loop
+given-requires c κs = search needs
 
 nobody-requires : tie.Need-nobody-requires Inv-loop2 μ-loop2 Inv-loop μ-loop
 nobody-requires c κs = search needs
@@ -50,7 +52,7 @@ nothing-requires : tie.Need-nothing-requires Inv-loop2 μ-loop2 Inv-loop μ-loop
 nothing-requires c κs = search needs
 
 loop-holds : tie.Need-loop-holds Inv-loop2 μ-loop2 Inv-loop μ-loop
-loop-holds c = (omega arith, none-begun (problem _ _ _) _ (not-begun _ _ _ _ _ (c .before .nobody .ensures) (c .nothing .ensures)), λ _. refl)
+loop-holds c = (omega arith, none-begun _ (problem _ _ _) _ (not-begun _ _ _ _ _ _ (c .before .nobody .ensures) (c .nothing .ensures)), λ _. refl)
 
 cast-at : tie.Need-cast-at Inv-loop2 μ-loop2 Inv-loop μ-loop
 cast-at c = search needs
@@ -59,14 +61,14 @@ cast-at c = search needs
 few : (c : tie.In-loop Inv-loop2 μ-loop2 Inv-loop μ-loop) → c .before .loop .i < 12
 unfolding outcomeOf problemOf
 few c =
-    let d = c .before .before .before .before .before .before .before .decode in
-    few-agents _ (outcomeOf (d .result)) (d .ensures .0) _ (c .loop-test .taken)
+    let d = c .before .before .before .before .before .before .before .before .before .given in
+    few-agents _ _ (outcomeOf (d .result)) (d .ensures) _ (c .loop-test .taken)
 
 add-i : tie.Need-add-i Inv-loop2 μ-loop2 Inv-loop μ-loop
 add-i c = search needs
 
-array-read-t27 : tie.Need-array-read-t27 Inv-loop2 μ-loop2 Inv-loop μ-loop
-array-read-t27 c = few c
+array-read-t30 : tie.Need-array-read-t30 Inv-loop2 μ-loop2 Inv-loop μ-loop
+array-read-t30 c = few c
 
 listens-requires : tie.Need-listens-requires Inv-loop2 μ-loop2 Inv-loop μ-loop
 listens-requires c κs = (omega arith, omega (arith, few (c .before)))
@@ -77,10 +79,10 @@ informs-requires c κs = (omega arith, omega (arith, few (c .before .before .bef
 begin-requires : tie.Need-begin-requires Inv-loop2 μ-loop2 Inv-loop μ-loop
 unfolding maxDomain problemOf outcomeOf domain
 begin-requires c κs =
-    let d = c .before .before .before .before .before .before .before .before .before .before .before .decode in
+    let d = c .before .before .before .before .before .before .before .before .before .before .before .before .before .given in
     let p = problemOf (d .result .problem) in
     let i = c .before .before .before .before .before .loop .i in
-    let r = problem-ranged _ (outcomeOf (d .result)) (d .ensures .0) i (c .before .before .before .before .loop-test .taken) in
+    let r = problem-ranged _ _ (outcomeOf (d .result)) (d .ensures) i (c .before .before .before .before .loop-test .taken) in
     let v = r .domained (suc i) (omega arith) (omega (arith, c .before .before .before .before .loop-test .taken)) in (
       record { first = omega arith; last = omega (arith, few (c .before .before .before .before)); some = v .0; few = v .1 },
       λ j l u e. let q = linked-pair p (i + 1) j (rw (c .informs .ensures p refl) at e) in (q .1, q .2),
@@ -89,22 +91,22 @@ begin-requires c κs =
 -- its step is the definition's, and those it informs are below
 begins : (c : tie.After-begin Inv-loop2 μ-loop2 Inv-loop μ-loop)
     → BeginsAs (c .begin .result)
-    (begun (problemOf (c .before .before .before .before .before .before .before .before .before .before .before .before .decode .result .problem)) (suc (c .before .before .before .before .before .before .loop .i)))
+    (begun (c .before .before .before .before .before .before .before .before .before .before .before .before .if1 .kept) (problemOf (c .before .before .before .before .before .before .before .before .before .before .before .before .before .before .given .result .problem)) (suc (c .before .before .before .before .before .before .loop .i)))
 unfolding ownOf selfOf problemOf domain
 begins c =
-    let p = problemOf (c .before .before .before .before .before .before .before .before .before .before .before .before .decode .result .problem) in
+    let p = problemOf (c .before .before .before .before .before .before .before .before .before .before .before .before .before .before .given .result .problem) in
     let i = c .before .before .before .before .before .before .loop .i in
-    begun-by p (suc i) _ _ _ _ (c .begin .ensures (bansOf p (suc i))) (rw add-one refl)
+    begun-by _ p (suc i) _ _ _ _ (c .begin .ensures (bansOf p (suc i))) (rw add-one refl)
     (rw add-one at (c .before .before .before .listens .ensures p refl)) (rw add-one at (c .before .informs .ensures p refl))
 
 below : (c : tie.After-begin Inv-loop2 μ-loop2 Inv-loop μ-loop) (j : ℕ) → members (c .begin .result .informs) j ≡ true
     → (suc (c .before .before .before .before .before .before .loop .i) < j) × (j ≤ 12)
 unfolding problemOf outcomeOf
 below c =
-    let d = c .before .before .before .before .before .before .before .before .before .before .before .before .decode in
+    let d = c .before .before .before .before .before .before .before .before .before .before .before .before .before .before .given in
     let i = c .before .before .before .before .before .before .loop .i in
     let t = c .before .before .before .before .before .loop-test .taken in
-    informs-below (problemOf (d .result .problem)) (suc i) _ (problem-ranged _ (outcomeOf (d .result)) (d .ensures .0) i t) (omega arith) t (begins c)
+    informs-below _ (problemOf (d .result .problem)) (suc i) _ (problem-ranged _ _ (outcomeOf (d .result)) (d .ensures) i t) (omega arith) t (begins c)
 
 mul-agent : tie.Need-mul-agent Inv-loop2 μ-loop2 Inv-loop μ-loop
 mul-agent c = omega (arith, few (c .before .before .before .before .before))
@@ -130,8 +132,8 @@ channel-at-requires c κs = informed c
 place-at-requires : tie.Need-place-at-requires Inv-loop2 μ-loop2 Inv-loop μ-loop
 place-at-requires c κs = (c .channel-at .ensures .1, omega arith, omega arith)
 
-mul-t40 : tie.Need-mul-t40 Inv-loop2 μ-loop2 Inv-loop μ-loop
-mul-t40 c = omega (arith, c .place-at .ensures .1)
+mul-t43 : tie.Need-mul-t43 Inv-loop2 μ-loop2 Inv-loop μ-loop
+mul-t43 c = omega (arith, c .place-at .ensures .1)
 
 element-set-from-r : tie.Need-element-set-from-r Inv-loop2 μ-loop2 Inv-loop μ-loop
 element-set-from-r c = c .place-at .ensures .1
@@ -174,26 +176,35 @@ loop-again c =
     let h = t .before .before .before .before .before .before .loop in (
       omega arith,
       rw add-one
-          (one-more _ (h .i) _ (h .inv .1) (few (t .before .before .before .before .before)) (t .begin .result) (begins t) (below t) _ _ _
+          (one-more _ _ (h .i) _ (h .inv .1) (few (t .before .before .before .before .before)) (t .begin .result) (begins t) (below t) _ _ _
           (rw add-one at (c .before .loop2 .inv)) (omega arith)),
       λ e. absurd (omega arith),
     )
 
+-- the network's rule
+kept-rule : (c : tie.Joined1 Inv-loop2 μ-loop2 Inv-loop μ-loop)
+    → c .if1 .kept ≡ keptRule (c .before .before .given .result .number) (c .before .before .before .before .args .rule)
+kept-rule c =
+    ⊎-elim (λ u. u .1 ∙ rw (eq-eqb _ 0 (u .0 .taken))) (λ u. u .1 ∙ rw (ne-eqb _ 0 (u .0 .left))) (c .if1 .came)
+
 returns : tie.Need-returns Inv-loop2 μ-loop2 Inv-loop μ-loop
 unfolding problemOf outcomeOf unbegun emptyRecord emptyProblem noBans maxAgents maxPairs
 returns c =
-    let d = c .before .before .before .before .before .before .before .decode in
+    let j = c .before .before .before .before .before .before .before in
+    let d = j .before .before .given in
     let p = problemOf (d .result .problem) in
     let h = c .before .loop in
     let e : h .i ≡ p .count = omega arith in
     record {
-      number = number-known _ (outcomeOf (d .result)) (d .ensures .0);
-      network = h .inv .1 .network ∙ ap (opened p) e ∙ all-opened p ∙ network-known _ (outcomeOf (d .result)) (d .ensures .0);
+      number = number-known _ _ (outcomeOf (d .result)) (d .ensures);
+      network =
+          h .inv .1 .network ∙ ap (opened _ p) e ∙ all-opened _ p
+          ∙ ap (λ (rule : ℕ). start rule p) (kept-rule j) ∙ network-known _ _ (outcomeOf (d .result)) (d .ensures);
       refused = λ n.
-          let q = refused-empty _ (outcomeOf (d .result)) (d .ensures .0) n in
+          let q = refused-empty _ _ (outcomeOf (d .result)) (d .ensures) n in
           h .inv .2 (e ∙ ap (λ (x : Problem). x .count) q)
-          ∙ not-begun _ _ _ _ _ (c .before .before .before .nobody .ensures) (c .before .before .nothing .ensures)
-          ∙ ap (λ (x : Problem). unbegun (x .count) (x .domains) (x .bans)) q;
+          ∙ not-begun _ _ _ _ _ _ (c .before .before .before .nobody .ensures) (c .before .before .nothing .ensures)
+          ∙ ap₂ (λ (rule : ℕ) (x : Problem). unbegun rule (x .count) (x .domains) (x .bans)) (kept-rule j ∙ rw (ne-eqb _ 0 n)) q;
     }
 
 pub start-spec : {M : Type 1} → statement M
@@ -204,13 +215,13 @@ start-spec =
     μ-loop2
     Inv-loop
     μ-loop
-    decode-requires
+    given-requires
     nobody-requires
     nothing-requires
     loop-holds
     cast-at
     add-i
-    array-read-t27
+    array-read-t30
     listens-requires
     informs-requires
     begin-requires
@@ -220,7 +231,7 @@ start-spec =
     first-requires
     channel-at-requires
     place-at-requires
-    mul-t40
+    mul-t43
     element-set-from-r
     with-digit-requires
     without-requires

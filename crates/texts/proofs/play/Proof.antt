@@ -14,6 +14,9 @@ abbrev μ-loop : tie.MeasureT-loop
 blank-requires : tie.Need-blank-requires Inv-loop μ-loop
 blank-requires c κs = search needs
 
+no-options-requires : tie.Need-no-options-requires Inv-loop μ-loop
+no-options-requires c κs = search needs
+
 empty-requires : tie.Need-empty-requires Inv-loop μ-loop
 empty-requires c κs = search needs
 
@@ -60,6 +63,7 @@ play-spec =
     Inv-loop
     μ-loop
     blank-requires
+    no-options-requires
     empty-requires
     new-requires
     loop-holds

@@ -87,7 +87,7 @@ telling-requires : tie.Need-telling-requires
 telling-requires c κs = search needs
 
 settle-requires : tie.Need-settle-requires
-settle-requires c κs = let t = taken (c .before .before .before .before .before) in (c .before .before .before .before .before .before .before .before .before .before .before .pre .0 .fits, (t .sound, (refl, t .links)))
+settle-requires c κs = let t = taken (c .before .before .before .before .before) in (c .before .before .before .before .before .before .before .before .before .before .before .pre .0 .fits, (t .sound, (refl, (t .links, t .refuser))))
 
 -- what is left to do, done
 settled : (c : tie.Joined1)

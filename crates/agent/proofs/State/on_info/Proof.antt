@@ -97,6 +97,7 @@ taken : (c : tie.After-bars2) (stored : ℕ)
       state =
           record {
             value = c .before .before .before .before .before .before .before .before .before .args .self .value;
+            last = c .before .before .before .before .before .before .before .before .before .args .self .last;
             stored = stored;
             listens = c .before .before .before .before .before .before .before .before .before .args .self .listens;
             informs = c .before .before .before .before .before .before .before .before .before .args .self .informs;
@@ -105,6 +106,7 @@ taken : (c : tie.After-bars2) (stored : ℕ)
           };
       chooses = c .bars2 .result;
       links = 0;
+      refuser = 0;
       told = 0;
     }
     (c .before .before .before .before .before .before .before .before .before .args .nogoods .now)

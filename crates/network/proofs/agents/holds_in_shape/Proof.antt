@@ -8,7 +8,7 @@ use native.Mathlib.Omega.{arith}
 use borrow.Author.Tests.{not-true, not-false}
 use Rattle.agent_rules.specs.Counts.{Sort, Infos, Backs, AddLinks, top}
 use Rattle.agent_rules.specs.Agent.{Agent as Agent′}
-use Rattle.protocol.specs.Shape.{holdsValue, viewListened}
+use Rattle.protocol.specs.Shape.{holdsValue, lastFits, viewListened}
 use Rattle.agent.specs.Abstract.{countOf, agentOf}
 use Rattle.network.specs.Parts.{holdsInShape}
 use Rattle.network.proofs.Clauses.{counts-fit}
@@ -36,8 +36,8 @@ returns c =
     let value : holdsValue w (c .before .before .before .before .args .i) ≡ false = sym (c .before .holds-value .ensures w (c .before .before .before .before .args .i) b own (ap (λ (x : Agent′). x .value) e)) ∙ not-true _ (c .if1 .taken) in
     rw value
 
-view-listened-requires : tie.Need-view-listened-requires
-view-listened-requires c κs = search needs
+last-fits-requires : tie.Need-last-fits-requires
+last-fits-requires c κs = search needs
 
 returns-2 : tie.Need-returns-2
 unfolding agentOf holdsInShape
@@ -45,21 +45,35 @@ returns-2 c =
     λ w b o e.
     let own = sym (o (c .before .before .before .before .before .before .args .i)) ∙ sym (c .before .before .before .before .before .digit .ensures .0) in
     let value : holdsValue w (c .before .before .before .before .before .before .args .i) ≡ true = sym (c .before .before .before .holds-value .ensures w (c .before .before .before .before .before .before .args .i) b own (ap (λ (x : Agent′). x .value) e)) ∙ not-false _ (c .before .before .if1 .left) in
-    let view : viewListened w (c .before .before .before .before .before .before .args .i) ≡ false = sym (c .before .view-listened .ensures w (c .before .before .before .before .before .before .args .i) o (ap (λ (x : Agent′). x .listens) e) (ap (λ (x : Agent′). x .view) e)) ∙ not-true _ (c .if2 .taken) in
-    rw (value, view)
+    let last : lastFits w (c .before .before .before .before .before .before .args .i) ≡ false = sym (c .before .last-fits .ensures w (c .before .before .before .before .before .before .args .i) own (ap (λ (x : Agent′). x .value) e) (ap (λ (x : Agent′). x .last) e)) ∙ not-true _ (c .if2 .taken) in
+    rw (value, last)
 
-nogoods-fit-requires : tie.Need-nogoods-fit-requires
-nogoods-fit-requires c κs = search needs
+view-listened-requires : tie.Need-view-listened-requires
+view-listened-requires c κs = search needs
 
 returns-3 : tie.Need-returns-3
 unfolding agentOf holdsInShape
 returns-3 c =
     λ w b o e.
-    let own = sym (o (c .before .before .before .before .before .before .before .args .i)) ∙ sym (c .before .before .before .before .before .before .digit .ensures .0) in
-    let value : holdsValue w (c .before .before .before .before .before .before .before .args .i) ≡ true = sym (c .before .before .before .before .holds-value .ensures w (c .before .before .before .before .before .before .before .args .i) b own (ap (λ (x : Agent′). x .value) e)) ∙ not-false _ (c .before .before .before .if1 .left) in
-    let view : viewListened w (c .before .before .before .before .before .before .before .args .i) ≡ true = sym (c .before .before .view-listened .ensures w (c .before .before .before .before .before .before .before .args .i) o (ap (λ (x : Agent′). x .listens) e) (ap (λ (x : Agent′). x .view) e)) ∙ not-false _ (c .before .if2 .left) in
-    let counts = counts-fit w (c .before .before .before .before .before .before .before .args .i) _ e (small (c .before .before .before .before .before .before .before)) in
-    rw (value, view, counts, and-true) (c .nogoods-fit .ensures w (c .before .before .before .before .before .before .before .args .i) own e)
+    let own = sym (o (c .before .before .before .before .before .before .before .before .args .i)) ∙ sym (c .before .before .before .before .before .before .before .digit .ensures .0) in
+    let value : holdsValue w (c .before .before .before .before .before .before .before .before .args .i) ≡ true = sym (c .before .before .before .before .before .holds-value .ensures w (c .before .before .before .before .before .before .before .before .args .i) b own (ap (λ (x : Agent′). x .value) e)) ∙ not-false _ (c .before .before .before .before .if1 .left) in
+    let last : lastFits w (c .before .before .before .before .before .before .before .before .args .i) ≡ true = sym (c .before .before .before .last-fits .ensures w (c .before .before .before .before .before .before .before .before .args .i) own (ap (λ (x : Agent′). x .value) e) (ap (λ (x : Agent′). x .last) e)) ∙ not-false _ (c .before .before .if2 .left) in
+    let view : viewListened w (c .before .before .before .before .before .before .before .before .args .i) ≡ false = sym (c .before .view-listened .ensures w (c .before .before .before .before .before .before .before .before .args .i) o (ap (λ (x : Agent′). x .listens) e) (ap (λ (x : Agent′). x .view) e)) ∙ not-true _ (c .if3 .taken) in
+    rw (value, last, view)
+
+nogoods-fit-requires : tie.Need-nogoods-fit-requires
+nogoods-fit-requires c κs = search needs
+
+returns-4 : tie.Need-returns-4
+unfolding agentOf holdsInShape
+returns-4 c =
+    λ w b o e.
+    let own = sym (o (c .before .before .before .before .before .before .before .before .before .args .i)) ∙ sym (c .before .before .before .before .before .before .before .before .digit .ensures .0) in
+    let value : holdsValue w (c .before .before .before .before .before .before .before .before .before .args .i) ≡ true = sym (c .before .before .before .before .before .before .holds-value .ensures w (c .before .before .before .before .before .before .before .before .before .args .i) b own (ap (λ (x : Agent′). x .value) e)) ∙ not-false _ (c .before .before .before .before .before .if1 .left) in
+    let last : lastFits w (c .before .before .before .before .before .before .before .before .before .args .i) ≡ true = sym (c .before .before .before .before .last-fits .ensures w (c .before .before .before .before .before .before .before .before .before .args .i) own (ap (λ (x : Agent′). x .value) e) (ap (λ (x : Agent′). x .last) e)) ∙ not-false _ (c .before .before .before .if2 .left) in
+    let view : viewListened w (c .before .before .before .before .before .before .before .before .before .args .i) ≡ true = sym (c .before .before .view-listened .ensures w (c .before .before .before .before .before .before .before .before .before .args .i) o (ap (λ (x : Agent′). x .listens) e) (ap (λ (x : Agent′). x .view) e)) ∙ not-false _ (c .before .if3 .left) in
+    let counts = counts-fit w (c .before .before .before .before .before .before .before .before .before .args .i) _ e (small (c .before .before .before .before .before .before .before .before .before)) in
+    rw (value, last, view, counts, and-true) (c .nogoods-fit .ensures w (c .before .before .before .before .before .before .before .before .before .args .i) own e)
 
 pub holds-in-shape-spec : {M : Type 1} → statement M
 holds-in-shape-spec =
@@ -68,7 +82,9 @@ holds-in-shape-spec =
     digit-requires
     holds-value-requires
     returns
-    view-listened-requires
+    last-fits-requires
     returns-2
+    view-listened-requires
+    returns-3
     nogoods-fit-requires
-    returns-3)
+    returns-4)

@@ -25,7 +25,7 @@ is-zero-requires-2 c κs = search needs
 
 returns : tie.Need-returns
 unfolding zeroed
-returns c = rw (c .before .is-zero .ensures, c .is-zero2 .ensures) (sym (opened (c .before .before .before .before .before .before .before .before .before .before)))
+returns c = rw (c .before .is-zero .ensures, c .is-zero2 .ensures) (sym (opened (c .before .before .before .before .before .before .before .before .before .before .before)))
 
 pub unused-spec : {M : Type 1} → statement M
 unused-spec = tie.close (tie.spec is-zero-requires is-zero-requires-2 returns)

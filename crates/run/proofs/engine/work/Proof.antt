@@ -64,10 +64,10 @@ sizes c =
     record {
       domains = search needs;
       bans = search needs;
-      agents = simp length-map at (c .good .0 .1 .1 .1 .1 .1 .1 .0 .1 .0 .1);
+      agents = simp length-map at (c .good .0 .1 .1 .1 .1 .1 .1 .1 .0 .1 .0 .1);
       heads = search needs;
       counts = search needs;
-      places = simp length-map at (c .good .0 .1 .1 .1 .1 .1 .1 .1 .1 .1 .0 .1 .0 .1);
+      places = simp length-map at (c .good .0 .1 .1 .1 .1 .1 .1 .1 .1 .1 .1 .0 .1 .0 .1);
     }
 
 -- the rows are clean before the shape is tested
@@ -255,8 +255,8 @@ digit-requires-3 c κs = let b = turn-ends (c .before .before .before .before .b
 place-at-requires-2 : tie.Need-place-at-requires-2 Inv-loop2 μ-loop2 Inv-loop μ-loop
 place-at-requires-2 c κs = (c .before .channel-at2 .ensures .1, c .digit3 .ensures .1, c .before .before .before .digit2 .ensures .1)
 
-mul-t104 : tie.Need-mul-t104 Inv-loop2 μ-loop2 Inv-loop μ-loop
-mul-t104 c = search needs
+mul-t105 : tie.Need-mul-t105 Inv-loop2 μ-loop2 Inv-loop μ-loop
+mul-t105 c = search needs
 
 element-set-from-o : tie.Need-element-set-from-o Inv-loop2 μ-loop2 Inv-loop μ-loop
 element-set-from-o c = let z = c .before .before .before .before .before .before .before .before .before .loop2 .inv .posting .sized .places in search needs
@@ -437,7 +437,7 @@ work-spec =
     channel-at-requires-2
     digit-requires-3
     place-at-requires-2
-    mul-t104
+    mul-t105
     element-set-from-o
     one-more-requires-2
     rest-requires

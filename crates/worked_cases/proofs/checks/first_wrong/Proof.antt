@@ -5,16 +5,16 @@ use Rattle.worked_cases.proofs.checks.first_wrong.Statement.{statement}
 use Rattle.worked_cases.proofs.checks.first_wrong.Tie as tie
 
 abbrev Inv-loop : tie.InvT-loop
-Inv-loop rail n k₀ k = k ≤ 12
+Inv-loop rail kind n k₀ k = k ≤ 12
 
 abbrev μ-loop : tie.MeasureT-loop
-μ-loop rail n k₀ k = 12 - k
+μ-loop rail kind n k₀ k = 12 - k
 
 loop-holds : tie.Need-loop-holds Inv-loop μ-loop
 loop-holds c = search needs
 
-slot-right-requires : tie.Need-slot-right-requires Inv-loop μ-loop
-slot-right-requires c κs = search needs
+given-right-requires : tie.Need-given-right-requires Inv-loop μ-loop
+given-right-requires c κs = search needs
 
 add-result : tie.Need-add-result Inv-loop μ-loop
 add-result c = search needs
@@ -41,7 +41,7 @@ first-wrong-spec =
     Inv-loop
     μ-loop
     loop-holds
-    slot-right-requires
+    given-right-requires
     add-result
     returns
     add-k

@@ -1,8 +1,6 @@
--- The loop over the eight places of a channel ends; the ends of a channel are agents of 1 to 12.
+-- The loop over the eight places of a channel ends.
 use Prim.Native.Nat.{_-_}
 use borrow.Author.Needs.{needs}
-use native.Mathlib.Omega.{arith}
-use Rattle.network.proofs.Numbering.{ends}
 use Rattle.worked_cases.proofs.rails.same_line.Statement.{statement}
 use Rattle.worked_cases.proofs.rails.same_line.Tie as tie
 
@@ -12,29 +10,11 @@ Inv-loop from to a b count t₀ t = Unit {0}
 abbrev μ-loop : tie.MeasureT-loop
 μ-loop from to a b count t₀ t = 8 - t
 
-sub-digit : tie.Need-sub-digit Inv-loop μ-loop
-sub-digit c = ends _ _ (c .pre) .from-low
+held-requires : tie.Need-held-requires Inv-loop μ-loop
+held-requires c κs = search needs
 
-mul-digit : tie.Need-mul-digit Inv-loop μ-loop
-mul-digit c = search needs
-
-element-copy-out-digit : tie.Need-element-copy-out-digit Inv-loop μ-loop
-element-copy-out-digit c = let b = ends _ _ (c .pre) in search (needs, b .from-low, b .from-high)
-
-digit-requires : tie.Need-digit-requires Inv-loop μ-loop
-digit-requires c κs = let b = ends _ _ (c .before .pre) in (b .to-low, omega (arith, b .to-high))
-
-sub-digit-2 : tie.Need-sub-digit-2 Inv-loop μ-loop
-sub-digit-2 c = ends _ _ (c .before .before .pre) .from-low
-
-mul-digit-2 : tie.Need-mul-digit-2 Inv-loop μ-loop
-mul-digit-2 c = search needs
-
-element-copy-out-digit-2 : tie.Need-element-copy-out-digit-2 Inv-loop μ-loop
-element-copy-out-digit-2 c = let b = ends _ _ (c .before .before .pre) in search (needs, b .from-low, b .from-high)
-
-digit-requires-2 : tie.Need-digit-requires-2 Inv-loop μ-loop
-digit-requires-2 c κs = let b = ends _ _ (c .before .before .before .pre) in (b .to-low, omega (arith, b .to-high))
+held-requires-2 : tie.Need-held-requires-2 Inv-loop μ-loop
+held-requires-2 c κs = search needs
 
 returns : tie.Need-returns Inv-loop μ-loop
 returns c = search needs
@@ -72,14 +52,8 @@ same-line-spec =
     (tie.spec
     Inv-loop
     μ-loop
-    sub-digit
-    mul-digit
-    element-copy-out-digit
-    digit-requires
-    sub-digit-2
-    mul-digit-2
-    element-copy-out-digit-2
-    digit-requires-2
+    held-requires
+    held-requires-2
     returns
     loop-holds
     waiting-requires
