@@ -183,7 +183,6 @@ fn ending_number(word: Word) -> u64 {
         Word::None => 0,
         Word::Plan => 1,
         Word::Jammed => 2,
-        Word::Faulty => 3,
         Word::Open => 4,
     }
 }

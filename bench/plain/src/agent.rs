@@ -172,8 +172,8 @@ impl Agent {
     }
 
     /// Takes a message from `sender` and sends what it sends. An AddLink comes only from an
-    /// agent not yet informed. `QUIET` is the network's rule; it is known before the code runs,
-    /// so that neither rule pays for the other.
+    /// agent not yet informed, by the shape. `QUIET` is the network's rule; it is known before
+    /// the code runs, so that neither rule pays for the other.
     #[inline(always)]
     pub(crate) fn receive<const QUIET: bool, const CHECKED: bool>(
         &mut self,

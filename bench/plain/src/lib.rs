@@ -3,7 +3,8 @@
 //!
 //! The field's terms stand for the dock's words: agent (scanner), value (slot), domain (slot
 //! count), network (rail), channel (line), Info (news), Back (refusal), AddLink (link request),
-//! nogood (stored reason), lhs (left side), rejection (the numbers 1 to 11).
+//! nogood (stored reason), lhs (left side), rejection (the numbers 1 to 11, of which 9
+//! is given to nothing).
 
 mod agent;
 mod assignment;
@@ -45,8 +46,6 @@ pub enum Rejection {
     Verdict = 7,
     /// That channel is empty.
     Empty = 8,
-    /// AddLink from an agent already informed.
-    Linked = 9,
     /// No room.
     Room = 10,
     /// A rule other than 1 or 2.

@@ -39,7 +39,6 @@ pub enum Word {
     None,
     Plan,
     Jammed,
-    Faulty,
     Open,
 }
 
@@ -49,7 +48,6 @@ impl Word {
             Word::None => "none",
             Word::Plan => "plan",
             Word::Jammed => "jammed",
-            Word::Faulty => "faulty",
             Word::Open => "open",
         }
     }
@@ -99,8 +97,6 @@ struct Round {
     full: bool,
     /// Something was delivered.
     moved: bool,
-    /// A link was asked for again (9).
-    faulty: bool,
 }
 
 impl Network {
@@ -217,7 +213,10 @@ impl Network {
         } else {
             self.deliver_waiting::<false>(from, to)
         };
-        delivered.map(|_| ())
+        match delivered {
+            Ok(_) => Ok(()),
+            Err(Full) => Err(Rejection::Room),
+        }
     }
 
     /// The value (slot) of an agent, by its number; 0 for one that the verdict left without.
@@ -263,9 +262,6 @@ impl Network {
             left -= 1;
             let round = self.round::<QUIET>(&mut senders);
             made += u64::from(round.full);
-            if round.faulty {
-                break Word::Faulty;
-            }
             if !round.moved {
                 break Word::Jammed;
             }
@@ -274,14 +270,14 @@ impl Network {
     }
 
     /// One round: the channels by sender, then receiver, upward; of each as many messages as
-    /// it held when the round began. It stops at a verdict and at a 9.
+    /// it held when the round began. It stops at a verdict.
     fn round<const QUIET: bool>(&mut self, senders: &mut Senders) -> Round {
         let visited = *senders;
         let mut quotas = [0; MAX_AGENTS];
         for from in visited {
             quotas[from] = self.nodes[from].out.counts;
         }
-        let mut round = Round { full: true, moved: false, faulty: false };
+        let mut round = Round { full: true, moved: false };
         for from in visited {
             if self.deliver_from::<QUIET>(from, quotas[from], senders, &mut round).is_break() {
                 round.full &= quotas[from + 1..].iter().all(|&quota| quota == 0);
@@ -292,7 +288,7 @@ impl Network {
     }
 
     /// One sender's part of a round: as many messages of each of its channels as the digits of
-    /// `quota` say. A channel that is refused with 10 is passed over for the rest of the round.
+    /// `quota` say. A channel without room (10) is passed over for the rest of the round.
     #[inline(never)]
     fn deliver_from<const QUIET: bool>(
         &mut self,
@@ -314,13 +310,9 @@ impl Network {
                     }
                     senders.put(to, self.nodes[to].out.counts != 0);
                 }
-                Err(Rejection::Room) => {
+                Err(Full) => {
                     round.full = false;
                     quota &= !(15 << at);
-                }
-                Err(_) => {
-                    (round.full, round.faulty) = (false, true);
-                    return ControlFlow::Break(());
                 }
             }
         }
@@ -329,17 +321,15 @@ impl Network {
     }
 
     /// Delivers the head of a channel that is not empty, on a network in shape with no
-    /// verdict. Refuses with 9 and 10 only.
+    /// verdict; only room may be missing.
     #[inline(always)]
-    fn deliver_waiting<const QUIET: bool>(&mut self, from: usize, to: usize) -> Result<Step, Rejection> {
+    fn deliver_waiting<const QUIET: bool>(&mut self, from: usize, to: usize) -> Result<Step, Full> {
         let message = self.nodes[from].out.head(to);
         let Node { agent, out } = &mut self.nodes[to];
         // A delivery sends at most one message on a channel, but two, an AddLink and a Back, where
         // it begins to listen; and on that channel nothing waits, by the shape. So it has room
         // while no channel is full.
-        let step = if matches!(message.unpack(), Message::AddLink) && agent.informs.has(from) {
-            return Err(Rejection::Linked);
-        } else if out.none_is_full() {
+        let step = if out.none_is_full() {
             match agent.receive::<QUIET, false>(from, message.unpack(), out) {
                 Ok(step) => step,
                 Err(Full) => unreachable!(),
@@ -359,17 +349,12 @@ impl Node {
     /// Where a channel is full: each message is checked, and the first that finds no
     /// room undoes the delivery.
     #[inline(never)]
-    fn receive_or_undo<const QUIET: bool>(
-        &mut self,
-        from: usize,
-        message: Packed,
-    ) -> Result<Step, Rejection> {
+    fn receive_or_undo<const QUIET: bool>(&mut self, from: usize, message: Packed) -> Result<Step, Full> {
         let Node { agent, out } = self;
         let before = (*agent, out.counts, out.tails);
-        agent.receive::<QUIET, true>(from, message.unpack(), out).map_err(|Full| {
+        agent.receive::<QUIET, true>(from, message.unpack(), out).inspect_err(|_| {
             // What was written lies in unused places.
             (*agent, out.counts, out.tails) = before;
-            Rejection::Room
         })
     }
 }

@@ -77,12 +77,15 @@ impl Network {
         let receivers = Assignment(node.out.counts).agents();
         receivers.within(AgentSet::above(self.n).minus(AgentSet::one(from)))
             && receivers.iter().all(|to| {
-                node.out.waiting(to) <= CAPACITY
-                    && node.out.messages(to).all(|message| self.message_has_shape(from, to, message))
+                let mut asked = self.nodes[to].agent.informs.has(from);
+                let mut fits = |message| self.message_has_shape(from, to, message, &mut asked);
+                node.out.waiting(to) <= CAPACITY && node.out.messages(to).all(&mut fits)
             })
     }
 
-    fn message_has_shape(&self, from: usize, to: usize, message: Message) -> bool {
+    /// One message. No AddLink may wait where one was asked for: the receiver informs the sender
+    /// already, or another waits in front.
+    fn message_has_shape(&self, from: usize, to: usize, message: Message, asked: &mut bool) -> bool {
         let owned = |agent, value| 1 <= value && value <= self.domain(agent);
         let listens = |agent: usize, other| self.nodes[agent].agent.listens.has(other);
         match message {
@@ -94,7 +97,63 @@ impl Network {
                     && lhs.agents().within(AgentSet::above(to))
                     && lhs.at_most(self.domains)
             }
-            Message::AddLink => from > to && listens(from, to),
+            Message::AddLink => from > to && listens(from, to) && !std::mem::replace(asked, true),
         }
+    }
+}
+
+#[cfg(test)]
+mod tests {
+    use super::*;
+    use crate::sheet::{encode, Rows};
+    use crate::{Rejection, Rule};
+
+    /// Three agents without a ban: the last listens to both others, which do not inform it, and
+    /// has asked agent 2, by its number, for a link.
+    fn asking() -> Network {
+        let sheet = encode(&[2, 2, 2], Rows::Slots(&[]));
+        let mut network = Network::start_sheet(Rule::Loud.number(), &sheet).expect("a good sheet");
+        network.nodes[2].agent.listens = AgentSet::above(2);
+        ask(&mut network, 1);
+        network
+    }
+
+    fn ask(network: &mut Network, to: usize) {
+        network.nodes[2].out.send_one::<true>(to, Message::AddLink).expect("room");
+    }
+
+    fn is_refused(mut network: Network) -> bool {
+        !network.has_shape()
+            && network.deliver(3, 2) == Err(Rejection::Shape)
+            && network.value(1) == Err(Rejection::Shape)
+            && network.run(1) == Err(Rejection::Shape)
+    }
+
+    #[test]
+    fn links_asked_for() {
+        let mut network = asking();
+        network.nodes[0].agent.informs.add(2);
+        assert!(network.has_shape());
+        let mut network = asking();
+        ask(&mut network, 0);
+        assert!(network.has_shape());
+        assert_eq!(network.deliver(3, 2), Ok(()));
+        assert!(network.has_shape() && network.nodes[1].agent.informs.has(2));
+    }
+
+    #[test]
+    fn links_asked_for_twice() {
+        let mut network = asking();
+        network.nodes[1].agent.informs.add(2);
+        assert!(is_refused(network));
+        let mut network = asking();
+        ask(&mut network, 1);
+        assert!(is_refused(network));
+        let mut network = asking();
+        let refusal = Message::Back { lhs: Assignment::EMPTY, refused: 1 };
+        network.nodes[2].out.send_one::<true>(1, refusal).expect("room");
+        assert!(network.has_shape());
+        ask(&mut network, 1);
+        assert!(is_refused(network));
     }
 }

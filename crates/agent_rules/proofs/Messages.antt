@@ -2,11 +2,13 @@
 use mathlib.Core.Path.{_≡_, refl}
 use mathlib.Core.Logic.{_⊎_, inl, inr}
 use mathlib.Core.List.{List, [], _∷_, _++_}
-use Prim.Native.Nat.{ℕ}
+use Prim.Native.Nat.{ℕ, _≤_}
+use native.Mathlib.Omega.{arith}
 use lib.Dec.{eqb}
 use Rattle.base.proofs.Tests.{test}
 use Rattle.base.proofs.Lists.{All, All-append}
 use Rattle.agent_rules.specs.Message.{Message, Info, Back, AddLink, Post, sentTo}
+use Rattle.agent_rules.specs.Counts.{AddLinks, ofSort, number}
 use Rattle.agent_rules.specs.Sorts.{IsInfo, IsBack, IsAddLink, Not, Tells, afterOne, seen, OneLink}
 
 -- ---- sorts
@@ -82,3 +84,33 @@ pub one-tail : (m : Message) (ms : List Message) → OneLink (m ∷ ms) → OneL
 one-tail (Info v) ms h = (h, λ q. absurd q)
 one-tail (Back lhs v) ms h = (h, λ q. absurd q)
 one-tail AddLink ms h = (one-put [] ms tt h, λ _. h)
+
+-- .. and counted
+
+none-counted : (l : List Message) → All (Not IsAddLink) l → number AddLinks l ≡ 0
+unfolding number ofSort
+none-counted [] h = refl
+none-counted (Info v ∷ l) h = omega (arith, none-counted l (h .1))
+none-counted (Back r v ∷ l) h = omega (arith, none-counted l (h .1))
+none-counted (AddLink ∷ l) h = absurd (h .0 tt)
+
+pub one-counted : (l : List Message) → OneLink l → number AddLinks l ≤ 1
+unfolding number ofSort
+one-counted [] h = omega arith
+one-counted (Info v ∷ l) h = omega (arith, one-counted l h)
+one-counted (Back r v ∷ l) h = omega (arith, one-counted l h)
+one-counted (AddLink ∷ l) h = omega (arith, none-counted l h)
+
+counted-none : (l : List Message) → number AddLinks l ≡ 0 → All (Not IsAddLink) l
+unfolding number ofSort
+counted-none [] h = tt
+counted-none (Info v ∷ l) h = (λ q. q, counted-none l (omega arith))
+counted-none (Back r v ∷ l) h = (λ q. q, counted-none l (omega arith))
+counted-none (AddLink ∷ l) h = absurd (omega arith)
+
+pub counted-one : (l : List Message) → number AddLinks l ≤ 1 → OneLink l
+unfolding number ofSort
+counted-one [] h = tt
+counted-one (Info v ∷ l) h = counted-one l (omega arith)
+counted-one (Back r v ∷ l) h = counted-one l (omega arith)
+counted-one (AddLink ∷ l) h = counted-none l (omega arith)

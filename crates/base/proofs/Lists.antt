@@ -1,6 +1,6 @@
 -- All and some of a list, and the test of each element.
 use mathlib.Core.Path.{_≡_, refl, sym, ap, subst}
-use mathlib.Core.Bool.{Bool, true, _||_, or-false, or-assoc}
+use mathlib.Core.Bool.{Bool, true, _&&_, _||_, and-true, and-assoc, or-false, or-assoc}
 use mathlib.Core.Logic.{_⊎_, inl, inr}
 use mathlib.Core.List.{
   List,
@@ -74,6 +74,11 @@ pub to-every : {A : Type 0} (p : A → Bool) (l : List A) → All (λ x. p x ≡
 unfolding every
 to-every p [] h = refl
 to-every p (x ∷ xs) h = to-both (p x) (every p xs) (h .0) (to-every p xs (h .1))
+
+pub every-snoc : {A : Type 0} (p : A → Bool) (l : List A) (x : A) → every p (l ++ (x ∷ [])) ≡ every p l && p x
+unfolding every
+every-snoc p [] x = and-true (p x)
+every-snoc p (y ∷ l) x = rw (every-snoc p l x) (sym (and-assoc (p y) (every p l) (p x)))
 
 -- ---- some element passes
 

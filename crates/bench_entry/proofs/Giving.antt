@@ -16,7 +16,7 @@ use Rattle.problem.proofs.Checks.{fault-some}
 use Rattle.agent_rules.specs.Message.{nobody}
 use Rattle.agent_rules.specs.Agent.{Agent as Agent′, unusedAgent}
 use Rattle.protocol.specs.Network.{Network as Network′, Started, startSheet}
-use Rattle.protocol.specs.Run.{Ending as Ending′, None, Plan, Jammed, Faulty, Open, Broken, run}
+use Rattle.protocol.specs.Run.{Ending as Ending′, None, Plan, Jammed, Open, Broken, run}
 use Rattle.packed.specs.Packed.{assignment}
 use Rattle.packed.proofs.Digits.{nobody-assigned}
 use Rattle.agent.specs.declared.Agent.{Agent}
@@ -106,7 +106,6 @@ unfolding endingDigit
 digit-few None = omega arith
 digit-few Plan = omega arith
 digit-few Jammed = omega arith
-digit-few Faulty = omega arith
 digit-few Open = omega arith
 digit-few Broken = omega arith
 

@@ -9,7 +9,7 @@ use Rattle.problem.specs.Sheet.{faultNumber, Decoded, Valid, Invalid}
 use Rattle.agent_rules.specs.Counts.{Sort, Infos, Backs, AddLinks, Counts}
 use Rattle.protocol.specs.Network.{Network, Started, startSheet}
 use Rattle.protocol.specs.Delivery.{answerNumber, Delivery, deliver, askValue}
-use Rattle.protocol.specs.Run.{Ending, None, Plan, Jammed, Faulty, Open, Broken, Ran, run}
+use Rattle.protocol.specs.Run.{Ending, None, Plan, Jammed, Open, Broken, Ran, run}
 use Rattle.packed.specs.Packed.{assignment}
 use Rattle.network.specs.declared.Network.{Network as Rail}
 use Rattle.network.specs.Abstract.{networkOf}
@@ -34,7 +34,6 @@ unfoldable pub endingDigit : Ending → ℕ
 endingDigit None = 0
 endingDigit Plan = 1
 endingDigit Jammed = 2
-endingDigit Faulty = 3
 endingDigit Open = 4
 endingDigit Broken = 5
 

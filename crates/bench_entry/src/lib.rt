@@ -56,7 +56,6 @@ fn number_of(e: Ending) -> u64
         Ending::None => 0,
         Ending::Plan => 1,
         Ending::Jammed => 2,
-        Ending::Faulty => 3,
         Ending::Open => 4,
         Ending::Broken => 5,
     }

@@ -10,7 +10,7 @@ use Rattle.base.specs.Finite.{gather}
 use Rattle.problem.specs.Sheet.{longestSheet}
 use Rattle.protocol.specs.Network.{Network, startSheet}
 use Rattle.protocol.specs.Delivery.{askValue}
-use Rattle.protocol.specs.Run.{Ending, None, Plan, Jammed, Faulty, Open, Broken, endingWord, Ran}
+use Rattle.protocol.specs.Run.{Ending, None, Plan, Jammed, Open, Broken, endingWord, Ran}
 use Rattle.network.specs.Abstract.{networkOf}
 use Rattle.run.specs.declared.Answer.{Answer}
 use Rattle.run.specs.Answers.{endingOf}
@@ -53,7 +53,6 @@ unfoldable pub planLines : Ending → Network → List ℕ
 planLines None w = []
 planLines Plan w = slotLines w
 planLines Jammed w = []
-planLines Faulty w = []
 planLines Open w = []
 planLines Broken w = []
 

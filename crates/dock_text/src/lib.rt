@@ -71,7 +71,6 @@ fn append_plan(out: &mut [u8], at: usize, e: Ending, r: Network) -> usize
         Ending::None => at,
         Ending::Plan => append_slots(out, at, r),
         Ending::Jammed => at,
-        Ending::Faulty => at,
         Ending::Open => at,
         Ending::Broken => at,
     }

@@ -197,7 +197,7 @@ pub fn far_back(value: u8) -> Message {
 // ---- networks in shape
 
 // Three agents with domain 2, under rule 1. Bans: 1:1 with 3:1, and 2:1 with 3:2. Agent 3 listens to both others and sees both at 1; it holds 2 and keeps
-// "1 has 1" for its own value 1. It has sent agent 2 a Back with the left side "1 has 1", then an AddLink, and agent 1 an AddLink. Channel 1 to 3
+// "1 has 1" for its own value 1. It has sent agent 2 a Back with the left side "1 has 1", then one with "1 has 2", and agent 1 a Back. Channel 1 to 3
 // is full and begins in the midst of its ring; on channel 2 to 3 waits one Info.
 pub fn good() -> Network {
     let mut r = network::empty();
@@ -219,21 +219,14 @@ pub fn good() -> Network {
     r = with_message(with_message(r, 14, Message::Info(1)), 15, Message::Info(2));
     r = with_message(waiting(r, 2, 3, 1), 96, Message::Info(1));
     r = with_message(waiting(r, 3, 2, 2), 184, back(0x1, 1));
-    r = with_message(r, 185, Message::AddLink);
-    with_message(waiting(r, 3, 1, 1), 176, Message::AddLink)
+    r = with_message(r, 185, back(0x2, 1));
+    with_message(waiting(r, 3, 1, 1), 176, back(0x0, 1))
 }
 
-// Two agents with domain 2 and no ban. Agent 1 informs agent 2 already, and a link request of agent 2 waits all the same; so does an Info to it.
-pub fn repeated() -> Network {
-    let mut r = network::empty();
-    r.count = 2;
-    r.rule = 1;
-    r.domains[0] = 2;
-    r.domains[1] = 2;
-    r = informing(settled(r, 0, 1), 0, 0b10);
-    r = listening(settled(r, 1, 1), 1, 0b1);
-    r = with_message(waiting(r, 1, 2, 1), 0, Message::Info(1));
-    with_message(waiting(r, 2, 1, 1), 88, Message::AddLink)
+// The same without bans: agent 3 still listens to both others, but nobody informs it.
+pub fn unlinked() -> Network {
+    let r = with_bans(with_bans(good(), 1, 0), 2, 0);
+    informing(informing(r, 0, 0), 1, 0)
 }
 
 // Three agents without a ban, agent 2 with domain d. Agent 3 listens to agent 2, which does not inform it, and has sent it a Back of its value 1 with the

@@ -20,10 +20,10 @@ use forging::informing;
 use forging::judged;
 use forging::keeping;
 use forging::listening;
-use forging::repeated;
 use forging::ruled;
 use forging::settled;
 use forging::uninformed;
+use forging::unlinked;
 use forging::viewing;
 use forging::waiting;
 use forging::with_bans;
@@ -385,16 +385,51 @@ fn refusals(o: Out, g: Network) -> Out {
     )
 }
 
-// A link request of an agent already informed, in a network that is in shape otherwise: a delivery meets 9, and a run, which has delivered the Info by
-// then, stops.
-fn requests(o: Out) -> Out {
-    let r = repeated();
-    let shape = put_shape(o, b"a link asked for twice", r);
-    let delivery = put_answer(shape, b"; delivery ", run::deliver(r, 2, 1), r);
-    let ran = run::run(r, 1);
-    let ending = ran.ending;
-    let word = delivery.put(b"; run ").ending(ending);
-    word.put(b", ").number(ran.rounds).put(b" rounds\n")
+// A channel holds at most one AddLink, and none from an agent that the receiver informs already. The ring of channel 3 to 2 begins at place 184: `one`
+// has a Back there, then an AddLink; `apart` an AddLink, then two Backs, round the ring's end.
+fn requests(o: Out, g: Network) -> Out {
+    let u = unlinked();
+    let one = with_message(u, 185, Message::AddLink);
+    let o = case(o, b"AddLink from one not informed", g, one);
+    let o = case(
+        o,
+        b"AddLink from one that another agent informs",
+        g,
+        informing(one, 0, 0b100),
+    );
+    let o = case(
+        o,
+        b"AddLink from one informed already",
+        g,
+        informing(one, 1, 0b100),
+    );
+    let o = case(
+        o,
+        b"AddLinks on two channels",
+        g,
+        with_message(one, 176, Message::AddLink),
+    );
+    let o = case(
+        o,
+        b"AddLink, and one in an unused place",
+        g,
+        with_message(one, 186, Message::AddLink),
+    );
+    let o = case(
+        o,
+        b"two AddLinks on one channel",
+        g,
+        with_message(one, 184, Message::AddLink),
+    );
+    let ring = with_message(headed(waiting(u, 3, 2, 3), 3, 2, 6), 191, back(0x1, 1));
+    let apart = with_message(ring, 190, Message::AddLink);
+    let o = case(o, b"AddLink and two Backs", g, apart);
+    case(
+        o,
+        b"two AddLinks on one channel, a Back between them",
+        g,
+        with_message(apart, 184, Message::AddLink),
+    )
 }
 
 // What waits on channel 2 to 3, whose ring begins at place 96: how many messages, and the head.
@@ -440,6 +475,6 @@ fn main() {
     let g = good();
     let o = problems(unread(free(Out::new(), g), g), g);
     let o = views(sets(lasts(values(o, g), g), g), g);
-    let o = refusals(news(beyond(o, g), g), g);
-    refusers(requests(o));
+    let o = requests(refusals(news(beyond(o, g), g), g), g);
+    refusers(o);
 }

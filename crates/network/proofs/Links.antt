@@ -14,12 +14,7 @@ use Rattle.problem.specs.Problem.{maxAgents, linked}
 use Rattle.agent_rules.specs.Shape.{maxNamed}
 use Rattle.protocol.specs.Network.{Network as Network′}
 use Rattle.protocol.specs.Shape.{eachIn, holdsValue, lastFits, listensUpward, informsDownward, linkedListen, informedListen, viewListened, nogoodsFit, countsFit, unused, agentInShape}
-use Rattle.network.specs.Parts.{heard, linksInShape, holdsInShape}
-
--- what the code asks of agent i
-unfoldable pub agentPasses : Network′ → ℕ → Bool
-agentPasses w i =
-    elim (leb i (w .problem .count)) [ true ↦ linksInShape w i && holdsInShape w i | false ↦ unused (w .agents i) ]
+use Rattle.network.specs.Parts.{heard, linksInShape, holdsInShape, agentPasses}
 
 pub passes-beyond : (w : Network′) (i : ℕ) → w .problem .count < i → agentPasses w i ≡ unused (w .agents i)
 unfolding agentPasses

@@ -3,37 +3,43 @@
 use Prim.Native.Nat.{ℕ, _+_, _-_, _≤_, _<_}
 use mathlib.Core.Path.{_≡_, refl, sym, _∙_}
 use mathlib.Core.Logic.{_≢_}
-use mathlib.Core.Bool.{Bool, true, false, and-false, and-true, false≢true}
+use mathlib.Core.Bool.{Bool, true, false, _||_, and-false, and-true, false≢true}
 use native.Mathlib.Omega.{arith}
 use native.Mathlib.Numerals.{add-one}
 use lib.ListN.{getD}
 use borrow.Author.Tests.{le-leb, lt-leb}
 use Rattle.base.specs.Finite.{at, fromOne, within, allTo}
-use Rattle.base.proofs.Tests.{test, eq-test}
+use Rattle.base.proofs.Tests.{test, eq-test, or-left}
 use Rattle.base.proofs.Search.{at-same, at-other, allTo-at, to-allTo}
 use Rattle.problem.specs.Problem.{maxAgents}
 use Rattle.agent_rules.specs.Message.{nobody}
-use Rattle.protocol.specs.Shape.{messageFits, channelInShape}
+use Rattle.protocol.specs.Shape.{channelInShape}
 use Rattle.packed.specs.Packed.{assignment}
 use Rattle.packed.proofs.Digits.{nobody-assigned}
 use Rattle.network.specs.Abstract.{isChannel, rowOf, networkOf}
+use Rattle.network.specs.Parts.{isLink, fitsNow}
 use Rattle.network.specs.declared.Network.{Network}
 use Rattle.network.proofs.Numbering.{ends}
-use Rattle.network.proofs.Rings.{asked, lastLeft, nothing-asked, last-asked, no-channel-fits, channel-fits}
+use Rattle.network.proofs.Rings.{leftFits, lastLeft, nothing-left, last-fits, no-channel-fits, channel-fits}
 
--- Sender i is looked at: the digits of `rest` are the counts of its channels that are left, and of the one to j the first `left` messages are.
-pub record Swept (r : Network) (i rest j left : ℕ) : Type 0 where
+-- Sender i is looked at: the digits of `rest` are the counts of its channels that are left, and of the one to j the first `left` messages are. No request
+-- may be among these where one was `asked`.
+pub record Swept (r : Network) (i rest j left : ℕ) (asked : Bool) : Type 0 where
   pub sender : i ≤ 12
   pub before : (x y : ℕ) → x < i → channelInShape (networkOf r) x y ≡ true
   pub passed : (y : ℕ) → assignment rest y ≡ 0 → (1 ≤ left → y ≢ j) → channelInShape (networkOf r) i y ≡ true
   pub ahead : (y : ℕ) → 1 ≤ assignment rest y → (isChannel i y ≡ true) × (assignment rest y ≡ rowOf (r .counts) i y)
-  pub here : 1 ≤ left → (isChannel i j ≡ true) × (left ≤ 8) × (channelInShape (networkOf r) i j ≡ asked r i j left)
+  pub here : 1 ≤ left
+      → (isChannel i j ≡ true)
+      × (left ≤ 8)
+      × (channelInShape (networkOf r) i j ≡ leftFits r i j left asked)
+      × (networkOf r .agents j .informs i ≡ true → asked ≡ true)
 
 no-digits : (rest y : ℕ) → rest ≡ 0 → assignment rest y ≡ 0
 unfolding nobody
 no-digits rest y e = rw (e, nobody-assigned)
 
-pub beginning : (r : Network) → Swept r 0 0 1 0
+pub beginning : (r : Network) → Swept r 0 0 1 0 false
 unfolding isChannel within
 beginning r =
     record {
@@ -59,31 +65,31 @@ one-unfit r i j c e =
 
 -- ---- one message
 
-module _ (r : Network) (i rest j left : ℕ) (s : Swept r i rest j left) (h : 1 ≤ left) where
-  pub message-unfit : messageFits (networkOf r) i j (lastLeft r i j left) ≡ false → channelInShape (networkOf r) i j ≡ false
-  message-unfit e = s .here h .2 ∙ last-asked r i j left h ∙ rw (e, and-false)
+module _ (r : Network) (i rest j left : ℕ) (asked : Bool) (s : Swept r i rest j left asked) (h : 1 ≤ left) where
+  pub message-unfit : fitsNow (networkOf r) i j asked (lastLeft r i j left) ≡ false → channelInShape (networkOf r) i j ≡ false
+  message-unfit e = s .here h .2 ∙ last-fits r i j left asked h ∙ rw (e, and-false)
 
-  pub message-passed : messageFits (networkOf r) i j (lastLeft r i j left) ≡ true → Swept r i rest j (left - 1)
+  pub message-passed : fitsNow (networkOf r) i j asked (lastLeft r i j left) ≡ true → Swept r i rest j (left - 1) (asked || isLink (lastLeft r i j left))
   message-passed e =
       record {
         sender = s .sender;
         before = s .before;
         passed = λ y z n. eq-test y j
-            (λ q. rw q (asks ∙ nothing-asked r i j (left - 1) (none y q n)))
+            (λ q. rw q (fits ∙ nothing-left r i j (left - 1) _ (none y q n)))
             (λ n. s .passed y z (λ l. n));
         ahead = s .ahead;
-        here = λ l. let t = s .here h in (t .0, omega arith, asks);
+        here = λ l. let t = s .here h in (t .0, omega arith, fits, λ u. or-left asked _ (t .3 u));
       }
     where
-      asks : channelInShape (networkOf r) i j ≡ asked r i j (left - 1)
-      asks = s .here h .2 ∙ last-asked r i j left h ∙ rw (e, and-true)
+      fits : channelInShape (networkOf r) i j ≡ leftFits r i j (left - 1) (asked || isLink (lastLeft r i j left))
+      fits = s .here h .2 ∙ last-fits r i j left asked h ∙ rw (e, and-true)
 
       none : (y : ℕ) → y ≡ j → (1 ≤ left - 1 → y ≢ j) → left - 1 ≡ 0
       none y q n = eq-test (left - 1) 0 (λ e. e) (λ m. absurd (n (omega (arith, m)) q))
 
 -- ---- the next channel of the sender, to agent k
 
-module _ (r : Network) (i rest j left k : ℕ) (s : Swept r i rest j left) (z : left ≡ 0) (h : 1 ≤ assignment rest k) where
+module _ (r : Network) (i rest j left k : ℕ) (asked : Bool) (s : Swept r i rest j left asked) (z : left ≡ 0) (h : 1 ≤ assignment rest k) where
   pub channel-here : isChannel i k ≡ true
   channel-here = s .ahead k h .0
 
@@ -93,7 +99,8 @@ module _ (r : Network) (i rest j left k : ℕ) (s : Swept r i rest j left) (z : 
       let g : 8 < rowOf (r .counts) i k = rw (← a .1) f in
       channel-fits r i k (a .0) ∙ rw (lt-leb (rowOf (r .counts) i k) 8 g)
 
-  pub channel-next : (rest′ : ℕ) → assignment rest k ≤ 8 → assignment rest′ ≡ at (assignment rest) k 0 → Swept r i rest′ k (assignment rest k)
+  pub channel-next : (rest′ : ℕ) → assignment rest k ≤ 8 → assignment rest′ ≡ at (assignment rest) k 0
+      → Swept r i rest′ k (assignment rest k) (networkOf r .agents k .informs i)
   channel-next rest′ f e =
       record {
         sender = s .sender;
@@ -102,7 +109,7 @@ module _ (r : Network) (i rest j left k : ℕ) (s : Swept r i rest j left) (z : 
         ahead = λ y l. eq-test y k
             (λ q. let g : assignment rest′ y ≡ 0 = rw (q, e) (at-same (assignment rest) k 0) in absurd (omega arith))
             (λ n. rw (other y n) (s .ahead y (rw (← other y n) l)));
-        here = λ l. (a .0, f, channel-fits r i k (a .0) ∙ rw (le-leb (rowOf (r .counts) i k) 8 (rw (← a .1) f), a .1));
+        here = λ l. (a .0, f, channel-fits r i k (a .0) ∙ rw (le-leb (rowOf (r .counts) i k) 8 (rw (← a .1) f), a .1), λ u. u);
       }
     where
       a : (isChannel i k ≡ true) × (assignment rest k ≡ rowOf (r .counts) i k)
@@ -113,13 +120,13 @@ module _ (r : Network) (i rest j left k : ℕ) (s : Swept r i rest j left) (z : 
 
 -- ---- the next sender, and the end
 
-module _ (r : Network) (i rest j left : ℕ) (s : Swept r i rest j left) (z : left ≡ 0) (e : rest ≡ 0) where
+module _ (r : Network) (i rest j left : ℕ) (asked : Bool) (s : Swept r i rest j left asked) (z : left ≡ 0) (e : rest ≡ 0) where
   done : (y : ℕ) → channelInShape (networkOf r) i y ≡ true
   done y = s .passed y (no-digits rest y e) (λ l. absurd (omega arith))
 
   pub sender-next : (rest′ : ℕ) → i < 12
       → ((y : ℕ) → assignment rest′ y ≡ elim (isChannel (i + 1) y) [ true ↦ assignment (getD (r .counts) i 0) y | false ↦ 0 ])
-      → Swept r (i + 1) rest′ j left
+      → Swept r (i + 1) rest′ j left asked
   unfolding rowOf fromOne
   sender-next rest′ h f =
       record {
@@ -138,7 +145,7 @@ module _ (r : Network) (i rest j left : ℕ) (s : Swept r i rest j left) (z : le
       row y t = f y ∙ rw (t, add-one i)
 
       fits : (y : ℕ) → isChannel (i + 1) y ≡ true → rowOf (r .counts) (i + 1) y ≡ 0 → channelInShape (networkOf r) (i + 1) y ≡ true
-      fits y t d = channel-fits r (i + 1) y t ∙ rw d (nothing-asked r (i + 1) y 0 refl)
+      fits y t d = channel-fits r (i + 1) y t ∙ rw d (nothing-left r (i + 1) y 0 _ refl)
 
   pub swept : 12 ≤ i → channelsInShape r ≡ true
   unfolding channelsInShape maxAgents

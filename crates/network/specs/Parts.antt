@@ -1,12 +1,14 @@
 -- What the parts of the test compute or read, where the shape has no name for it.
 use Prim.Native.Nat.{ℕ, pred, _≤_}
 use mathlib.Core.Path.{_≡_}
-use mathlib.Core.Bool.{Bool, not, cond, _&&_}
+use mathlib.Core.Bool.{Bool, true, false, not, cond, _&&_}
 use mathlib.Core.List.{List}
 use lib.ListN.{getD}
+use lib.Dec.{leb}
 use Rattle.base.specs.Finite.{fromOne, within, allTo}
 use Rattle.base.specs.Bits.{bit}
 use Rattle.problem.specs.Problem.{Problem, maxDomain, domain, bitAt, linked}
+use Rattle.agent_rules.specs.Message.{Message as Message′, Info, Back, AddLink}
 use Rattle.protocol.specs.Network.{Network as Network′}
 use Rattle.protocol.specs.Shape.{
   holdsValue,
@@ -16,6 +18,8 @@ use Rattle.protocol.specs.Shape.{
   viewListened,
   nogoodsFit,
   countsFit,
+  unused,
+  messageFits,
 }
 use Rattle.packed.specs.Packed.{assignment, members}
 
@@ -39,6 +43,23 @@ linksInShape w i = listensUpward w i && informsDownward w i && heard w i
 -- the other clauses on an agent: its value, the last that it took, its view, its nogoods and its counts
 unfoldable pub holdsInShape : Network′ → ℕ → Bool
 holdsInShape w i = holdsValue w i && lastFits w i && viewListened w i && nogoodsFit w i && countsFit w i
+
+-- all that is asked of agent i
+unfoldable pub agentPasses : Network′ → ℕ → Bool
+agentPasses w i =
+    elim (leb i (w .problem .count)) [ true ↦ linksInShape w i && holdsInShape w i | false ↦ unused (w .agents i) ]
+
+-- ---- the messages
+
+-- the message is a link request
+unfoldable pub isLink : Message′ → Bool
+isLink (Info v) = false
+isLink (Back lhs v) = false
+isLink AddLink = true
+
+-- a message on the channel from i to j, where no link request fits any more if one was asked
+unfoldable pub fitsNow : Network′ → ℕ → ℕ → Bool → Message′ → Bool
+fitsNow w i j asked m = not (isLink m && asked) && messageFits w i j m
 
 -- ---- the sets of all agents, side by side
 

@@ -6,7 +6,7 @@ ghost use Rattle.protocol.specs.Network.{Network as Network′};
 ghost use Rattle.protocol.specs.Shape.{holdsValue, lastFits, listensUpward, informsDownward, viewListened, nogoodsFit, unused};
 ghost use Rattle.packed.specs.Packed.{members};
 ghost use Rattle.agent.specs.Abstract.{assigned, agentOf};
-ghost use Rattle.network.specs.Parts.{Domains, heard, setOf, linksInShape, holdsInShape};
+ghost use Rattle.network.specs.Parts.{Domains, heard, setOf, linksInShape, holdsInShape, agentPasses};
 use crate::places::words_before;
 use crate::sets::all_above;
 use crate::sets::all_to;
@@ -99,7 +99,7 @@ fn nogoods_fit(d: u8, a: Agent) -> bool
 }
 
 // Everything of an agent beyond n is zero.
-pub fn unused(a: Agent) -> bool
+fn unused(a: Agent) -> bool
     ensures { λ b. ⌜ b ≡ unused (agentOf a) ⌝ }
 {
     let view = a.view;
@@ -115,7 +115,7 @@ pub fn unused(a: Agent) -> bool
 }
 
 // What is asked of agent i's links, where `informs` has every agent's set.
-pub fn links_in_shape(count: u8, informs: &[u16; 12], bans: &[u64; 66], i: u8, listens: u16) -> bool
+fn links_in_shape(count: u8, informs: &[u16; 12], bans: &[u64; 66], i: u8, listens: u16) -> bool
     requires { ⌜ (1 ≤ i) × (i ≤ 12) ⌝ }
     ensures { λ b. ⌜ ((w : Network′) → w .problem .count ≡ count → w .problem .bans ≡ now (bans .entry) → ((k x : ℕ) → w .agents k .informs x ≡ setOf (now (informs .entry)) k x) → w .agents i .listens ≡ members listens → b ≡ linksInShape w i) ⌝ }
 {
@@ -129,7 +129,7 @@ pub fn links_in_shape(count: u8, informs: &[u16; 12], bans: &[u64; 66], i: u8, l
 }
 
 // What one agent holds by itself: its value, the last that it took, its view and its nogoods. Its counts may be any.
-pub fn holds_in_shape(verdict: bool, domains: u64, i: u8, a: Agent) -> bool
+fn holds_in_shape(verdict: bool, domains: u64, i: u8, a: Agent) -> bool
     requires { ⌜ (1 ≤ i) × (i ≤ 12) ⌝ }
     ensures { λ b. ⌜ ((w : Network′) → w .verdict ≡ verdict → Domains (w .problem) domains → w .agents i ≡ agentOf a → b ≡ holdsInShape w i) ⌝ }
 {
@@ -145,4 +145,26 @@ pub fn holds_in_shape(verdict: bool, domains: u64, i: u8, a: Agent) -> bool
         return false;
     }
     nogoods_fit(d, a)
+}
+
+// What is asked of agent i, where `informs` has every agent's set: its links and what it holds, or beyond n, that it is unused.
+pub fn agent_passes(
+    count: u8,
+    verdict: bool,
+    domains: u64,
+    informs: &[u16; 12],
+    bans: &[u64; 66],
+    i: u8,
+    a: Agent,
+) -> bool
+    requires { ⌜ (1 ≤ i) × (i ≤ 12) ⌝ }
+    ensures { λ b. ⌜ ((w : Network′) → w .problem .count ≡ count → w .verdict ≡ verdict → Domains (w .problem) domains → w .problem .bans ≡ now (bans .entry) → ((k x : ℕ) → w .agents k .informs x ≡ setOf (now (informs .entry)) k x) → w .agents i ≡ agentOf a → b ≡ agentPasses w i) ⌝ }
+{
+    if count < i {
+        return unused(a);
+    }
+    if !links_in_shape(count, informs, bans, i, a.listens) {
+        return false;
+    }
+    holds_in_shape(verdict, domains, i, a)
 }

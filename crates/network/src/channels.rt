@@ -1,11 +1,12 @@
 // The shape of one message. `domains` has them as digits, `listens` every agent's set.
 ghost use mathlib.Core.Path.{_≡_};
+ghost use mathlib.Core.Bool.{true};
 ghost use Prim.Native.Nat.{ℕ, _≤_};
 ghost use Rattle.problem.specs.Problem.{Problem};
 ghost use Rattle.protocol.specs.Network.{Network as Network′};
-ghost use Rattle.protocol.specs.Shape.{lhsFits, messageFits};
+ghost use Rattle.protocol.specs.Shape.{lhsFits};
 ghost use Rattle.agent.specs.Abstract.{assigned, messageOf};
-ghost use Rattle.network.specs.Parts.{Domains, setOf};
+ghost use Rattle.network.specs.Parts.{Domains, setOf, isLink, fitsNow};
 use crate::range::owned;
 use agent::Lhs;
 use agent::Message;
@@ -20,10 +21,28 @@ fn lhs_fits(domains: u64, j: u8, lhs: Lhs) -> bool
     at_most(lhs.digits, domains % (1u64 << (4 * (j - 1))))
 }
 
-// One message on the channel from i to j.
-pub fn message_fits(domains: u64, listens: &[u16; 12], i: u8, j: u8, m: Message) -> bool
+// The message is a link request.
+pub fn is_link(m: Message) -> bool
+    ensures { λ b. ⌜ b ≡ isLink (messageOf m) ⌝ }
+{
+    match m {
+        Message::Info(_) => false,
+        Message::Back(_, _) => false,
+        Message::AddLink => true,
+    }
+}
+
+// One message on the channel from i to j. No link request fits where one was `asked`, as it is where the receiver informs the sender already.
+pub fn message_fits(
+    domains: u64,
+    listens: &[u16; 12],
+    i: u8,
+    j: u8,
+    m: Message,
+    asked: bool,
+) -> bool
     requires { ⌜ (1 ≤ i) × (i ≤ 12) × (1 ≤ j) × (j ≤ 12) ⌝ }
-    ensures { λ b. ⌜ ((w : Network′) → Domains (w .problem) domains → ((k x : ℕ) → w .agents k .listens x ≡ setOf (now (listens .entry)) k x) → b ≡ messageFits w i j (messageOf m)) ⌝ }
+    ensures { λ b. ⌜ ((w : Network′) → Domains (w .problem) domains → ((k x : ℕ) → w .agents k .listens x ≡ setOf (now (listens .entry)) k x) → (w .agents j .informs i ≡ true → asked ≡ true) → b ≡ fitsNow w i j asked (messageOf m)) ⌝ }
 {
     match m {
         Message::Info(v) => {
@@ -49,6 +68,9 @@ pub fn message_fits(domains: u64, listens: &[u16; 12], i: u8, j: u8, m: Message)
         }
         Message::AddLink => {
             if i <= j {
+                return false;
+            }
+            if asked {
                 return false;
             }
             has(listens[i as usize - 1], j)

@@ -11,6 +11,7 @@ use agent::Lhs;
 use agent::Message;
 use packed::digit;
 use packed::first_digit;
+use packed::has;
 use packed::with_digit;
 
 mod agents;
@@ -19,9 +20,8 @@ pub mod places;
 mod range;
 mod sets;
 
-use agents::holds_in_shape;
-use agents::links_in_shape;
-use agents::unused;
+use agents::agent_passes;
+use channels::is_link;
 use channels::message_fits;
 use places::channel_at;
 use places::lines_of;
@@ -122,33 +122,27 @@ pub fn in_shape(r: Network) -> bool
     while i < 12 {
         let a = r.agents[i as usize];
         i += 1;
-        if n < i {
-            if !unused(a) {
-                return false;
-            }
-        } else {
-            if !links_in_shape(n, &informs, &r.bans, i, a.listens) {
-                return false;
-            }
-            if !holds_in_shape(r.verdict, domains, i, a) {
-                return false;
-            }
+        if !agent_passes(n, r.verdict, domains, &informs, &r.bans, i, a) {
+            return false;
         }
     }
-    // the channels from i are looked at: those to the digits of `rest` are left, and of the one to j all messages but `left` fit
+    // the channels from i are looked at: those to the digits of `rest` are left, and of the one to j all messages but `left` fit; no link request
+    // fits any more where one was `asked`: the receiver informs i already, or one was met
     i = 0;
     let mut rest: u64 = 0;
     let mut j: u8 = 1;
     let mut left: u8 = 0;
+    let mut asked = false;
     loop {
         if left != 0 {
             left -= 1;
             let head = digit(r.heads[i as usize - 1], j);
             let place = r.places[place_at(channel_at(i, j), head, left)];
             let m = place.message;
-            if !message_fits(domains, &listens, i, j, m) {
+            if !message_fits(domains, &listens, i, j, m, asked) {
                 return false;
             }
+            asked = asked | is_link(m);
         } else if rest != 0 {
             j = first_digit(rest);
             left = digit(rest, j);
@@ -156,6 +150,7 @@ pub fn in_shape(r: Network) -> bool
                 return false;
             }
             rest = with_digit(rest, j, 0);
+            asked = has(informs[j as usize - 1], i);
         } else if i < 12 {
             rest = lines_of(r.counts[i as usize], i + 1);
             i += 1;

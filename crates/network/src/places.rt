@@ -2,7 +2,7 @@
 ghost use mathlib.Core.Path.{_≡_};
 ghost use mathlib.Core.Bool.{true, false};
 ghost use Prim.Native.Nat.{ℕ, pred, _+_, _*_, _%_, _≤_, _<_};
-ghost use Rattle.problem.specs.Problem.{pairsBefore, wordAt};
+ghost use Rattle.problem.specs.Problem.{pairsBefore};
 ghost use Rattle.packed.specs.Packed.{assignment};
 ghost use Rattle.network.specs.Abstract.{isChannel, channelAt};
 use packed::with_digit;

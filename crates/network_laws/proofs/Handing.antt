@@ -2,11 +2,11 @@
 -- then the definitions' delivery is rejected or accepted as the code's is, with the network that the code has stored.
 use Prim.Native.Nat.{ℕ, suc, pred, _+_, _-_, _*_, _%_, _≤_}
 use mathlib.Core.Bool.{Bool, true, false, _&&_, _||_}
-use mathlib.Core.Path.{_≡_, refl, sym, ap, _∙_, subst, fun-ext}
+use mathlib.Core.Path.{_≡_, sym, ap, _∙_, subst, fun-ext}
 use mathlib.Core.Logic.{_≢_}
 use mathlib.Core.List.{List, [], _∷_}
 use native.Mathlib.Omega.{arith}
-use lib.ListN.{getD, length, length-set}
+use lib.ListN.{getD, length-set}
 use lib.Seq.{getD-set-other}
 use lib.Dec.{eqb}
 use borrow.Author.Tests.{eqb-false}
@@ -16,10 +16,10 @@ use Rattle.base.proofs.Search.{at-same, at-other}
 use Rattle.base.proofs.Lists.{All, All-map, every-all}
 use Rattle.problem.specs.Problem.{maxAgents, pairsBefore}
 use Rattle.agent_rules.specs.Message.{Message as Message′, Post as Post′}
-use Rattle.agent_rules.specs.Agent.{Agent as Agent′, Step as Step′}
+use Rattle.agent_rules.specs.Agent.{Step as Step′}
 use Rattle.agent_rules.specs.Receiving.{receive}
 use Rattle.agent_rules.specs.Shape.{anyValue, RecordFits, MessageFits}
-use Rattle.packed.specs.Packed.{assignment, members}
+use Rattle.packed.specs.Packed.{assignment}
 use Rattle.agent.specs.declared.Agent.{Agent}
 use Rattle.agent.specs.declared.Message.{Message}
 use Rattle.agent.specs.declared.Message.the-variants.{Info}
@@ -30,13 +30,10 @@ use Rattle.agent.specs.Posting.{postsLeft, stepOf}
 use Rattle.protocol.specs.Network.{Network as Network′, posted, withStep, withChannel, stepOn, handed}
 use Rattle.protocol.specs.Shape.{capacity, inShape}
 use Rattle.protocol.specs.Delivery.{
-  EmptyChannel,
-  AlreadyInformed,
   NoRoom,
   Accepted,
   rejecting,
   numbersGood,
-  asksAgain,
   fits,
   deliverHead,
   deliver,
@@ -57,17 +54,15 @@ use Rattle.network_laws.proofs.Changes.{
   rest,
   Taken,
   channel-held,
-  held-is,
   head-is,
   arrived-channel,
-  agent-is,
   agents-changed,
 }
 use Rattle.network_laws.proofs.Posting.{posted-same, posted-other, Posting, posting-starts, posting-fits, posting-ends}
 use Rattle.network_laws.proofs.Words.{part}
 use Rattle.network_laws.proofs.Stepping.{own, step-is, able, receiver-fits, message-received, view-fits}
 use Rattle.network_laws.proofs.Finding.{room-is}
-use Rattle.network_laws.proofs.Rejecting.{tries, asks, jams, goes}
+use Rattle.network_laws.proofs.Rejecting.{tries, jams, goes}
 
 -- ---- the message is found
 
@@ -104,24 +99,11 @@ zeroPlace = record { message = Info 0 }
 abbrev pub headAt : Network → ℕ → Message′
 headAt o x = messageOf (getD (o .places) x zeroPlace .message)
 
--- none is found: 8
-pub finds-none : (o : Network) (i j : ℕ) → inShape (networkOf o) ≡ true → numbersGood (networkOf o) i j ≡ true → o .verdict ≡ false
-    → assignment (wordAt (o .counts) i) j ≡ 0 → deliver (networkOf o) i j ≡ rejecting EmptyChannel (networkOf o)
-unfolding networkOf deliverHead
-finds-none o i j s n v e =
-    tries (networkOf o) i j s n v [] (none (networkOf o .channel i j)
-    (channel-held o i j ∙ held-is (o .counts) i j (numbers-line (networkOf o) i j s n) ∙ e))
-  where
-    none : (ms : List Message′) → length ms ≡ 0 → ms ≡ []
-    none [] z = refl
-    none (m ∷ ms) z = absurd (omega arith)
-
 -- ---- and handed to its receiver
 
 -- a delivery that has found its message, and whose receiver has made the step t of it
 pub record Stepped (o : Network) (i j x : ℕ) (t : Step) : Type 0 where
   pub found : Found o i j x
-  pub first : asksAgain (networkOf o .agents j) i (headAt o x) ≡ false
   pub step : stepOf t ≡ stepOn (networkOf o) i j (headAt o x)
   pub others : every (λ p. isOther (own (o .rule) (o .domains) j) (p .to)) (stepOn (networkOf o) i j (headAt o x) .sent) ≡ true
 
@@ -141,54 +123,37 @@ module _ {o : Network} {i j x : ℕ} (f : Found o i j x) where
   unfolding networkOf
   found-tries = tries w i j (f .shape) (f .numbers) (f .running) (headAt o x ∷ rest o i j) found-head
 
-  module _ (d : Agent) where
-    receiver-is : w .agents j ≡ agentOf (getD (o .agents) (j - 1) d)
-    receiver-is = agent-is o d j (f .sized) (found-ends f .to-low) (found-ends f .to-high)
+  module _ (d : Agent) (domains bans : List ℕ) (a : ℕ) (p : domains ≡ o .domains) (k : bans ≡ o .bans) (e : a ≡ pairsBefore (pred j)) where
+    abbrev m : Message
+    m = getD (o .places) x zeroPlace .message
 
-    -- what `asks_again` ensures of its answer
-    abbrev pub Again : Bool → Type 0
-    Again b = (a : Agent′) → a .informs ≡ members (getD (o .agents) (j - 1) d .informs) → b ≡ asksAgain a i (headAt o x)
+    -- what the receiver's bars ask
+    pub bars-ask : Able (own (o .rule) domains j) (part bans a j) × ViewFits (own (o .rule) domains j) (assigned (getD (o .agents) (j - 1) d .view))
+    bars-ask = (able o i j m (rest o i j) (f .sized) found-at domains bans a p k e, view-fits o i j m (rest o i j) (f .sized) found-at d domains p)
 
-    again-is : (b : Bool) → Again b → b ≡ asksAgain (w .agents j) i (headAt o x)
-    unfolding agentOf
-    again-is b r = r (w .agents j) (ap (λ (a : Agent′). a .informs) receiver-is)
+    -- what its step asks, but for its bars
+    pub step-asks :
+        Able (own (o .rule) domains j) (part bans a j)
+        × (RecordFits anyValue (selfOf′ (own (o .rule) domains j)) (agentOf (getD (o .agents) (j - 1) d))
+        × MessageFits anyValue (selfOf′ (own (o .rule) domains j)) (agentOf (getD (o .agents) (j - 1) d)) i (headAt o x))
+    step-asks = (
+      able o i j m (rest o i j) (f .sized) found-at domains bans a p k e,
+      (receiver-fits o i j m (rest o i j) (f .sized) found-at d domains p, message-received o i j m (rest o i j) (f .sized) found-at d domains p),
+    )
 
-    -- a link is asked for again: 9
-    pub asked-again : (b : Bool) → Again b → b ≡ true → deliver w i j ≡ rejecting AlreadyInformed w
-    asked-again b r t = found-tries ∙ asks w i j (headAt o x) (rest o i j) (sym (again-is b r) ∙ t)
-
-    module _ (domains bans : List ℕ) (a : ℕ) (p : domains ≡ o .domains) (k : bans ≡ o .bans) (e : a ≡ pairsBefore (pred j)) where
-      abbrev m : Message
-      m = getD (o .places) x zeroPlace .message
-
-      -- what the receiver's bars ask
-      pub bars-ask : Able (own (o .rule) domains j) (part bans a j) × ViewFits (own (o .rule) domains j) (assigned (getD (o .agents) (j - 1) d .view))
-      bars-ask = (able o i j m (rest o i j) (f .sized) found-at domains bans a p k e, view-fits o i j m (rest o i j) (f .sized) found-at d domains p)
-
-      -- what its step asks, but for its bars
-      pub step-asks :
-          Able (own (o .rule) domains j) (part bans a j)
-          × (RecordFits anyValue (selfOf′ (own (o .rule) domains j)) (agentOf (getD (o .agents) (j - 1) d))
-          × MessageFits anyValue (selfOf′ (own (o .rule) domains j)) (agentOf (getD (o .agents) (j - 1) d)) i (headAt o x))
-      step-asks = (
-        able o i j m (rest o i j) (f .sized) found-at domains bans a p k e,
-        (receiver-fits o i j m (rest o i j) (f .sized) found-at d domains p, message-received o i j m (rest o i j) (f .sized) found-at d domains p),
-      )
-
-      pub steps : (b : Bool) → Again b → b ≡ false → (t : Step)
-          → StepsAs (own (o .rule) domains j) (bansIn (part bans a j)) t
-          (receive (selfOf′ (own (o .rule) domains j)) (bansIn (part bans a j)) (agentOf (getD (o .agents) (j - 1) d)) i (headAt o x))
-          → Stepped o i j x t
-      steps b r n t q =
-          let c = found-ends f in
-          let s = step-is o domains bans i j a d m (f .sized) p k (c .to-low) (c .to-high) e in
-          record {
-            found = f;
-            first = sym (again-is b r) ∙ n;
-            step = q .step ∙ s;
-            others =
-                subst (λ (l : List Post′). every (λ p. isOther (own (o .rule) (o .domains) j) (p .to)) l ≡ true) (ap (λ (y : Step′). y .sent) s) (rw (← p) (q .others));
-          }
+    pub steps : (t : Step)
+        → StepsAs (own (o .rule) domains j) (bansIn (part bans a j)) t
+        (receive (selfOf′ (own (o .rule) domains j)) (bansIn (part bans a j)) (agentOf (getD (o .agents) (j - 1) d)) i (headAt o x))
+        → Stepped o i j x t
+    steps t q =
+        let c = found-ends f in
+        let s = step-is o domains bans i j a d m (f .sized) p k (c .to-low) (c .to-high) e in
+        record {
+          found = f;
+          step = q .step ∙ s;
+          others =
+              subst (λ (l : List Post′). every (λ p. isOther (own (o .rule) (o .domains) j) (p .to)) l ≡ true) (ap (λ (y : Step′). y .sent) s) (rw (← p) (q .others));
+        }
 
 -- ---- the step, put into the network
 
@@ -266,7 +231,7 @@ module _ {o : Network} {i j x : ℕ} {t : Step} (s : Stepped o i j x t) where
   -- 10
   pub finds-no-room : rowFits (heldAt (o .counts) j) (postsLeft (t .posts) (t .backs)) ≡ false
       → deliver (networkOf o) i j ≡ rejecting NoRoom (networkOf o)
-  finds-no-room n = found-tries f ∙ jams v i j (headAt o x) (rest o i j) (s .first) (room-is-found ∙ n)
+  finds-no-room n = found-tries f ∙ jams v i j (headAt o x) (rest o i j) (room-is-found ∙ n)
 
   -- all are stored
   module _ {left : List Post′} {p : Network} {now : ℕ} (h : Posting o j (postsLeft (t .posts) (t .backs)) left p now) (e : left ≡ [])
@@ -312,5 +277,5 @@ module _ {o : Network} {i j x : ℕ} {t : Step} (s : Stepped o i j x t) where
         ≡ record { network = networkOf (arrived (rowed p j now) i j heads counts (t .agent) (t .verdict)); answer = Accepted; sent = stepOn (networkOf o) i j (headAt o x) .sent }
     delivers =
         found-tries f
-        ∙ goes v i j (headAt o x) (rest o i j) (s .first) (room-is-found ∙ posting-fits h e (held-few o (f .shape) j (E .to-low) (E .to-high)))
+        ∙ goes v i j (headAt o x) (rest o i j) (room-is-found ∙ posting-fits h e (held-few o (f .shape) j (E .to-low) (E .to-high)))
         ∙ ap (λ (y : Network′). record { network = y; answer = Accepted; sent = stepOn v i j (headAt o x) .sent }) (sym handed-is)

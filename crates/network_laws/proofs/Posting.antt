@@ -1,7 +1,7 @@
 -- The posts of a step, put onto the receiver's channels one by one. Each goes to an unused place and is counted in a row of its own, so that the network
 -- stays what it was; once all have found room, the network with that row has them at the ends of its channels. A full channel is met exactly if one
 -- would come to hold more than eight.
-use Prim.Native.Nat.{ℕ, suc, _+_, _*_, _-_, _%_, _≤_, _<_}
+use Prim.Native.Nat.{ℕ, suc, _+_, _*_, _%_, _≤_, _<_}
 use mathlib.Core.Bool.{true, false, false≢true}
 use mathlib.Core.Path.{_≡_, refl, sym, ap, _∙_, subst, fun-ext}
 use mathlib.Core.Logic.{_≢_}

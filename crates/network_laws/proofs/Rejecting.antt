@@ -10,13 +10,11 @@ use Rattle.protocol.specs.Delivery.{
   BadShape,
   BadNumbers,
   VerdictStands,
-  AlreadyInformed,
   NoRoom,
   Accepted,
   Delivery,
   rejecting,
   numbersGood,
-  asksAgain,
   fits,
   deliverHead,
   deliver,
@@ -47,15 +45,11 @@ module _ (w : Network′) (i j : ℕ) (s : inShape w ≡ true) (n : numbersGood 
   tries v l e = by-verdict v ∙ ap (deliverHead w i j) e
 
 module _ (w : Network′) (i j : ℕ) (m : Message′) (others : List Message′) where
-  pub asks : asksAgain (w .agents j) i m ≡ true → deliverHead w i j (m ∷ others) ≡ rejecting AlreadyInformed w
+  pub jams : fits (handed w i j m others) ≡ false → deliverHead w i j (m ∷ others) ≡ rejecting NoRoom w
   unfolding deliverHead
-  asks a = rw (a, deliverHead)
+  jams f = rw (f, deliverHead)
 
-  pub jams : asksAgain (w .agents j) i m ≡ false → fits (handed w i j m others) ≡ false → deliverHead w i j (m ∷ others) ≡ rejecting NoRoom w
-  unfolding deliverHead
-  jams a f = rw (a, deliverHead, f)
-
-  pub goes : asksAgain (w .agents j) i m ≡ false → fits (handed w i j m others) ≡ true
+  pub goes : fits (handed w i j m others) ≡ true
       → deliverHead w i j (m ∷ others) ≡ record { network = handed w i j m others; answer = Accepted; sent = stepOn w i j m .sent }
   unfolding deliverHead
-  goes a f = rw (a, deliverHead, f)
+  goes f = rw (f, deliverHead)

@@ -9,23 +9,15 @@ use native.Mathlib.Numerals.{add-one}
 use lib.ListN.{getD, set, length}
 use lib.Seq.{getD-set-same, getD-set-other}
 use Rattle.base.proofs.Arrays.{getD-below}
-use Rattle.agent_rules.specs.Message.{Message as Message′}
 use Rattle.network.specs.declared.Place.{Place}
 use Rattle.network.specs.Abstract.{placeOf, noPlace, ring}
+use Rattle.network.proofs.Rings.{ring-snoc}
 
 -- a head counts modulo eight
 ring-cong : (ps : List Place) (b h j k : ℕ) → h % 8 ≡ j % 8 → ring ps b h k ≡ ring ps b j k
 unfolding ring
 ring-cong ps b h j zero e = refl
 ring-cong ps b h j (suc k) e = rw (e, ring-cong ps b (suc h) (suc j) k (omega arith))
-
--- the last of a ring
-ring-snoc : (ps : List Place) (b h k : ℕ) → ring ps b h (suc k) ≡ ring ps b h k ++ (placeOf (getD ps (b + (h + k) % 8) noPlace) ∷ [])
-unfolding ring
-ring-snoc ps b h zero = let e : h + 0 ≡ h = omega arith in rw e
-ring-snoc ps b h (suc k) =
-    let e : h + suc k ≡ suc h + k = omega arith in
-    rw e (ap (λ (l : List Message′). placeOf (getD ps (b + h % 8) noPlace) ∷ l) (ring-snoc ps b (suc h) k))
 
 -- other places that hold the same
 pub ring-same : (ps qs : List Place) (b h k : ℕ) → ((j : ℕ) → getD ps (b + j % 8) noPlace ≡ getD qs (b + j % 8) noPlace)

@@ -5,8 +5,7 @@ use mathlib.Core.List.{List, [], _∷_}
 use lib.Dec.{eqb}
 use Rattle.base.specs.Finite.{within, allTo}
 use Rattle.problem.specs.Problem.{maxAgents}
-use Rattle.agent_rules.specs.Message.{Message, Info, Back, AddLink, Post}
-use Rattle.agent_rules.specs.Agent.{Agent}
+use Rattle.agent_rules.specs.Message.{Message, Post}
 use Rattle.protocol.specs.Network.{Network, stepOn, handed}
 use Rattle.protocol.specs.Shape.{hasRoom, inShape}
 
@@ -16,16 +15,14 @@ pub data Rejection : Type 0 where
   BadNumbers : Rejection  -- "scanner numbers not 1 to n, or equal"
   VerdictStands : Rejection  -- "a verdict stands"
   EmptyChannel : Rejection  -- "the line is empty"
-  AlreadyInformed : Rejection  -- "a link request from a scanner that is informed already"
   NoRoom : Rejection  -- "no room"
 
--- the table's number
+-- the table's number; 9 is given to nothing
 unfoldable pub rejectionNumber : Rejection → ℕ
 rejectionNumber BadShape = 5
 rejectionNumber BadNumbers = 6
 rejectionNumber VerdictStands = 7
 rejectionNumber EmptyChannel = 8
-rejectionNumber AlreadyInformed = 9
 rejectionNumber NoRoom = 10
 
 pub data Answer : Type 0 where
@@ -55,12 +52,6 @@ rejecting r w = record { network = w; answer = Rejected r; sent = [] }
 unfoldable pub numbersGood : Network → ℕ → ℕ → Bool
 numbersGood w i j = within (w .problem .count) i && within (w .problem .count) j && not (eqb i j)
 
--- the message is a link request of an agent that the receiver informs already
-unfoldable pub asksAgain : Agent → ℕ → Message → Bool
-asksAgain a i (Info v) = false
-asksAgain a i (Back lhs v) = false
-asksAgain a i AddLink = a .informs i
-
 -- no line holds more than eight
 unfoldable pub fits : Network → Bool
 fits w = allTo maxAgents (λ i. allTo maxAgents (λ j. hasRoom w i j))
@@ -69,15 +60,12 @@ fits w = allTo maxAgents (λ i. allTo maxAgents (λ j. hasRoom w i j))
 unfoldable pub deliverHead : Network → ℕ → ℕ → List Message → Delivery
 deliverHead w i j [] = rejecting EmptyChannel w
 deliverHead w i j (m ∷ others) =
-    elim (asksAgain (w .agents j) i m) [
-      | true ↦ rejecting AlreadyInformed w
-      | false ↦ elim (fits (handed w i j m others)) [
-        | true ↦ record { network = handed w i j m others; answer = Accepted; sent = stepOn w i j m .sent }
-        | false ↦ rejecting NoRoom w
-      ]
+    elim (fits (handed w i j m others)) [
+      | true ↦ record { network = handed w i j m others; answer = Accepted; sent = stepOn w i j m .sent }
+      | false ↦ rejecting NoRoom w
     ]
 
--- "A delivery tests 5 to 10 in that order."
+-- "A delivery tests 5, 6, 7, 8 and 10 in that order"
 unfoldable pub deliver : Network → ℕ → ℕ → Delivery
 deliver w i j =
     elim (inShape w) [

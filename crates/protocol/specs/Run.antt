@@ -1,29 +1,14 @@
 -- Rounds and the run. docs/RULES.md, 'Rounds and the run', first paragraph.
 use Prim.Native.Nat.{ℕ, zero, suc, _+_}
 use mathlib.Core.Bool.{Bool, true, false, _&&_, _||_}
-use mathlib.Core.Option.{Option, none, some}
 use mathlib.Core.List.{List, [], _∷_, _++_}
 use lib.ListN.{length, replicate}
 use lib.Dec.{eqb, leb}
-use Rattle.base.specs.Finite.{allTo, any, isSome, gather}
+use Rattle.base.specs.Finite.{allTo, any, gather}
 use Rattle.agent_rules.specs.Message.{Message}
 use Rattle.protocol.specs.Network.{Network}
 use Rattle.protocol.specs.Shape.{inShape}
-use Rattle.protocol.specs.Delivery.{
-  Rejection,
-  BadShape,
-  BadNumbers,
-  VerdictStands,
-  EmptyChannel,
-  AlreadyInformed,
-  NoRoom,
-  rejectionNumber,
-  Answer,
-  Accepted,
-  Rejected,
-  Delivery,
-  deliver,
-}
+use Rattle.protocol.specs.Delivery.{BadShape, NoRoom, rejectionNumber, Answer, Accepted, Rejected, Delivery, deliver}
 
 -- a channel (line), by its ends
 pub record Line : Type 0 where
@@ -62,15 +47,14 @@ visits w =
 pub record Sweep : Type 0 where
   pub network : Network
   pub delivered : ℕ  -- accepted deliveries
-  pub fault : Option Rejection  -- the rejection that stops the run
   pub tried : List Try  -- in order
 
 unfoldable pub beginRound : Network → Sweep
-beginRound w = record { network = w; delivered = 0; fault = none; tried = [] }
+beginRound w = record { network = w; delivered = 0; tried = [] }
 
--- "A verdict and a refusal 9 stop the run at once"
+-- "A verdict stops the run at once"
 unfoldable pub stopped : Sweep → Bool
-stopped s = s .network .verdict || isSome (s .fault)
+stopped s = s .network .verdict
 
 -- a 10
 unfoldable pub isNoRoom : Answer → Bool
@@ -85,11 +69,6 @@ passedBy l t = isLine (l .from) (l .to) (t .line) && isNoRoom (t .answer)
 unfoldable pub passedOver : Sweep → Line → Bool
 passedOver s l = any (passedBy l) (s .tried)
 
--- the rejection that stops the run; a 10 does not
-unfoldable pub stopFor : Answer → Option Rejection
-stopFor Accepted = none
-stopFor (Rejected r) = elim (isNoRoom (Rejected r)) [ true ↦ none | false ↦ some r ]
-
 unfoldable pub counts : Answer → ℕ
 counts Accepted = 1
 counts (Rejected r) = 0
@@ -100,7 +79,6 @@ tally s l d =
     record {
       network = d .network;
       delivered = s .delivered + counts (d .answer);
-      fault = stopFor (d .answer);
       tried = s .tried ++ (record { line = l; answer = d .answer } ∷ []);
     }
 
@@ -124,12 +102,11 @@ isFull w s = eqb (s .delivered) (length (visits w))
 
 -- ---- the run
 
--- how a run ends: one of five words, or rejected
+-- how a run ends: one of four words, or rejected
 pub data Ending : Type 0 where
   None : Ending  -- "`none` for the verdict"
   Plan : Ending  -- "`plan` for nothing waiting"
   Jammed : Ending  -- "`jammed` where a whole round delivered nothing while something waits"
-  Faulty : Ending  -- "`faulty` after a 9"
   Open : Ending  -- "else `open`"
   Broken : Ending  -- "The run refuses only with 5"
 
@@ -138,7 +115,6 @@ unfoldable pub endingNumber : Ending → ℕ
 endingNumber None = 0
 endingNumber Plan = 0
 endingNumber Jammed = 0
-endingNumber Faulty = 0
 endingNumber Open = 0
 endingNumber Broken = rejectionNumber BadShape
 
@@ -147,7 +123,6 @@ unfoldable pub endingWord : Ending → List ℕ
 endingWord None = 110 ∷ 111 ∷ 110 ∷ 101 ∷ []
 endingWord Plan = 112 ∷ 108 ∷ 97 ∷ 110 ∷ []
 endingWord Jammed = 106 ∷ 97 ∷ 109 ∷ 109 ∷ 101 ∷ 100 ∷ []
-endingWord Faulty = 102 ∷ 97 ∷ 117 ∷ 108 ∷ 116 ∷ 121 ∷ []
 endingWord Open = 111 ∷ 112 ∷ 101 ∷ 110 ∷ []
 endingWord Broken = []
 
@@ -162,49 +137,34 @@ pub record Ran : Type 0 where
   pub ending : Ending
   pub rounds : List Round  -- every round, in order
 
-unfoldable pub faultEnding : Rejection → Ending
-faultEnding BadShape = Open
-faultEnding BadNumbers = Open
-faultEnding VerdictStands = Open
-faultEnding EmptyChannel = Open
-faultEnding AlreadyInformed = Faulty
-faultEnding NoRoom = Jammed
+-- the verdict comes first, then nothing waiting; `stuck` where the last round delivered nothing
+unfoldable pub endingAt : Network → Bool → Ending
+endingAt w stuck =
+    elim (w .verdict) [ true ↦ None | false ↦ elim (idle w) [ true ↦ Plan | false ↦ elim stuck [ true ↦ Jammed | false ↦ Open ] ] ]
 
-unfoldable pub endingFor : Option Rejection → Ending
-endingFor none = Open
-endingFor (some r) = faultEnding r
-
--- the verdict comes first, then nothing waiting
-unfoldable pub endingAt : Network → Option Rejection → Ending
-endingAt w f = elim (w .verdict) [ true ↦ None | false ↦ elim (idle w) [ true ↦ Plan | false ↦ endingFor f ] ]
-
-unfoldable pub finish : Network → ℕ → List Round → Option Rejection → Ran
-finish w made rounds f = record { network = w; made = made; ending = endingAt w f; rounds = rounds }
+unfoldable pub finish : Network → ℕ → List Round → Bool → Ran
+finish w made rounds stuck = record { network = w; made = made; ending = endingAt w stuck; rounds = rounds }
 
 unfoldable pub oneIf : Bool → ℕ
 oneIf true = 1
 oneIf false = 0
 
--- the rejection that ends the run after a round: the one that stopped it, or a 10 "after a whole round that delivered nothing"
-unfoldable pub faultAfter : Sweep → Option Rejection
-faultAfter s =
-    elim (isSome (s .fault)) [
-      | true ↦ s .fault
-      | false ↦ elim (eqb (s .delivered) 0) [ true ↦ some NoRoom | false ↦ none ]
-    ]
+-- "a whole round that delivered nothing"
+unfoldable pub isStuck : Sweep → Bool
+isStuck s = eqb (s .delivered) 0
 
 -- Two figures: the rounds left that the run may use, and the full rounds made. "Each visit of all lines uses one of the allowed rounds"
 unfoldable pub runFrom : ℕ → ℕ → List Round → Network → Ran
-runFrom zero made rounds w = finish w made rounds none
+runFrom zero made rounds w = finish w made rounds false
 runFrom (suc left) made rounds w =
     elim (w .verdict || idle w) [
-      | true ↦ finish w made rounds none
+      | true ↦ finish w made rounds false
       | false ↦
           let s = round w in
           let made′ = made + oneIf (isFull w s) in
           let rounds′ = rounds ++ (record { tried = s .tried; full = isFull w s } ∷ []) in
-          elim (isSome (faultAfter s)) [
-            | true ↦ finish (s .network) made′ rounds′ (faultAfter s)
+          elim (isStuck s) [
+            | true ↦ finish (s .network) made′ rounds′ true
             | false ↦ runFrom left made′ rounds′ (s .network)
           ]
     ]

@@ -7,7 +7,7 @@ use lib.Dec.{eqb, ltb, leb}
 use Rattle.base.specs.Finite.{allTo, every, isSome}
 use Rattle.problem.specs.Problem.{Problem, maxAgents, maxDomain, owns, linked, inRange}
 use Rattle.agent_rules.specs.Message.{Assignment, known, Message, Info, Back, AddLink}
-use Rattle.agent_rules.specs.Counts.{eachCount, top}
+use Rattle.agent_rules.specs.Counts.{AddLinks, eachCount, number, top}
 use Rattle.agent_rules.specs.Agent.{Agent}
 use Rattle.agent_rules.specs.Shape.{maxNamed}
 use Rattle.protocol.specs.Network.{Network, isRule}
@@ -104,19 +104,23 @@ unfoldable pub lhsFits : Problem → ℕ → Assignment → Bool
 lhsFits p j lhs = eachNamed lhs (λ k v. ltb k j && owns p k v)
 
 -- "all in its direction, with owned slots; the receiver of news listens to its sender, the sender of a refusal or request listens to the
--- receiver"
+-- receiver"; "no request waits from a scanner that its receiver informs already"
 unfoldable pub messageFits : Network → ℕ → ℕ → Message → Bool
 messageFits w i j (Info v) = ltb i j && owns (w .problem) i v && w .agents j .listens i
 messageFits w i j (Back lhs v) =
     ltb j i && owns (w .problem) j v && w .agents i .listens j && lhsFits (w .problem) j lhs
-messageFits w i j AddLink = ltb j i && w .agents i .listens j
+messageFits w i j AddLink = ltb j i && w .agents i .listens j && not (w .agents j .informs i)
 
 -- "A line holds at most eight messages"
 unfoldable pub hasRoom : Network → ℕ → ℕ → Bool
 hasRoom w i j = leb (length (w .channel i j)) capacity
 
+-- "at most one request waits on a line"
+unfoldable pub oneRequest : Network → ℕ → ℕ → Bool
+oneRequest w i j = leb (number AddLinks (w .channel i j)) 1
+
 unfoldable pub channelInShape : Network → ℕ → ℕ → Bool
-channelInShape w i j = hasRoom w i j && every (messageFits w i j) (w .channel i j)
+channelInShape w i j = hasRoom w i j && oneRequest w i j && every (messageFits w i j) (w .channel i j)
 
 -- ---- the whole
 

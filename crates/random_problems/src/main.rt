@@ -49,14 +49,13 @@ fn allowed(state: u64) -> u64 {
     }
 }
 
-// How a run ended: right where a plan settles the sheet, and where the search finds nothing for `none`. A rail from a start is never faulty.
+// How a run ended: right where a plan settles the sheet, and where the search finds nothing for `none`.
 fn ended(t: Tally, e: Ending, settled: bool, found: bool, s: &[u8]) -> Tally {
     match e {
         Ending::Plan => judged(t, PLANS, settled, b"a plan that breaks a ban:", s),
         Ending::None => judged(t, NONES, !found, b"none, where there is a plan:", s),
         Ending::Jammed => with_one(t, JAMMED),
         Ending::Open => with_one(t, OPEN),
-        Ending::Faulty => judged(t, OPEN, false, b"a faulty run:", s),
         Ending::Broken => judged(t, OPEN, false, b"a start out of shape:", s),
     }
 }

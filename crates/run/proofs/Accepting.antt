@@ -1,6 +1,6 @@
 -- A delivery whose posts the engine has stored as far as they found room: rejected at the first that found none, and else made.
 use Prim.Native.Nat.{ℕ, pred, _-_}
-use mathlib.Core.Bool.{Bool, true, false, not}
+use mathlib.Core.Bool.{Bool, true, false}
 use mathlib.Core.Path.{_≡_, sym, _∙_}
 use mathlib.Core.List.{List, []}
 use lib.ListN.{length, set, length-set}
@@ -23,18 +23,18 @@ use Rattle.run.proofs.Storing.{Storing, stays-clean}
 use Rattle.run.proofs.Visiting.{line-channel, line-ends, here, jams, accepts}
 
 module _ {once : Bool} {whole : Worked} {o₀ : Network} {number₀ : ℕ} {o : Network} {n : ℕ} {domains bans : List ℕ} {bars : List Bars} {ready : ℕ}
-    {quota : List ℕ} {missed : Bool} {left made number : ℕ} {going : Bool} {i rest : ℕ}
-    (h : Here once whole o₀ number₀ o n domains bans bars ready quota missed left made number going i rest)
-    (v : Visit) (nv : NextVisit quota n i rest v) (found : v .over ≡ false) (g : going ≡ true) where
+    {quota : List ℕ} {missed : Bool} {left made number i rest : ℕ}
+    (h : Here once whole o₀ number₀ o n domains bans bars ready quota missed left made number i rest)
+    (v : Visit) (nv : NextVisit quota n i rest v) (found : v .over ≡ false) (g : o .verdict ≡ false) where
   abbrev L : Live o n domains bans bars ready
-  L = here h v nv found g
+  L = here h v nv found
 
   module _ (bars′ : List Bars) (ready′ : ℕ) (wide : length bars′ ≡ 12) (barred : Barred bans (o .agents) bars′ ready′) {x : ℕ} {step : Step}
       (s : Stepped o (v .from) (v .to) x step) {p : Network} {posts : Posts} {now : ℕ} {room : Bool}
       (st : Storing o (v .to) step (step .backs) p posts now room) where
     -- no room
     pub stored-jams : room ≡ false → {rest′ : ℕ} → assignment rest′ ≡ at (assignment (v .rest)) (v .to) 0
-        → Here once whole o₀ number₀ p n domains bans bars′ ready′ quota true left made number going (v .from) rest′
+        → Here once whole o₀ number₀ p n domains bans bars′ ready′ quota true left made number (v .from) rest′
     stored-jams f {rest′} cut =
         let k = st .posting .kept in
         jams h v nv found g p bars′ ready′ rest′ (finds-no-room s (st .stops f)) (st .posting .network) (st .posting .sized)
@@ -53,7 +53,7 @@ module _ {once : Bool} {whole : Worked} {o₀ : Network} {number₀ : ℕ} {o : 
     pub stored-goes : postsLeft posts (step .backs) ≡ [] → {heads counts : ℕ} → Taken (rowed p (v .to) now) (v .from) (v .to) heads counts
         → (a : ℕ) → a ≡ pairsBefore (pred (v .to)) → BarsOf bans (v .to) a (step .agent) (step .bars)
         → Here once whole o₀ number₀ (arrived (rowed p (v .to) now) (v .from) (v .to) heads counts (step .agent) (step .verdict)) n domains bans
-        (set bars′ (v .to - 1) (step .bars)) ready′ quota missed left made 0 (not (step .verdict)) (v .from) (v .rest)
+        (set bars′ (v .to - 1) (step .bars)) ready′ quota missed left made 0 (v .from) (v .rest)
     stored-goes none {heads} {counts} t a e b =
         let P = st .posting in
         let k = P .kept in

@@ -1,89 +1,55 @@
--- The rejection that a round ends with: the one that stopped it, or 10 where it delivered nothing. A single delivery is a round of its own.
-use Prim.Native.Nat.{ℕ, _+_}
-use mathlib.Core.Bool.{true, false, not}
-use mathlib.Core.Path.{_≡_, refl, sym, ap, _∙_}
-use mathlib.Core.Option.{Option, none, some}
-use mathlib.Core.List.{List}
+-- The number that the work ends with: the one that the tests before it have met, else 10 where its last round has delivered nothing, else 0.
+-- A single delivery is a round of its own.
+use Prim.Native.Nat.{ℕ, zero, suc, _+_}
+use mathlib.Core.Bool.{not}
+use mathlib.Core.Path.{_≡_, refl, sym}
+use mathlib.Core.Logic.{_≢_}
+use native.Mathlib.Omega.{arith}
 use lib.Dec.{eqb}
-use Rattle.base.specs.Finite.{isSome}
-use Rattle.base.proofs.Tests.{test, isSome-false}
+use borrow.Author.Tests.{ne-eqb}
 use Rattle.protocol.specs.Network.{Network}
-use Rattle.protocol.specs.Delivery.{
-  Rejection,
-  BadShape,
-  BadNumbers,
-  VerdictStands,
-  EmptyChannel,
-  AlreadyInformed,
-  NoRoom,
-  rejectionNumber,
-  Answer,
-  Accepted,
-  Rejected,
-  Delivery,
-}
-use Rattle.protocol.specs.Run.{Line, Try, Sweep, isNoRoom, stopFor, counts, tally, faultAfter}
-use Rattle.run.specs.Working.{numberFor, isBroken, brokenBy, faultOf}
+use Rattle.protocol.specs.Delivery.{rejectionNumber, answerNumber, Delivery}
+use Rattle.protocol.specs.Run.{counts}
+use Rattle.shape_laws.proofs.RunFaults.{Tried, turned, taken}
 
--- 0 is the number of no rejection alone
-pub some-number : (f : Option Rejection) → isSome f ≡ not (eqb (numberFor f) 0)
-unfolding isSome numberFor rejectionNumber
-some-number none = refl
-some-number (some BadShape) = refl
-some-number (some BadNumbers) = refl
-some-number (some VerdictStands) = refl
-some-number (some EmptyChannel) = refl
-some-number (some AlreadyInformed) = refl
-some-number (some NoRoom) = refl
+-- of a round, by how many it delivered
+unfoldable pub roundNumber : ℕ → ℕ
+roundNumber zero = 10
+roundNumber (suc d) = 0
 
-module _ (s : Sweep) where
-  pub after-met : isSome (s .fault) ≡ true → faultAfter s ≡ s .fault
-  unfolding faultAfter
-  after-met e = rw (e, faultAfter)
+-- of the work, by the number met before it, 0 for none
+unfoldable pub numberAt : ℕ → ℕ → ℕ
+numberAt zero d = roundNumber d
+numberAt (suc k) d = suc k
 
-  after-nothing : isSome (s .fault) ≡ false → eqb (s .delivered) 0 ≡ true → faultAfter s ≡ some NoRoom
-  unfolding faultAfter
-  after-nothing e d = rw (e, faultAfter, d)
+pub stuck-number : (d : ℕ) → not (eqb (roundNumber d) 0) ≡ eqb d 0
+unfolding roundNumber
+stuck-number zero = refl
+stuck-number (suc d) = sym (ne-eqb (suc d) 0 (λ e. absurd (omega arith)))
 
-  pub after-moved : eqb (s .delivered) 0 ≡ false → faultAfter s ≡ s .fault
-  unfolding faultAfter
-  after-moved d = test (isSome (s .fault)) (λ e. after-met e) (λ e. rw (e, faultAfter, d) (sym (isSome-false (s .fault) e)))
+round-not-five : (d : ℕ) → roundNumber d ≢ 5
+unfolding roundNumber
+round-not-five zero e = omega arith
+round-not-five (suc d) e = omega arith
 
-  -- what ended with none has met none
-  pub unmet : faultAfter s ≡ none → s .fault ≡ none
-  unmet q = test (isSome (s .fault)) (λ e. sym (after-met e) ∙ q) (λ e. isSome-false (s .fault) e)
+-- what was met stays
+pub met-number : (k d : ℕ) → k ≢ 0 → numberAt k d ≡ k
+unfolding numberAt
+met-number zero d n = absurd (n refl)
+met-number (suc k) d n = refl
 
-  pub broken-after : brokenBy (faultAfter s) ≡ brokenBy (s .fault)
-  unfolding brokenBy isBroken
-  broken-after =
-      test (isSome (s .fault))
-      (λ e. ap brokenBy (after-met e))
-      (λ e. test (eqb (s .delivered) 0)
-      (λ d. ap brokenBy (after-nothing e d) ∙ sym (ap brokenBy (isSome-false (s .fault) e)))
-      (λ d. ap brokenBy (after-moved d)))
+pub none-met : (k d : ℕ) → numberAt k d ≡ 0 → k ≡ 0
+unfolding numberAt
+none-met zero d e = refl
+none-met (suc k) d e = e
 
--- by what stopped the round and how many it delivered
-abbrev afterBy : Option Rejection → ℕ → Option Rejection
-afterBy f d = elim (isSome f) [ true ↦ f | false ↦ elim (eqb d 0) [ true ↦ some NoRoom | false ↦ none ] ]
+pub five-met : (k d : ℕ) → numberAt k d ≡ 5 → k ≡ 5
+unfolding numberAt
+five-met zero d e = absurd (round-not-five d e)
+five-met (suc k) d e = e
 
-pub same-after : (s t : Sweep) → s .fault ≡ t .fault → s .delivered ≡ t .delivered → faultAfter s ≡ faultAfter t
-unfolding faultAfter
-same-after s t f d = ap (λ (x : Option Rejection). afterBy x (s .delivered)) f ∙ ap (afterBy (t .fault)) d
-
--- ---- one delivery
-
-answered : (w : Network) (ts : List Try) (a : Answer)
-    → faultAfter (record { network = w; delivered = 0 + counts a; fault = stopFor a; tried = ts }) ≡ faultOf a
-unfolding faultAfter isSome counts stopFor isNoRoom rejectionNumber faultOf
-answered w ts Accepted = refl
-answered w ts (Rejected BadShape) = refl
-answered w ts (Rejected BadNumbers) = refl
-answered w ts (Rejected VerdictStands) = refl
-answered w ts (Rejected EmptyChannel) = refl
-answered w ts (Rejected AlreadyInformed) = refl
-answered w ts (Rejected NoRoom) = refl
-
-pub after-one : (w : Network) (ts : List Try) (l : Line) (d : Delivery)
-    → faultAfter (tally (record { network = w; delivered = 0; fault = none; tried = ts }) l d) ≡ faultOf (d .answer)
-unfolding tally
-after-one w ts l d = answered (d .network) _ (d .answer)
+-- a single delivery that finds a message
+pub one-number : (w : Network) (i j : ℕ) (d : Delivery) → Tried w i j d → roundNumber (0 + counts (d .answer)) ≡ answerNumber (d .answer)
+unfolding roundNumber counts answerNumber rejectionNumber
+one-number w i j d (turned a e) = rw a
+one-number w i j d (taken m others h a e) = rw a

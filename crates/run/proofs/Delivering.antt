@@ -3,19 +3,17 @@ use Prim.Native.Nat.{ℕ}
 use mathlib.Core.Bool.{true, false}
 use mathlib.Core.Path.{_≡_, refl, sym, _∙_}
 use mathlib.Core.Logic.{_≢_}
-use mathlib.Core.Option.{some}
 use mathlib.Core.List.{List, [], _∷_}
 use Rattle.base.proofs.Tests.{test}
 use Rattle.agent_rules.specs.Message.{Message}
 use Rattle.protocol.specs.Network.{Network as Network′, handed}
 use Rattle.protocol.specs.Shape.{inShape}
-use Rattle.protocol.specs.Delivery.{BadShape, rejectionNumber, Answer, Accepted, Rejected, answerNumber, Delivery, rejecting, numbersGood, asksAgain, fits, deliverHead, deliver}
+use Rattle.protocol.specs.Delivery.{BadShape, rejectionNumber, answerNumber, Delivery, rejecting, numbersGood, fits, deliverHead, deliver}
 use Rattle.protocol.specs.Run.{
   Ending as Ending′,
   None as None′,
   Plan as Plan′,
   Jammed as Jammed′,
-  Faulty as Faulty′,
   Open as Open′,
   Broken as Broken′,
   endingNumber,
@@ -26,9 +24,9 @@ use Rattle.protocol.specs.Run.{
 }
 use Rattle.network.specs.declared.Network.{Network}
 use Rattle.network.specs.Abstract.{networkOf}
-use Rattle.network_laws.proofs.Rejecting.{bad-shape, bad-numbers, stands, tries, asks, jams, goes}
+use Rattle.network_laws.proofs.Rejecting.{bad-shape, bad-numbers, stands, tries, jams, goes}
 use Rattle.run.specs.declared.Answer.{Answer as Answered}
-use Rattle.run.specs.Working.{numberFor, isBroken, brokenBy, endsBy, stoppedWith, faultOf, deliveredAs, ranAs, workBy}
+use Rattle.run.specs.Working.{endsBy, stoppedWith, deliveredAs, ranAs, workBy}
 use Rattle.run.specs.Answers.{endingOf, WorksAs, DeliversAs, standing, RunsAs}
 
 -- ---- a rejected delivery changes nothing
@@ -41,11 +39,9 @@ head-kept : (w : Network′) (i j : ℕ) (l : List Message) → Kept w (deliverH
 unfolding deliverHead rejecting answerNumber
 head-kept w i j [] = λ n. refl
 head-kept w i j (m ∷ others) =
-    test (asksAgain (w .agents j) i m)
-    (λ a. rw (asks w i j m others a) (λ n. refl))
-    (λ a. test (fits (handed w i j m others))
-    (λ f. rw (goes w i j m others a f) (λ n. absurd (n refl)))
-    (λ f. rw (jams w i j m others a f) (λ n. refl)))
+    test (fits (handed w i j m others))
+    (λ f. rw (goes w i j m others f) (λ n. absurd (n refl)))
+    (λ f. rw (jams w i j m others f) (λ n. refl))
 
 rejected-kept : (w : Network′) (i j : ℕ) → Kept w (deliver w i j)
 unfolding rejecting answerNumber
@@ -60,18 +56,13 @@ rejected-kept w i j =
 
 -- ---- one delivery
 
-number-is : (a : Answer) → numberFor (faultOf a) ≡ answerNumber a
-unfolding numberFor faultOf answerNumber
-number-is Accepted = refl
-number-is (Rejected r) = refl
-
 module _ (r : Network) (i j k : ℕ) (a : Answered) (w : WorksAs (workBy true i j k (networkOf r)) a) where
   abbrev d : Delivery
   d = deliver (networkOf r) i j
 
   number : a .number ≡ answerNumber (d .answer)
   unfolding workBy deliveredAs stoppedWith
-  number = w .number ∙ number-is (d .answer)
+  number = w .number
 
   pub delivered : a .number ≡ 0 → DeliversAs r (deliver (networkOf r) i j) (a .number) (a .network)
   unfolding workBy deliveredAs stoppedWith
@@ -93,7 +84,6 @@ unfolding endingNumber rejectionNumber
 number-five None′ n = absurd (n refl)
 number-five Plan′ n = absurd (n refl)
 number-five Jammed′ n = absurd (n refl)
-number-five Faulty′ n = absurd (n refl)
 number-five Open′ n = absurd (n refl)
 number-five Broken′ n = refl
 
@@ -109,9 +99,9 @@ module _ (r : Network) (x : Answered) (u : x .number ≡ 5 → x .network ≡ r)
         untouched = λ n. u (w .number ∙ number-five (d .ending) (λ z. n (w .number ∙ z)));
       }
 
-  broken : WorksAs (stoppedWith (networkOf r) (some BadShape)) x
+  broken : WorksAs (stoppedWith (networkOf r) (rejectionNumber BadShape)) x
       → RunsAs r (record { network = networkOf r; made = 0; ending = Broken′; rounds = [] }) x
-  unfolding stoppedWith numberFor endsBy brokenBy isBroken endingNumber rejectionNumber
+  unfolding stoppedWith endsBy endingNumber rejectionNumber
   broken w =
       record { network = w .network; rounds = w .rounds; number = w .number; ending = w .ending; untouched = λ n. u (w .number) }
 

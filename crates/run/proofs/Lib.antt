@@ -1,5 +1,4 @@
 pub mod Held
-pub mod Endings
 pub mod After
 pub mod Testing
 pub mod Ahead

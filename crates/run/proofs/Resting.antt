@@ -1,56 +1,31 @@
 -- The engine's loop between two rounds: the work stops, with its number and its word, or a round begins.
-use Prim.Native.Nat.{ℕ, _+_, _-_, _≤_}
+use Prim.Native.Nat.{ℕ, zero, suc, _+_, _-_, _≤_}
 use mathlib.Core.Bool.{Bool, true, false, not, _&&_, _||_, false≢true}
 use mathlib.Core.Path.{_≡_, refl, sym, ap, _∙_}
 use mathlib.Core.Logic.{_≢_, _⊎_, inl, inr}
-use mathlib.Core.Option.{Option, none, some}
 use mathlib.Core.List.{List, [], _∷_, _++_}
 use native.Mathlib.Omega.{arith}
 use native.Mathlib.Nat.{add-zero}
 use lib.Dec.{eqb}
 use lib.ListN.{length}
-use borrow.Author.Tests.{eq-eqb, ne-eqb, eqb-false}
-use Rattle.base.specs.Finite.{allTo, any, isSome}
-use Rattle.base.proofs.Tests.{test, isSome-false, or-false-both}
+use borrow.Author.Tests.{eq-eqb, ne-eqb, eqb-true, eqb-false}
+use Rattle.base.specs.Finite.{allTo, any}
+use Rattle.base.proofs.Tests.{test, eq-test, or-false-both}
 use Rattle.problem.specs.Problem.{maxAgents}
 use Rattle.agent.specs.declared.Bars.{Bars}
 use Rattle.protocol.specs.Network.{Network as Network′}
-use Rattle.protocol.specs.Delivery.{
-  Rejection,
-  BadShape,
-  BadNumbers,
-  VerdictStands,
-  EmptyChannel,
-  AlreadyInformed,
-  NoRoom,
-  rejectionNumber,
-}
-use Rattle.protocol.specs.Run.{
-  Line,
-  idle,
-  visits,
-  Sweep,
-  beginRound,
-  sweep,
-  endingNumber,
-  faultEnding,
-  endingFor,
-  endingAt,
-  finish,
-  oneIf,
-  faultAfter,
-}
+use Rattle.protocol.specs.Delivery.{rejectionNumber}
+use Rattle.protocol.specs.Run.{Line, idle, visits, Sweep, beginRound, sweep, endingNumber, endingAt, finish, oneIf, isStuck}
 use Rattle.shape_laws.proofs.RunFaults.{visits-supplied}
 use Rattle.network.specs.declared.Network.{Network}
 use Rattle.network.specs.Abstract.{networkOf}
 use Rattle.network_laws.specs.Held.{heldAt, Clean}
 use Rattle.run.specs.Lines.{rows, ahead, NextVisit}
-use Rattle.run.specs.Working.{numberFor, brokenBy, endsBy, Worked, stoppedWith, ranAs}
+use Rattle.run.specs.Working.{endsBy, Worked, stoppedWith, ranAs}
 use Rattle.run.specs.Answers.{endingOf, WorksAs}
 use Rattle.run.specs.declared.Ending.{Ending}
 use Rattle.run.specs.declared.lines.Visit.{Visit}
-use Rattle.run.proofs.Endings.{broken-five, not-five}
-use Rattle.run.proofs.After.{some-number, unmet, broken-after}
+use Rattle.run.proofs.After.{roundNumber, numberAt, stuck-number, met-number, none-met, five-met}
 use Rattle.run.proofs.Ahead.{ahead-all}
 use Rattle.run.proofs.Visits.{visits-are, idle-is}
 use Rattle.run.proofs.Resuming.{onward, recorded, further, stops, goes-on}
@@ -58,30 +33,24 @@ use Rattle.run.proofs.Here.{sweepOf, Fresh, Kind, single, rounds, Live,
 
 -- ---- numbers and words
 
-fault-number : (f : Option Rejection) → endingNumber (endingFor f) ≡ 0
-unfolding endingFor faultEnding endingNumber
-fault-number none = refl
-fault-number (some BadShape) = refl
-fault-number (some BadNumbers) = refl
-fault-number (some VerdictStands) = refl
-fault-number (some EmptyChannel) = refl
-fault-number (some AlreadyInformed) = refl
-fault-number (some NoRoom) = refl
-
-ending-number : (w : Network′) (f : Option Rejection) → endingNumber (endingAt w f) ≡ 0
+-- a run ends with 10 where its last round was stuck, and has no number of its own
+ending-number : (w : Network′) (stuck : Bool) → endingNumber (endingAt w stuck) ≡ 0
 unfolding endingAt endingNumber
-ending-number w f =
+ending-number w stuck =
     test (w .verdict)
     (λ v. rw (v, endingAt))
-    (λ v. test (idle w) (λ z. rw (v, endingAt, z)) (λ z. rw (v, endingAt, z) (fault-number f)))
+    (λ v. test (idle w)
+    (λ z. rw (v, endingAt, z))
+    (λ z. test stuck (λ e. rw (v, endingAt, z, e)) (λ e. rw (v, endingAt, z, e))))
 
-mild-ending : (w : Network′) (f : Option Rejection) → brokenBy f ≡ false → endsBy false (w .verdict) (idle w) f ≡ endingAt w f
-unfolding endsBy endingAt
-mild-ending w f e = rw (e, endsBy)
+run-ending : (w : Network′) (d : ℕ) → endsBy false (w .verdict) (idle w) (roundNumber d) ≡ endingAt w (eqb d 0)
+unfolding endsBy endingAt roundNumber rejectionNumber
+run-ending w zero = refl
+run-ending w (suc d) = rw (ne-eqb (suc d) 0 (λ e. absurd (omega arith)))
 
-broken-ending : (j k v a b : Bool) (f : Option Rejection) → brokenBy f ≡ true → endsBy j v a f ≡ endsBy k v b f
-unfolding endsBy
-broken-ending j k v a b f e = rw (e, endsBy)
+broken-ending : (j k v a b : Bool) (number : ℕ) → number ≡ 5 → endsBy j v a number ≡ endsBy k v b number
+unfolding endsBy rejectionNumber
+broken-ending j k v a b number e = rw (eq-eqb number 5 e, endsBy)
 
 not-not : (b : Bool) → not (not b) ≡ b
 not-not true = refl
@@ -126,11 +95,11 @@ told-five once number told (inl a) e = absurd (omega (arith, a .1))
 told-five once number told (inr a) e = sym (a .1) ∙ e
 
 module _ {once : Bool} {whole : Worked} {o₀ : Network} {number₀ : ℕ} {o : Network} {n : ℕ} {domains bans : List ℕ} {bars : List Bars} {ready : ℕ}
-    {quota : List ℕ} {missed : Bool} {left made number : ℕ} {going : Bool} {i rest : ℕ}
-    (h : Here once whole o₀ number₀ o n domains bans bars ready quota missed left made number going i rest)
+    {quota : List ℕ} {missed : Bool} {left made number i rest : ℕ}
+    (h : Here once whole o₀ number₀ o n domains bans bars ready quota missed left made number i rest)
     (v : Visit) (nv : NextVisit quota n i rest v) (over : v .over ≡ true) where
   abbrev now : Sweep
-  now = sweepOf o (h .delivered) (h .fault) (h .tried)
+  now = sweepOf o (h .delivered) (h .tried)
 
   none-ahead : ahead quota n i rest ≡ []
   none-ahead = nv .over over
@@ -145,12 +114,12 @@ module _ {once : Bool} {whole : Worked} {o₀ : Network} {number₀ : ℕ} {o : 
       let e : missed ≡ not (eqb (h .delivered) (h .waited)) = rw (none-ahead, plain) at (h .missing) in
       ap not e ∙ not-not (eqb (h .delivered) (h .waited))
 
-  -- the rejection that the round ends with
-  abbrev f : Option Rejection
-  f = faultAfter now
+  -- 5 is the number of a broken shape alone
+  broken-met : number ≡ 5 → h .met ≡ 5
+  broken-met e = five-met (h .met) (h .delivered) (sym (h .numbered) ∙ e)
 
-  still-broken : (b : Bool) → brokenBy f ≡ b → brokenBy (h .fault) ≡ b
-  still-broken b e = sym (broken-after now) ∙ e
+  met-broken : h .met ≡ 5 → number ≡ 5
+  met-broken e = h .numbered ∙ met-number (h .met) (h .delivered) (λ z. omega (arith, e)) ∙ e
 
   module _ (m : ℕ) (d : m ≡ made + oneIf (not missed)) (w : Bool) (ew : Waits o n w) where
     made-is : m ≡ made + oneIf (eqb (h .delivered) (h .waited))
@@ -159,73 +128,75 @@ module _ {once : Bool} {whole : Worked} {o₀ : Network} {number₀ : ℕ} {o : 
     few-made : m ≤ made + 1
     few-made = omega (arith, d, one-at-most (not missed))
 
-    idle-by : brokenBy f ≡ false → not w ≡ idle (networkOf o)
+    idle-by : h .met ≢ 5 → not w ≡ idle (networkOf o)
     idle-by b =
-        let a = h .live (still-broken false b) in
+        let a = h .live b in
         ap not (ew (a .clean))
         ∙ not-not _
         ∙ ap (λ (k : ℕ). allTo k (λ i. allTo maxAgents (λ j. eqb (heldAt (o .counts) i j) 0))) (a .count)
         ∙ sym (idle-is o (a .shape) (a .clean))
 
-    word-is : (x : Ending) → ((g : Option Rejection) → number ≡ numberFor g → endingOf x ≡ endsBy once (o .verdict) (not w) g)
-        → (b : Bool) → (brokenBy f ≡ false → once ≡ b) → endingOf x ≡ endsBy b (o .verdict) (idle (networkOf o)) f
+    word-is : (x : Ending) → endingOf x ≡ endsBy once (o .verdict) (not w) number → (b : Bool) → (h .met ≢ 5 → once ≡ b)
+        → endingOf x ≡ endsBy b (o .verdict) (idle (networkOf o)) number
     word-is x s b e =
-        s f (h .numbered)
-        ∙ test (brokenBy f)
-        (λ r. broken-ending once b (o .verdict) (not w) (idle (networkOf o)) f r)
-        (λ r. ap (λ (z : Bool). endsBy once (o .verdict) z f) (idle-by r) ∙ ap (λ (z : Bool). endsBy z (o .verdict) (idle (networkOf o)) f) (e r))
+        s
+        ∙ eq-test (h .met) 5
+        (λ r. broken-ending once b (o .verdict) (not w) (idle (networkOf o)) number (met-broken r))
+        (λ r. ap (λ (z : Bool). endsBy once (o .verdict) z number) (idle-by r) ∙ ap (λ (z : Bool). endsBy z (o .verdict) (idle (networkOf o)) number) (e r))
 
-    -- the test for a stop, by the definitions
-    stop-is : brokenBy f ≡ false
-        → networkOf o .verdict || isSome f || idle (networkOf o) || eqb left 0 ≡ o .verdict || not (eqb number 0) || not w || eqb left 0
-    unfolding networkOf
-    stop-is b =
-        let met : isSome f ≡ not (eqb number 0) = some-number f ∙ ap (λ (x : ℕ). not (eqb x 0)) (sym (h .numbered)) in
-        rw (met, ← idle-by b)
+    -- of a run: its number, and the test for a stop, by the definitions
+    module _ (unmet : h .met ≡ 0) where
+      run-number : number ≡ roundNumber (h .delivered)
+      unfolding numberAt
+      run-number = h .numbered ∙ rw (unmet, numberAt)
+
+      unbroken : h .met ≢ 5
+      unbroken e = omega (arith, unmet)
+
+      stop-is : networkOf o .verdict || isStuck now || idle (networkOf o) || eqb left 0 ≡ o .verdict || not (eqb number 0) || not w || eqb left 0
+      unfolding networkOf isStuck
+      stop-is = rw (run-number, stuck-number (h .delivered), ← idle-by unbroken)
 
     module _ (stop : o .verdict || not (eqb number 0) || not w || eqb left 0 ≡ true) (x : Ending)
-        (s : (g : Option Rejection) → number ≡ numberFor g → endingOf x ≡ endsBy once (o .verdict) (not w) g) (told : ℕ) (t : Told once number told) where
+        (s : endingOf x ≡ endsBy once (o .verdict) (not w) number) (told : ℕ) (t : Told once number told) where
       pub work-stops : WorksAs whole (record { network = o; rounds = m; number = told; ending = x })
-      unfolding finish networkOf oneIf stoppedWith ranAs
+      unfolding finish networkOf oneIf stoppedWith ranAs isStuck
       work-stops = go (h .kind)
         where
-          go : Kind once missed going (h .fault) left made (h .waited) (h .end) → WorksAs whole (record { network = o; rounds = m; number = told; ending = x })
+          go : Kind once missed (h .met) left made (h .waited) (h .end) → WorksAs whole (record { network = o; rounds = m; number = told; ending = x })
           go (single b y z e q) =
-              let done : whole ≡ stoppedWith (networkOf o) f = at-end ∙ q now in
+              let done : whole ≡ stoppedWith (networkOf o) number = at-end ∙ q now ∙ ap (stoppedWith (networkOf o)) (sym (h .numbered)) in
               record {
                 network = sym (ap (λ (q : Worked). q .network) done);
                 rounds = d ∙ rw (y, e) (sym (ap (λ (q : Worked). q .made) done));
                 number =
                     told-kept once number told t
-                    (λ u. test (brokenBy f)
-                    (λ r. (h .numbered) ∙ broken-five f r)
-                    (λ r. absurd (false≢true (sym u ∙ b (still-broken false r)))))
-                    ∙ (h .numbered)
+                    (λ u. eq-test (h .met) 5 met-broken (λ r. absurd (false≢true (sym u ∙ b r))))
                     ∙ sym (ap (λ (q : Worked). q .number) done);
-                ending = word-is x s true (λ r. b (still-broken false r)) ∙ sym (ap (λ (q : Worked). q .ending) done);
+                ending = word-is x s true b ∙ sym (ap (λ (q : Worked). q .ending) done);
               }
           go (rounds b c after q) =
               let w′ = networkOf o in
-              let mild : brokenBy f ≡ false = broken-after now ∙ c in
-              let done : whole ≡ ranAs (finish w′ m (after now) f) =
+              let done : whole ≡ ranAs (finish w′ m (after now) (isStuck now)) =
               at-end
               ∙ q now
-              ∙ ap ranAs (ap (λ (q : ℕ). onward f left q (after now) w′) (sym made-is) ∙ stops f left m (after now) w′ (stop-is mild ∙ stop)) in
+              ∙ ap ranAs (ap (λ (q : ℕ). onward (isStuck now) left q (after now) w′) (sym made-is) ∙ stops (isStuck now) left m (after now) w′ (stop-is c ∙ stop)) in
               record {
                 network = sym (ap (λ (q : Worked). q .network) done);
                 rounds = sym (ap (λ (q : Worked). q .made) done);
                 number =
-                    told-none once number told t b (λ e. not-five f mild (sym (h .numbered) ∙ e))
-                    ∙ sym (ending-number w′ f)
+                    told-none once number told t b (λ e. unbroken c (broken-met e))
+                    ∙ sym (ending-number w′ (isStuck now))
                     ∙ sym (ap (λ (q : Worked). q .number) done);
-                ending = word-is x s false (λ _. b) ∙ mild-ending w′ f mild ∙ sym (ap (λ (q : Worked). q .ending) done);
+                ending =
+                    word-is x s false (λ _. b)
+                    ∙ ap (endsBy false (o .verdict) (idle w′)) (run-number c)
+                    ∙ run-ending w′ (h .delivered)
+                    ∙ sym (ap (λ (q : Worked). q .ending) done);
               }
 
       pub stops-untouched : told ≡ 5 → (o ≡ o₀) × (number₀ ≡ 5)
-      stops-untouched e =
-          test (brokenBy f)
-          (λ b. h .untouched (still-broken true b))
-          (λ b. absurd (not-five f b (sym (h .numbered) ∙ told-five once number told t e)))
+      stops-untouched e = h .untouched (broken-met (told-five once number told t e))
 
     module _ (on : o .verdict || not (eqb number 0) || not w || eqb left 0 ≡ false) where
       stands-none : (o .verdict ≡ false) × (not (eqb number 0) ≡ false)
@@ -233,25 +204,16 @@ module _ {once : Bool} {whole : Worked} {o₀ : Network} {number₀ : ℕ} {o : 
           or-false-both (o .verdict) _
           (or-false-both (o .verdict || not (eqb number 0)) (not w) (or-false-both (o .verdict || not (eqb number 0) || not w) _ on .0) .0)
 
-      ended-well : f ≡ none
-      ended-well = isSome-false f (some-number f ∙ ap (λ (x : ℕ). not (eqb x 0)) (sym (h .numbered)) ∙ stands-none .1)
-
-      unfaulted : h .fault ≡ none
-      unfaulted = unmet now ended-well
-
-      goes : going ≡ true
-      unfolding isSome
-      goes = h .goes ∙ rw (stands-none .0, unfaulted)
-
-      mild : brokenBy (h .fault) ≡ false
-      unfolding brokenBy
-      mild = rw unfaulted
+      unmet : h .met ≡ 0
+      unmet =
+          none-met (h .met) (h .delivered)
+          (sym (h .numbered) ∙ test (eqb number 0) (λ e. eqb-true number 0 e) (λ e. absurd (false≢true (sym (stands-none .1) ∙ rw e))))
 
       pub round-left : 1 ≤ left
       round-left = omega (arith, eqb-false left 0 (or-false-both (o .verdict || not (eqb number 0) || not w) _ on .1))
 
       alive : Live o n domains bans bars ready
-      alive = h .live mild
+      alive = h .live (unbroken unmet)
 
       all : visits (networkOf o) ≡ ahead (o .counts) n 0 (v .rest)
       all =
@@ -267,24 +229,23 @@ module _ {once : Bool} {whole : Worked} {o₀ : Network} {number₀ : ℕ} {o : 
       unvisited [] = tt
       unvisited (l ∷ ls) = (refl, unvisited ls)
 
-      pub round-begins : Here once whole o₀ number₀ o n domains bans bars ready (o .counts) false (left - 1) m 10 going 0 (v .rest)
-      unfolding beginRound brokenBy numberFor rejectionNumber faultAfter isSome
+      pub round-begins : Here once whole o₀ number₀ o n domains bans bars ready (o .counts) false (left - 1) m 10 0 (v .rest)
+      unfolding beginRound numberAt roundNumber
       round-begins = go (h .kind)
         where
-          go : Kind once missed going (h .fault) left made (h .waited) (h .end)
-              → Here once whole o₀ number₀ o n domains bans bars ready (o .counts) false (left - 1) m 10 going 0 (v .rest)
-          go (single b y z e q) = absurd (omega (arith, z goes, round-left))
+          go : Kind once missed (h .met) left made (h .waited) (h .end)
+              → Here once whole o₀ number₀ o n domains bans bars ready (o .counts) false (left - 1) m 10 0 (v .rest)
+          go (single b y z e q) = absurd (omega (arith, z unmet, round-left))
           go (rounds b c after q) =
               record {
                 sized = h .sized;
                 agents = h .agents;
                 high = omega arith;
                 few = omega (arith, few-made, h .few, round-left);
-                fault = none;
-                goes = h .goes ∙ ap (λ (f : Option Rejection). not (o .verdict || isSome f)) unfaulted;
+                met = 0;
                 live = λ _. alive;
-                untouched = λ r. absurd (false≢true r);
-                quiet = λ r. absurd (false≢true r);
+                untouched = λ r. absurd (omega arith);
+                quiet = λ n. absurd (n refl);
                 waited = waiting;
                 delivered = 0;
                 tried = [];
@@ -299,7 +260,7 @@ module _ {once : Bool} {whole : Worked} {o₀ : Network} {number₀ : ℕ} {o : 
                     at-end
                     ∙ q now
                     ∙ ap ranAs
-                    (ap (λ (q : ℕ). onward f left q (after now) (networkOf o)) (sym made-is)
-                    ∙ goes-on f left (left - 1) m (after now) (networkOf o) (omega (arith, round-left)) (stop-is (broken-after now ∙ mild) ∙ on)
+                    (ap (λ (q : ℕ). onward (isStuck now) left q (after now) (networkOf o)) (sym made-is)
+                    ∙ goes-on (isStuck now) left (left - 1) m (after now) (networkOf o) (omega (arith, round-left)) (stop-is unmet ∙ on)
                     ∙ ap (λ (ls : List Line). further (left - 1) m waiting (λ u. after now ++ (recorded waiting u ∷ [])) (sweep (beginRound (networkOf o)) ls)) all);
               }

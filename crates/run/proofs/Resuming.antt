@@ -1,19 +1,17 @@
 -- The work left of a run, between two rounds (`onward`) and within one (`further`): each step of the code goes from one such description to the next,
 -- and all stay equal to the run.
 use Prim.Native.Nat.{ℕ, zero, suc, _+_}
-use mathlib.Core.Bool.{Bool, true, false, _||_, false≢true}
+use mathlib.Core.Bool.{Bool, true, false, _||_}
 use mathlib.Core.Path.{_≡_, refl, sym, ap, _∙_}
-use mathlib.Core.Option.{Option, none, some}
 use mathlib.Core.List.{List, [], _∷_, _++_}
 use native.Mathlib.Omega.{arith}
 use lib.Dec.{eqb}
 use lib.ListN.{length, replicate}
 use borrow.Author.Tests.{ne-eqb}
-use Rattle.base.specs.Finite.{isSome}
 use Rattle.base.proofs.Tests.{or-left, or-right, or-false-both}
 use Rattle.protocol.specs.Network.{Network}
 use Rattle.protocol.specs.Shape.{inShape}
-use Rattle.protocol.specs.Delivery.{Rejection, deliver}
+use Rattle.protocol.specs.Delivery.{deliver}
 use Rattle.protocol.specs.Run.{
   Line,
   idle,
@@ -32,14 +30,14 @@ use Rattle.protocol.specs.Run.{
   Ran,
   finish,
   oneIf,
-  faultAfter,
+  isStuck,
   runFrom,
 }
 use Rattle.shape_laws.proofs.RunFaults.{Supplied, attempt-supplied}
 
--- after a round with this fault
-unfoldable pub onward : Option Rejection → ℕ → ℕ → List Round → Network → Ran
-onward f left made rounds w = elim (isSome f) [ true ↦ finish w made rounds f | false ↦ runFrom left made rounds w ]
+-- after a round, stuck or not
+unfoldable pub onward : Bool → ℕ → ℕ → List Round → Network → Ran
+onward stuck left made rounds w = elim stuck [ true ↦ finish w made rounds true | false ↦ runFrom left made rounds w ]
 
 -- a round as the run records it
 abbrev pub recorded : ℕ → Sweep → Round
@@ -48,15 +46,15 @@ recorded waited s = record { tried = s .tried; full = eqb (s .delivered) waited 
 -- after a round at whose start so many waited, with the rounds that are then recorded
 abbrev pub further : ℕ → ℕ → ℕ → (Sweep → List Round) → Sweep → Ran
 further left made waited after t =
-    onward (faultAfter t) left (made + oneIf (eqb (t .delivered) waited)) (after t) (t .network)
+    onward (isStuck t) left (made + oneIf (eqb (t .delivered) waited)) (after t) (t .network)
 
--- a verdict or a rejection stands, nothing waits, or no round is left
-pub stops : (f : Option Rejection) (left made : ℕ) (rounds : List Round) (w : Network)
-    → w .verdict || isSome f || idle w || eqb left 0 ≡ true → onward f left made rounds w ≡ finish w made rounds f
-unfolding onward runFrom isSome
-stops (some r) left made rounds w h = refl
-stops none zero made rounds w h = refl
-stops none (suc left) made rounds w h = rw (still, runFrom)
+-- a verdict stands, the round was stuck, nothing waits, or no round is left
+pub stops : (stuck : Bool) (left made : ℕ) (rounds : List Round) (w : Network) → w .verdict || stuck || idle w || eqb left 0 ≡ true
+    → onward stuck left made rounds w ≡ finish w made rounds stuck
+unfolding onward runFrom
+stops true left made rounds w h = refl
+stops false zero made rounds w h = refl
+stops false (suc left) made rounds w h = rw (still, runFrom)
   where
     plain : (v b : Bool) → v || false || b || eqb (suc left) 0 ≡ v || b
     plain true b = refl
@@ -67,19 +65,16 @@ stops none (suc left) made rounds w h = rw (still, runFrom)
     still = sym (plain (w .verdict) (idle w)) ∙ h
 
 -- a round begins
-pub goes-on : (f : Option Rejection) (left k made : ℕ) (rounds : List Round) (w : Network) → left ≡ suc k
-    → w .verdict || isSome f || idle w || eqb left 0 ≡ false
-    → onward f left made rounds w
+pub goes-on : (stuck : Bool) (left k made : ℕ) (rounds : List Round) (w : Network) → left ≡ suc k → w .verdict || stuck || idle w || eqb left 0 ≡ false
+    → onward stuck left made rounds w
     ≡ further k made (length (visits w)) (λ t. rounds ++ (recorded (length (visits w)) t ∷ [])) (sweep (beginRound w) (visits w))
-unfolding onward runFrom round isFull isSome idle
-goes-on (some r) left k made rounds w e h =
-    absurd (false≢true (sym (or-false-both (w .verdict) true (or-false-both (w .verdict || true) _ (or-false-both (w .verdict || true || idle w) _ h .0) .0) .1)))
-goes-on none left k made rounds w e h =
-    let a = or-false-both (w .verdict || false || idle w) _ h .0 in
-    let b = or-false-both (w .verdict || false) _ a in
-    let c = or-false-both (w .verdict) false (b .0) .0 in
-    let q : w .verdict || idle w ≡ false = rw (c, b .1) in
-    rw (e, q, runFrom)
+unfolding onward runFrom round isFull idle
+goes-on stuck left k made rounds w e h =
+    let a = or-false-both (w .verdict || stuck || idle w) _ h .0 in
+    let b = or-false-both (w .verdict || stuck) _ a in
+    let c = or-false-both (w .verdict) stuck (b .0) in
+    let q : w .verdict || idle w ≡ false = rw (c .0, b .1) in
+    rw (c .1, e, q, runFrom)
 
 -- ---- one visit
 

@@ -1,16 +1,15 @@
 -- The engine's loop as it begins: nothing ahead where the shape is broken, where a delivery is rejected by its numbers, a verdict or an empty line, and
 -- before a run's first round; one line ahead where a delivery has found a message.
 use Prim.Native.Nat.{ℕ, zero, suc, _+_, _-_, _≤_}
-use mathlib.Core.Bool.{Bool, true, false, not, _&&_, _||_, false≢true}
+use mathlib.Core.Bool.{Bool, true, false, not, _&&_, false≢true}
 use mathlib.Core.Path.{_≡_, refl, sym, ap, _∙_}
 use mathlib.Core.Logic.{_≢_}
-use mathlib.Core.Option.{Option, none, some}
 use mathlib.Core.List.{List, [], _∷_}
 use native.Mathlib.Omega.{arith}
 use lib.Dec.{eqb}
 use lib.ListN.{length, replicate}
 use borrow.Author.Tests.{eqb-true, ne-eqb}
-use Rattle.base.specs.Finite.{at, fromOne, within, any, isSome}
+use Rattle.base.specs.Finite.{at, fromOne, within, any}
 use Rattle.base.proofs.Arrays.{getD-same}
 use Rattle.base.proofs.Gathers.{gather-one, gather-none}
 use Rattle.base.proofs.Search.{at-same, at-other}
@@ -25,18 +24,19 @@ use Rattle.agent.specs.declared.Bars.{Bars}
 use Rattle.protocol.specs.Shape.{inShape}
 use Rattle.protocol.specs.Delivery.{
   Rejection,
-  BadShape,
   BadNumbers,
   VerdictStands,
   EmptyChannel,
   rejectionNumber,
+  answerNumber,
   rejecting,
   numbersGood,
   deliverHead,
   deliver,
 }
-use Rattle.protocol.specs.Run.{stopped, passedOver, tally, sweep, oneIf, isLine, faultAfter}
+use Rattle.protocol.specs.Run.{stopped, passedOver, tally, sweep, oneIf, isLine, isStuck}
 use Rattle.shape_laws.proofs.ShapeClauses.{shaped}
+use Rattle.shape_laws.proofs.RunFaults.{Tried, tried}
 use Rattle.base.proofs.Counting.{countIf}
 use Rattle.network.specs.declared.Network.{Network}
 use Rattle.network.specs.Abstract.{isChannel, rowOf, problemOf, networkOf}
@@ -44,12 +44,11 @@ use Rattle.network_laws.specs.Held.{heldAt, Clean}
 use Rattle.network_laws.proofs.Changes.{FullArrays, counted, counted-sized, counted-channel, channel-held}
 use Rattle.network_laws.proofs.Rejecting.{bad-shape, bad-numbers, stands, tries as finds}
 use Rattle.run.specs.Lines.{line, cell, row, ahead}
-use Rattle.run.specs.Working.{numberFor, isBroken, brokenBy, testedBy, Worked, stoppedWith, faultOf, deliveredAs, ranAs, workBy}
+use Rattle.run.specs.Working.{testedBy, Worked, stoppedWith, deliveredAs, ranAs, workBy}
 use Rattle.run.proofs.Ahead.{ahead-none}
 use Rattle.run.proofs.Resuming.{onward, further, tries}
 use Rattle.run.proofs.Testing.{Good, Tested, is-bad, is-over, is-empty, is-found, tests}
-use Rattle.run.proofs.Endings.{broken-five}
-use Rattle.run.proofs.After.{after-met, after-one}
+use Rattle.run.proofs.After.{roundNumber, numberAt, met-number, one-number}
 use Rattle.run.proofs.Here.{sweepOf, stoppedAs, single, rounds, Live, Here}
 
 -- rows that hold what the counts hold, and nothing else
@@ -129,45 +128,36 @@ one-ahead n i j rest lo hi e =
 -- ---- the loop begins
 
 module _ (once : Bool) (i j allowed : ℕ) (few : allowed ≤ 1000000) (bars : List Bars) (wide : length bars ≡ 12) where
-  -- nothing ahead, and the work is done
-  done : (whole : Worked) (o : Network) (n number from rest : ℕ) (going : Bool) (f : Option Rejection) → FullArrays o → n ≤ 12 → from ≡ n → rest ≡ 0
-      → number ≡ numberFor f → isSome f ≡ true → going ≡ false → (brokenBy f ≡ false → once ≡ true)
-      → (brokenBy f ≡ false → Live o n (o .domains) (o .bans) bars 0) → whole ≡ stoppedWith (networkOf o) f
+  -- nothing ahead, and the work is done, with a number that was met
+  done : (whole : Worked) (o : Network) (n number from rest : ℕ) → FullArrays o → n ≤ 12 → from ≡ n → rest ≡ 0 → number ≢ 0
+      → (number ≢ 5 → once ≡ true) → (number ≢ 5 → Live o n (o .domains) (o .bans) bars 0) → whole ≡ stoppedWith (networkOf o) number
       → Here once whole o number o n (o .domains) (o .bans)
-      bars 0 (replicate 12 0) true allowed 0 number going from rest
+      bars 0 (replicate 12 0) true allowed 0 number from rest
   unfolding sweep countIf
-  done whole o n number from rest going f z hi ef er e t g b live w =
+  done whole o n number from rest z hi ef er t b live w =
       let none-ahead : ahead (replicate 12 0) n from rest ≡ [] = ahead-none (replicate 12 0) n from rest er (omega arith) in
-      let fault-stops : (v : Bool) → v || isSome f ≡ true = λ v. rw t (or-true v) in
+      let stays = sym (met-number number 0 t) in
       record {
         sized = z;
         agents = hi;
         high = omega arith;
         few = omega arith;
-        fault = f;
-        goes = g ∙ ap not (sym (fault-stops (o .verdict)));
+        met = number;
         live = live;
-        untouched = λ q. (refl, e ∙ broken-five f q);
+        untouched = λ q. (refl, q);
         quiet = λ _. none-ahead;
         waited = 2;
         delivered = 0;
         tried = [];
-        numbered = e ∙ sym (ap numberFor met);
+        numbered = stays;
         most = rw none-ahead (omega arith);
         missing = rw none-ahead;
         supplied = rw none-ahead (record { lines = tt; enough = λ x y. omega arith });
         fresh = rw none-ahead tt;
-        end = stoppedAs;
-        kind = single b refl (λ q. absurd (false≢true (sym g ∙ q))) refl (λ t. refl);
-        same = rw none-ahead (w ∙ ap (stoppedWith (networkOf o)) (sym met));
+        end = stoppedAs number;
+        kind = single b refl (λ q. absurd (t q)) refl (λ t. refl);
+        same = rw none-ahead (w ∙ ap (stoppedWith (networkOf o)) stays);
       }
-    where
-      met : faultAfter (sweepOf o 0 f []) ≡ f
-      met = after-met (sweepOf o 0 f []) t
-
-      or-true : (v : Bool) → v || true ≡ true
-      or-true true = refl
-      or-true false = refl
 
   module _ (r : Network) (z : FullArrays r) (rows : List ℕ) (h : Rows (r .counts) rows) (s : inShape (networkOf r) ≡ true) where
     abbrev o : Network
@@ -199,21 +189,20 @@ module _ (once : Bool) (i j allowed : ℕ) (few : allowed ≤ 1000000) (bars : L
         }
 
     -- a run
-    runs : (going : Bool) → going ≡ not (r .verdict) → once ≡ false
+    runs : once ≡ false
         → Here once (workBy once i j allowed (networkOf o)) o 0 o (r .count) (o .domains) (o .bans)
-        bars 0 (replicate 12 0) true allowed 0 0 going (r .count) 0
-    unfolding sweep countIf numberFor brokenBy isSome workBy onward oneIf faultAfter
-    runs going g e =
+        bars 0 (replicate 12 0) true allowed 0 0 (r .count) 0
+    unfolding sweep countIf numberAt roundNumber workBy onward oneIf isStuck
+    runs e =
         let none-ahead : ahead (replicate 12 0) (r .count) (r .count) 0 ≡ [] = ahead-none (replicate 12 0) (r .count) (r .count) 0 refl (omega arith) in
         record {
           sized = o-sized;
           agents = o-few;
           high = omega arith;
           few = omega arith;
-          fault = none;
-          goes = g ∙ ap not (or-none (r .verdict));
+          met = 0;
           live = λ _. o-live;
-          untouched = λ q. absurd (false≢true q);
+          untouched = λ q. absurd (omega arith);
           quiet = λ _. none-ahead;
           waited = 2;
           delivered = 1;
@@ -227,20 +216,15 @@ module _ (once : Bool) (i j allowed : ℕ) (few : allowed ≤ 1000000) (bars : L
           kind = rounds e refl (λ _. []) (λ t. refl);
           same = rw (e, workBy, o-shape, none-ahead);
         }
-      where
-        or-none : (v : Bool) → v ≡ v || false
-        or-none true = refl
-        or-none false = refl
 
     -- a delivery that is rejected
-    rejected : (x : Rejection) → isBroken x ≡ false → (number : ℕ) (going : Bool) → number ≡ rejectionNumber x → going ≡ false → once ≡ true
-        → deliver (networkOf o) i j ≡ rejecting x (networkOf o)
+    rejected : (x : Rejection) (number : ℕ) → number ≡ rejectionNumber x → number ≢ 0 → once ≡ true → deliver (networkOf o) i j ≡ rejecting x (networkOf o)
         → Here once (workBy once i j allowed (networkOf o)) o number o (r .count) (o .domains) (o .bans)
-        bars 0 (replicate 12 0) true allowed 0 number going (r .count) 0
-    unfolding numberFor brokenBy isSome workBy deliveredAs rejecting faultOf
-    rejected x mild number going e g b d =
-        done (workBy once i j allowed (networkOf o)) o (r .count) number (r .count) 0 going (some x) o-sized o-few refl refl e refl g (λ _. b) (λ _. o-live)
-        (rw (b, workBy) (ap deliveredAs d))
+        bars 0 (replicate 12 0) true allowed 0 number (r .count) 0
+    unfolding workBy deliveredAs rejecting answerNumber
+    rejected x number e n b d =
+        done (workBy once i j allowed (networkOf o)) o (r .count) number (r .count) 0 o-sized o-few refl refl n (λ _. b) (λ _. o-live)
+        (rw (b, workBy, e) (ap deliveredAs d))
 
     numbers-bad : within (r .count) i && within (r .count) j && not (eqb i j) ≡ false → numbersGood (networkOf o) i j ≡ false
     unfolding numbersGood networkOf problemOf
@@ -268,23 +252,22 @@ module _ (once : Bool) (i j allowed : ℕ) (few : allowed ≤ 1000000) (bars : L
     finds-nothing x v y = finds (networkOf o) i j o-shape (good-numbers x) (verdict-is false v) [] (nothing y)
 
     -- a delivery that has found a message
-    delivers : (number rest : ℕ) (going : Bool) → number ≡ 10 → going ≡ true → allowed ≡ 0 → once ≡ true → Good (r .count) i j → r .verdict ≡ false
+    delivers : (number rest : ℕ) → number ≡ 10 → allowed ≡ 0 → once ≡ true → Good (r .count) i j → r .verdict ≡ false
         → rowOf rows i j ≢ 0 → assignment rest ≡ at (assignment 0) j (assignment 0 j + 1)
         → Here once (workBy once i j allowed (networkOf o)) o number o (r .count) (o .domains) (o .bans)
-        bars 0 (replicate 12 0) true allowed 0 number going i rest
-    unfolding sweep countIf numberFor brokenBy isSome workBy deliveredAs isLine oneIf networkOf tally stopped passedOver any faultAfter rejectionNumber
-    delivers number rest going e g a b good v some-held er =
+        bars 0 (replicate 12 0) true allowed 0 number i rest
+    unfolding sweep countIf numberAt roundNumber workBy deliveredAs isLine oneIf networkOf tally stopped passedOver any
+    delivers number rest e a b good v some-held er =
         let one : ahead (replicate 12 0) (r .count) i rest ≡ line i j ∷ [] = one-ahead (r .count) i j rest (good .to-low) (omega (arith, good .to-high, o-few)) er in
         record {
           sized = o-sized;
           agents = o-few;
           high = good .from-high;
           few = omega arith;
-          fault = none;
-          goes = g ∙ rw v;
+          met = 0;
           live = λ _. o-live;
-          untouched = λ q. absurd (false≢true q);
-          quiet = λ q. absurd (false≢true q);
+          untouched = λ q. absurd (omega arith);
+          quiet = λ n. absurd (n refl);
           waited = 2;
           delivered = 0;
           tried = [];
@@ -293,16 +276,19 @@ module _ (once : Bool) (i j allowed : ℕ) (few : allowed ≤ 1000000) (bars : L
           missing = rw one;
           supplied = rw one (record { lines = (good-numbers good, tt); enough = λ x y. enough x y });
           fresh = rw one (refl, tt);
-          end = stoppedAs;
+          end = stoppedAs 0;
           kind = single (λ _. b) refl (λ _. a) refl (λ t. refl);
           same =
               rw (b, workBy, one)
-              (ap (stoppedWith (deliver (networkOf o) i j .network)) (sym (after-one (networkOf o) [] (line i j) (deliver (networkOf o) i j)))
-              ∙ ap stoppedAs (sym (tries (sweepOf o 0 none []) (line i j) (rw v) refl)));
+              (ap (stoppedWith (deliver (networkOf o) i j .network)) (sym (one-number (networkOf o) i j (deliver (networkOf o) i j) answered))
+              ∙ ap (stoppedAs 0) (sym (tries (sweepOf o 0 []) (line i j) v refl)));
         }
       where
         waits : 1 ≤ length (networkOf o .channel i j)
         waits = omega (arith, channel-held o i j, rows-clean r rows h i j, some-held)
+
+        answered : Tried (networkOf o) i j (deliver (networkOf o) i j)
+        answered = tried (networkOf o) i j o-shape (good-numbers good) v waits
 
         enough : (x y : ℕ) → countIf (isLine x y) (line i j ∷ []) ≤ length (networkOf o .channel x y)
         enough x y =
@@ -313,45 +299,42 @@ module _ (once : Bool) (i j allowed : ℕ) (few : allowed ≤ 1000000) (bars : L
   -- ---- whatever it is
 
   -- the head of the loop
-  abbrev Head : Network → ℕ → ℕ → ℕ → ℕ → Bool → Type 0
-  Head o n number from rest going =
+  abbrev Head : Network → ℕ → ℕ → ℕ → ℕ → Type 0
+  Head o n number from rest =
       Here once (workBy once i j allowed (networkOf o)) o number o n (o .domains) (o .bans)
-      bars 0 (replicate 12 0) true allowed 0 number going from rest
+      bars 0 (replicate 12 0) true allowed 0 number from rest
 
-  begins-broken : (r : Network) (going : Bool) → FullArrays r → inShape (networkOf r) ≡ false → going ≡ false → Head r 0 5 0 0 going
-  unfolding numberFor brokenBy isBroken isSome workBy deliveredAs rejecting faultOf rejectionNumber
-  begins-broken r going z s g =
-      done (workBy once i j allowed (networkOf r)) r 0 5 0 0 going (some BadShape) z (omega arith) refl refl refl refl g
-      (λ q. absurd (false≢true (sym q))) (λ q. absurd (false≢true (sym q)))
+  begins-broken : (r : Network) → FullArrays r → inShape (networkOf r) ≡ false → Head r 0 5 0 0
+  unfolding workBy deliveredAs rejecting answerNumber rejectionNumber
+  begins-broken r z s =
+      done (workBy once i j allowed (networkOf r)) r 0 5 0 0 z (omega arith) refl refl (λ e. absurd (omega arith)) (λ n. absurd (n refl)) (λ n. absurd (n refl))
       (test once (λ b. rw (b, workBy) (ap deliveredAs (bad-shape (networkOf r) i j s))) (λ b. rw (b, workBy, s)))
 
-  module _ (r : Network) (z : FullArrays r) (clean : List ℕ) (h : Rows (r .counts) clean) (s : inShape (networkOf r) ≡ true) (number : ℕ) (going : Bool)
+  module _ (r : Network) (z : FullArrays r) (clean : List ℕ) (h : Rows (r .counts) clean) (s : inShape (networkOf r) ≡ true) (number : ℕ)
       (b : once ≡ true) where
-    begins-refused : Tested (r .count) (r .verdict) clean i j number → number ≢ 0 → going ≡ (eqb number 0 || eqb number 10) && not (r .verdict)
-        → Head (counted r clean) (r .count) number (r .count) 0 going
-    unfolding isBroken rejectionNumber
-    begins-refused (is-bad x q) m g =
-        rejected r z clean h s BadNumbers refl number going q (rw q at g) b (bad-numbers (networkOf (counted r clean)) i j (o-shape r z clean h s) (numbers-bad r z clean h s x))
-    begins-refused (is-over x v q) m g =
-        rejected r z clean h s VerdictStands refl number going q (rw q at g) b
+    begins-refused : Tested (r .count) (r .verdict) clean i j number → number ≢ 0 → Head (counted r clean) (r .count) number (r .count) 0
+    unfolding rejectionNumber
+    begins-refused (is-bad x q) m =
+        rejected r z clean h s BadNumbers number q m b (bad-numbers (networkOf (counted r clean)) i j (o-shape r z clean h s) (numbers-bad r z clean h s x))
+    begins-refused (is-over x v q) m =
+        rejected r z clean h s VerdictStands number q m b
         (stands (networkOf (counted r clean)) i j (o-shape r z clean h s) (good-numbers r z clean h s x) (verdict-is r z clean h s true v))
-    begins-refused (is-empty x v y q) m g = rejected r z clean h s EmptyChannel refl number going q (rw q at g) b (finds-nothing r z clean h s x v y)
-    begins-refused (is-found x v y q) m g = absurd (m q)
+    begins-refused (is-empty x v y q) m = rejected r z clean h s EmptyChannel number q m b (finds-nothing r z clean h s x v y)
+    begins-refused (is-found x v y q) m = absurd (m q)
 
-    begins-found : (k rest : ℕ) → Tested (r .count) (r .verdict) clean i j k → k ≡ 0 → number ≡ 10 → allowed ≡ 0 → going ≡ not (r .verdict)
-        → assignment rest ≡ at (assignment 0) j (assignment 0 j + 1) → Head (counted r clean) (r .count) number i rest going
-    begins-found k rest (is-bad x q) m t a g e = absurd (omega arith)
-    begins-found k rest (is-over x v q) m t a g e = absurd (omega arith)
-    begins-found k rest (is-empty x v y q) m t a g e = absurd (omega arith)
-    begins-found k rest (is-found x v y q) m t a g e = delivers r z clean h s number rest going t (g ∙ rw v) a b x v y e
+    begins-found : (k rest : ℕ) → Tested (r .count) (r .verdict) clean i j k → k ≡ 0 → number ≡ 10 → allowed ≡ 0
+        → assignment rest ≡ at (assignment 0) j (assignment 0 j + 1) → Head (counted r clean) (r .count) number i rest
+    begins-found k rest (is-bad x q) m t a e = absurd (omega arith)
+    begins-found k rest (is-over x v q) m t a e = absurd (omega arith)
+    begins-found k rest (is-empty x v y q) m t a e = absurd (omega arith)
+    begins-found k rest (is-found x v y q) m t a e = delivers r z clean h s number rest t a b x v y e
 
-  pub begins : {r o : Network} {n number from rest : ℕ} (going : Bool) → Began once i j r o n number from rest → FullArrays r → (once ≡ true → allowed ≡ 0)
-      → going ≡ (eqb number 0 || eqb number 10) && not (o .verdict)
+  pub begins : {r o : Network} {n number from rest : ℕ} → Began once i j r o n number from rest → FullArrays r → (once ≡ true → allowed ≡ 0)
       → Here once (workBy once i j allowed (networkOf o)) o number o n (o .domains) (o .bans)
-      bars 0 (replicate 12 0) true allowed 0 number going from rest
-  begins {r} going (broken s e n k f d) z a g = rw (e, n, k, f, d) (begins-broken r going z s (rw k at g))
-  begins {r} going (running s b clean h e n k f d) z a g = rw (e, n, k, f, d) (runs r z clean h s going (rw (k, e) at g) b)
-  begins {r} {number = number} going (refused s b clean h e n k m f d) z a g =
-      rw (e, n, f, d) (begins-refused r z clean h s number going b (tests (r .count) (r .verdict) clean i j number k) m (rw e at g))
-  begins {r} {number = number} {rest = rest} going (found s b clean h e n k t q m f d) z a g =
-      rw (e, n, f) (begins-found r z clean h s number going b k rest (tests (r .count) (r .verdict) clean i j k t) q m (a b) (rw (m, e) at g) d)
+      bars 0 (replicate 12 0) true allowed 0 number from rest
+  begins {r} (broken s e n k f d) z a = rw (e, n, k, f, d) (begins-broken r z s)
+  begins {r} (running s b clean h e n k f d) z a = rw (e, n, k, f, d) (runs r z clean h s b)
+  begins {r} {number = number} (refused s b clean h e n k m f d) z a =
+      rw (e, n, f, d) (begins-refused r z clean h s number b (tests (r .count) (r .verdict) clean i j number k) m)
+  begins {r} {number = number} {rest = rest} (found s b clean h e n k t q m f d) z a =
+      rw (e, n, f) (begins-found r z clean h s number b k rest (tests (r .count) (r .verdict) clean i j k t) q m (a b) d)

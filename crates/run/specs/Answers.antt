@@ -7,7 +7,6 @@ use Rattle.protocol.specs.Run.{
   None as None′,
   Plan as Plan′,
   Jammed as Jammed′,
-  Faulty as Faulty′,
   Open as Open′,
   Broken as Broken′,
   endingNumber,
@@ -17,14 +16,13 @@ use Rattle.network.specs.declared.Network.{Network}
 use Rattle.network.specs.Abstract.{networkOf}
 use Rattle.run.specs.Working.{Worked, deliveredAs}
 use Rattle.run.specs.declared.Ending.{Ending}
-use Rattle.run.specs.declared.Ending.the-variants.{None, Plan, Jammed, Faulty, Open, Broken}
+use Rattle.run.specs.declared.Ending.the-variants.{None, Plan, Jammed, Open, Broken}
 use Rattle.run.specs.declared.Answer.{Answer}
 
 unfoldable pub endingOf : Ending → Ending′
 endingOf None = None′
 endingOf Plan = Plan′
 endingOf Jammed = Jammed′
-endingOf Faulty = Faulty′
 endingOf Open = Open′
 endingOf Broken = Broken′
 

@@ -7,7 +7,6 @@ ghost use Rattle.run.specs.Working.{workBy};
 ghost use Rattle.run.specs.Answers.{WorksAs};
 use crate::Answer;
 use crate::lines::next_visit;
-use crate::tests::asks_again;
 use crate::tests::cleaned;
 use crate::tests::ending_at;
 use crate::tests::tested;
@@ -28,7 +27,7 @@ use packed::with_digit;
 
 // The network is one local, changed where it stands. With `once`, the head of the line between two agents is delivered, and that is all; else rounds are
 // made. Rounds left and full rounds made are two figures; a round is full if nothing that waited when it began was missed. A line that meets a 10 is passed
-// over for the rest of the round, and after a verdict or a 9 all lines are. A round in which nothing was delivered ends the work, with 10.
+// over for the rest of the round, and after a verdict all lines are. A round in which nothing was delivered ends the work, with 10.
 pub fn work(r: Network, once: bool, sender: u8, receiver: u8, allowed: u64) -> Answer
     requires { ⌜ allowed ≤ 1000000 ⌝ }
     requires { ⌜ (once ≡ true → allowed ≡ 0) ⌝ }
@@ -71,14 +70,12 @@ pub fn work(r: Network, once: bool, sender: u8, receiver: u8, allowed: u64) -> A
     let mut missed = true;
     let mut left = allowed;
     let mut made: u64 = 0;
-    // no verdict stands, and no rejection but 10
-    let mut going = ((number == 0) | (number == 10)) & !o.verdict;
     loop {
         let visit = next_visit(from, rest, &quota, n);
         from = visit.from;
         rest = visit.rest;
         if !visit.over {
-            if !going {
+            if o.verdict {
                 missed = true;
                 continue;
             }
@@ -90,12 +87,6 @@ pub fn work(r: Network, once: bool, sender: u8, receiver: u8, allowed: u64) -> A
             let place = o.places[place_at(channel_at(from, to), head, 0)];
             let message = place.message;
             let agent = o.agents[at];
-            if asks_again(agent.informs, from, message) {
-                number = 9;
-                going = false;
-                missed = true;
-                continue;
-            }
             let words = words_before(to);
             let own = Own {
                 number: to,
@@ -138,7 +129,6 @@ pub fn work(r: Network, once: bool, sender: u8, receiver: u8, allowed: u64) -> A
                 let barred = step.bars;
                 bars[at] = barred;
                 o.verdict = step.verdict;
-                going = !step.verdict;
                 number = 0;
             } else {
                 rest = with_digit(rest, to, 0);

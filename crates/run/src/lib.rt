@@ -18,7 +18,6 @@ pub enum Ending {
     None,
     Plan,
     Jammed,
-    Faulty,
     Open,
     Broken,
 }

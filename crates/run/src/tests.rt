@@ -1,26 +1,20 @@
 // What is tested before a delivery, and what waits after it.
 ghost use mathlib.Core.Path.{_≡_};
 ghost use mathlib.Core.Bool.{not, _&&_};
-ghost use mathlib.Core.Option.{Option};
 ghost use Prim.Native.Nat.{ℕ, _≤_};
 ghost use lib.Dec.{eqb};
 ghost use lib.ListN.{length};
 ghost use Rattle.base.specs.Finite.{within, allTo};
 ghost use Rattle.problem.specs.Problem.{maxAgents};
-ghost use Rattle.agent_rules.specs.Agent.{Agent as Agent′};
-ghost use Rattle.protocol.specs.Delivery.{Rejection, asksAgain};
 ghost use Rattle.agent_rules.specs.Shape.{maxNamed};
-ghost use Rattle.packed.specs.Packed.{assignment, members};
-ghost use Rattle.agent.specs.Abstract.{messageOf};
+ghost use Rattle.packed.specs.Packed.{assignment};
 ghost use Rattle.network.specs.Abstract.{rowOf};
 ghost use Rattle.network_laws.specs.Held.{heldAt, Clean};
 ghost use Rattle.run.specs.Answers.{endingOf};
-ghost use Rattle.run.specs.Working.{numberFor, endsBy, testedBy};
+ghost use Rattle.run.specs.Working.{endsBy, testedBy};
 use crate::Ending;
-use agent::Message;
 use network::places::lines_of;
 use packed::digit;
-use packed::has;
 
 // The rows of counts, less the digits that are no channel's.
 pub fn cleaned(counts: [u64; 12]) -> [u64; 12]
@@ -60,18 +54,6 @@ pub fn tested(n: u8, verdict: bool, counts: &[u64; 12], from: u8, to: u8) -> u8
     0
 }
 
-// The message is a link request of an agent that the receiver informs already.
-pub fn asks_again(informs: u16, from: u8, m: Message) -> bool
-    requires { ⌜ (1 ≤ from) × (from ≤ 12) ⌝ }
-    ensures { λ b. ⌜ ((a : Agent′) → a .informs ≡ members informs → b ≡ asksAgain a from (messageOf m)) ⌝ }
-{
-    match m {
-        Message::Info(_) => false,
-        Message::Back(_, _) => false,
-        Message::AddLink => has(informs, from),
-    }
-}
-
 // A row of counts holds something.
 fn holds_some(row: u64) -> bool
     ensures { λ b. ⌜ b ≡ not (allTo maxNamed (λ k. eqb (assignment row k) 0)) ⌝ }
@@ -94,9 +76,10 @@ pub fn waits(counts: [u64; 12], n: u8) -> bool
     false
 }
 
-// How the network stands: a broken shape comes first, then the verdict, then nothing waiting, then what stopped a run.
+// How the network stands, by the number that the work ends with: a broken shape comes first, then the verdict, then nothing waiting, then that a run's last
+// round has delivered nothing.
 pub fn ending_at(once: bool, verdict: bool, waits: bool, number: u8) -> Ending
-    ensures { λ e. ⌜ ((f : Option Rejection) → number ≡ numberFor f → endingOf e ≡ endsBy once verdict (not waits) f) ⌝ }
+    ensures { λ e. ⌜ endingOf e ≡ endsBy once verdict (not waits) number ⌝ }
 {
     if number == 5 {
         return Ending::Broken;
@@ -107,13 +90,7 @@ pub fn ending_at(once: bool, verdict: bool, waits: bool, number: u8) -> Ending
     if !waits {
         return Ending::Plan;
     }
-    if once {
-        return Ending::Open;
-    }
-    if number == 9 {
-        return Ending::Faulty;
-    }
-    if number == 10 {
+    if !once & (number == 10) {
         return Ending::Jammed;
     }
     Ending::Open

@@ -11,14 +11,14 @@ use borrow.Author.Tests.{leb-true}
 use Rattle.base.specs.Finite.{at}
 use Rattle.base.proofs.Tests.{test, within-true, to-within, or-left, or-right}
 use Rattle.base.proofs.Search.{allTo-at}
-use Rattle.base.proofs.Lists.{All, All-append, All-map}
+use Rattle.base.proofs.Lists.{All, All-append, All-both, All-map}
 use Rattle.problem.specs.Problem.{Problem, maxAgents, maxDomain, domain, owns}
 use Rattle.problem.proofs.Range.{Ranged, domain-small}
 use Rattle.agent_rules.specs.Message.{Assignment, known, Message, Info, Back, AddLink, sentTo}
 use Rattle.agent_rules.specs.Counts.{top}
 use Rattle.agent_rules.specs.Agent.{Agent, Step}
 use Rattle.agent_rules.specs.Shape.{anyValue, maxNamed, EachNamed, EachIn, RecordFits, MessageFits}
-use Rattle.agent_rules.specs.Sorts.{IsInfo, Not}
+use Rattle.agent_rules.specs.Sorts.{IsInfo, IsAddLink, Not}
 use Rattle.agent_rules.proofs.Messages.{addlink-not-info}
 use Rattle.agent_rules.proofs.Assignments.{unknown-zero, agents-named}
 use Rattle.agent_rules.proofs.Counts.{raised-top}
@@ -27,7 +27,8 @@ use Rattle.protocol.specs.Network.{Network, selfOf, bansOf, withStep, withChann
 use Rattle.protocol.specs.Shape.{hasRoom, inShape}
 use Rattle.protocol.specs.Delivery.{rejecting, numbersGood, fits, deliver}
 use Rattle.shape_laws.proofs.Wall.{agent-facts}
-use Rattle.shape_laws.proofs.Handing.{Handing, OnAgent, mine, other, on-agent, OnChannel, hit, put, rest, on-channel, handing}
+use Rattle.shape_laws.proofs.Handing.{Handing, OnAgent, mine, other, on-agent, OnChannel, hit, put, rest, on-channel, still-listens, handing}
+use Rattle.shape_laws.proofs.Requests.{Once, each-once, shaped-once, once-kept}
 use Rattle.shape_laws.proofs.Outcome.{Outcome, refused, accepted, outcome, numbers}
 use Rattle.shape_laws.proofs.ShapeClauses.{EachCount, AgentShaped, Unused, MessageShaped, Shaped, shaped, to-shape}
 
@@ -138,7 +139,7 @@ module _ (w : Network) (i j : ℕ) (m : Message) (others : List Message) (H : He
       go (other ne h) = rw h (g ne)
 
   keeps-listening : (x k : ℕ) → w .agents x .listens k ≡ true → handedOn .agents x .listens k ≡ true
-  keeps-listening x k e = by (λ a. a .listens k ≡ true) x (λ q. handing-over .links .keeps k (rw q at e)) (λ _. e)
+  keeps-listening = still-listens handing-over
 
   keeps-informing : (x k : ℕ) → w .agents x .informs k ≡ true → handedOn .agents x .informs k ≡ true
   keeps-informing x k e = by (λ a. a .informs k ≡ true) x (λ q. handing-over .links .informs k (rw q at e)) (λ _. e)
@@ -191,41 +192,51 @@ module _ (w : Network) (i j : ℕ) (m : Message) (others : List Message) (H : He
       A : AgentShaped w x
       A = H .shape .agents x lo hi
 
+  once-after : (x y : ℕ) → 1 ≤ x → x ≤ maxAgents → 1 ≤ y → y ≤ maxAgents → Once handedOn y x
+  once-after x y lx hx ly hy = once-kept handing-over y x (shaped-once w (H .shape) y x ly hy lx hx)
+
+  -- a message fits if, where it is a request, the links are such
+  abbrev Fitting : ℕ → ℕ → Message → Type 0
+  Fitting x y n =
+      (IsAddLink n → (handedOn .agents x .listens y ≡ true) × (handedOn .agents y .informs x ≡ false)) → MessageShaped handedOn x y n
+
   -- what waited still fits
-  message-stays : (x y : ℕ) (n : Message) → MessageShaped w x y n → MessageShaped handedOn x y n
+  message-stays : (x y : ℕ) (n : Message) → MessageShaped w x y n → Fitting x y n
   unfolding handed withStep withChannel
-  message-stays x y (Info v) h = (h .0, h .1, keeps-listening y x (h .2))
-  message-stays x y (Back lhs v) h = (h .0, h .1, keeps-listening x y (h .2), h .3)
-  message-stays x y AddLink h = (h .0, keeps-listening x y (h .1))
+  message-stays x y (Info v) h _ = (h .0, h .1, keeps-listening y x (h .2))
+  message-stays x y (Back lhs v) h _ = (h .0, h .1, keeps-listening x y (h .2), h .3)
+  message-stays x y AddLink h a = (h .0, a tt .0, a tt .1)
 
   -- what is sent fits
   post-shaped : (y : ℕ) → 1 ≤ y → y ≤ maxAgents → (n : Message)
       → PostFits (owns (w .problem)) (selfOf (w .rule) (w .problem) j) (stepOn w i j m .agent .listens)
       (λ y. (w .agents j .informs y ≡ true) ⊎ Answered i m y) y n
-      → MessageShaped handedOn j y n
+      → Fitting j y n
   unfolding handed withStep withChannel selfOf owns
-  post-shaped y lo hi (Info v) h = (h .0, h .3, keeps-listening y j (⊎-elim informed answered (h .2)))
+  post-shaped y lo hi (Info v) h _ = (h .0, h .3, keeps-listening y j (⊎-elim informed answered (h .2)))
     where
       informed : w .agents j .informs y ≡ true → w .agents y .listens j ≡ true
       informed e = H .shape .agents j (H .to-low) (H .to-high) .informed y lo (omega (arith, agents-named)) e
 
       answered : Answered i m y → w .agents y .listens j ≡ true
       answered q = rw (q .0) (asker-listens w i j m (q .1) (message-here .0) .1)
-  post-shaped y lo hi (Back lhs v) h = (h .1, h .3, rw (handing-over .mine) (h .2), h .4)
-  post-shaped y lo hi AddLink h = (h .1, rw (handing-over .mine) (h .2))
+  post-shaped y lo hi (Back lhs v) h _ = (h .1, h .3, rw (handing-over .mine) (h .2), h .4)
+  post-shaped y lo hi AddLink h a = (h .1, a tt .0, a tt .1)
 
-  sent-after : (y : ℕ) → 1 ≤ y → y ≤ maxAgents → All (MessageShaped handedOn j y) (sentTo y (stepOn w i j m .sent))
+  sent-after : (y : ℕ) → 1 ≤ y → y ≤ maxAgents → All (Fitting j y) (sentTo y (stepOn w i j m .sent))
   sent-after y lo hi =
       let t = stepOn w i j m in
       All-map _ _ (post-shaped y lo hi) (sentTo y (t .sent)) (step-fits .posts y)
 
   channel-after : (x y : ℕ) → 1 ≤ x → x ≤ maxAgents → 1 ≤ y → y ≤ maxAgents → All (MessageShaped handedOn x y) (handedOn .channel x y)
-  channel-after x y lx hx ly hy = go (on-channel handing-over x y)
+  channel-after x y lx hx ly hy =
+      All-map _ _ (λ n f. f .0 (f .1)) (handedOn .channel x y)
+      (All-both _ _ (handedOn .channel x y) (go (on-channel handing-over x y)) (each-once _ _ _ (once-after x y lx hx ly hy)))
     where
-      old : All (MessageShaped handedOn x y) (w .channel x y)
+      old : All (Fitting x y) (w .channel x y)
       old = All-map _ _ (message-stays x y) (w .channel x y) (H .shape .channels x y lx hx ly hy .messages)
 
-      go : OnChannel (record { from = i; to = j }) m (stepOn w i j m) w handedOn x y → All (MessageShaped handedOn x y) (handedOn .channel x y)
+      go : OnChannel (record { from = i; to = j }) m (stepOn w i j m) w handedOn x y → All (Fitting x y) (handedOn .channel x y)
       go (hit _ _ _ e) = (rw e at old) .1
       go (put _ q e) = rw e (All-append _ (w .channel x y) _ old (rw q (sent-after y ly hy)))
       go (rest _ _ e) = rw e old
@@ -242,7 +253,7 @@ module _ (w : Network) (i j : ℕ) (m : Message) (others : List Message) (H : He
         channels = λ x y lx hx ly hy.
             let row = allTo-at maxAgents _ room x lx hx in
             let one = allTo-at maxAgents _ row y ly hy in
-            record { room = leb-true _ _ one; messages = channel-after x y lx hx ly hy };
+            record { room = leb-true _ _ one; once = once-after x y lx hx ly hy .once; messages = channel-after x y lx hx ly hy };
       }
 
 -- the message at the head of a channel that a delivery may take

@@ -1,7 +1,7 @@
 -- What handing a message over does (`Handing`), with a verdict or without: the receiver's record is its step's and all others stay; the message's
 -- channel loses its head, what the receiver sends goes to the ends of its own channels, and all others stay.
 use mathlib.Core.Path.{_≡_, refl, sym, _∙_}
-use mathlib.Core.Logic.{_≢_}
+use mathlib.Core.Logic.{_≢_, _⊎_, inl, inr, ⊎-elim}
 use mathlib.Core.List.{List, [], _∷_, _++_}
 use mathlib.Core.Bool.{true, false, false≢true}
 use Prim.Native.Nat.{ℕ}
@@ -12,7 +12,7 @@ use Rattle.base.proofs.Tests.{test}
 use Rattle.base.proofs.Search.{at-same, at-other}
 use Rattle.agent_rules.specs.Message.{Message, Post, sentTo}
 use Rattle.agent_rules.specs.Agent.{Step}
-use Rattle.agent_facts.specs.Facts.{Linking, Counted}
+use Rattle.agent_facts.specs.Facts.{Asks, Linking, Counted}
 use Rattle.protocol.specs.Network.{Network, selfOf, bansOf, posted, withStep, withChannel, stepOn, handed}
 use Rattle.protocol.specs.Run.{Line, isLine}
 use Rattle.shape_laws.proofs.Wall.{agent-facts}
@@ -47,6 +47,26 @@ on-channel {d} H x y =
     test (isLine x y d)
     (λ h. let (ex, ey) = line-ends x y d h in hit h ex ey (rw (ex, ey) (H .head)))
     (λ h. elim (ℕ-discrete x (d .to)) [ yes e ↦ put h e (rw e (H .sent y)) | no ne ↦ rest h ne (H .same x y ne h) ])
+
+-- ---- who listens, who is informed
+
+-- nobody stops listening
+pub still-listens : {d : Line} {m : Message} {t : Step} {w w′ : Network} → Handing d m t w w′ → (y x : ℕ)
+    → w .agents y .listens x ≡ true → w′ .agents y .listens x ≡ true
+still-listens {d} {m} {t} {w} {w′} H y x l = go (on-agent H y)
+  where
+    go : OnAgent d t w w′ y → w′ .agents y .listens x ≡ true
+    go (mine e h) = rw h (H .links .keeps x (rw e at l))
+    go (other ne h) = rw h l
+
+-- informed now: informed before, or by the request handed over
+pub informed-by : {d : Line} {m : Message} {t : Step} {w w′ : Network} → Handing d m t w w′ → (x y : ℕ)
+    → w′ .agents x .informs y ≡ true → (w .agents x .informs y ≡ true) ⊎ ((x ≡ d .to) × Asks (d .from) m y)
+informed-by {d} {m} {t} {w} {w′} H x y n = go (on-agent H x)
+  where
+    go : OnAgent d t w w′ x → (w .agents x .informs y ≡ true) ⊎ ((x ≡ d .to) × Asks (d .from) m y)
+    go (mine e h) = ⊎-elim (λ q. inl (rw e q)) (λ q. inr (e, q)) (H .links .joined y (rw h at n))
+    go (other ne h) = inl (rw h at n)
 
 -- ---- by the definition
 

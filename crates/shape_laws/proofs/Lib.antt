@@ -3,6 +3,7 @@ pub mod ShapeClauses
 pub mod Lines
 pub mod Outcome
 pub mod Handing
+pub mod Requests
 pub mod DeliverShape
 pub mod Start
 pub mod StartShape

@@ -18,13 +18,11 @@ use Rattle.protocol.specs.Delivery.{
   BadNumbers,
   VerdictStands,
   EmptyChannel,
-  AlreadyInformed,
   NoRoom,
   Accepted,
   Delivery,
   rejecting,
   numbersGood,
-  asksAgain,
   fits,
   deliverHead,
   deliver,
@@ -36,7 +34,6 @@ Reason w i j BadShape = inShape w ≡ false
 Reason w i j BadNumbers = numbersGood w i j ≡ false
 Reason w i j VerdictStands = w .verdict ≡ true
 Reason w i j EmptyChannel = w .channel i j ≡ []
-Reason w i j AlreadyInformed = Unit {0}
 Reason w i j NoRoom = Unit {0}
 
 -- the tests passed, and the message m taken off the channel
@@ -65,11 +62,9 @@ outcome w i j =
         → Outcome w i j (deliverHead w i j l)
     head s g v [] e = refused EmptyChannel e refl
     head s g v (m ∷ others) e =
-        test (asksAgain (w .agents j) i m)
-        (λ a. refused AlreadyInformed tt (rw (a, deliverHead)))
-        (λ a. test (fits (handed w i j m others))
-        (λ f. accepted m others (record { shape = s; numbers = g; running = v; head = e; room = f }) (rw (a, deliverHead, f)))
-        (λ f. refused NoRoom tt (rw (a, deliverHead, f))))
+        test (fits (handed w i j m others))
+        (λ f. accepted m others (record { shape = s; numbers = g; running = v; head = e; room = f }) (rw (f, deliverHead)))
+        (λ f. refused NoRoom tt (rw (f, deliverHead)))
 
     running : inShape w ≡ true → numbersGood w i j ≡ true → (b : Bool) → w .verdict ≡ b
         → Outcome w i j (elim b [ true ↦ rejecting VerdictStands w | false ↦ deliverHead w i j (w .channel i j) ])

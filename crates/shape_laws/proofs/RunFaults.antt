@@ -1,17 +1,16 @@
--- Inside a run on a network in shape no try is rejected with 5 to 8, and nothing but a 9 stops a round: a round tries each line at most as often as it held a
--- message when the round began, and a channel loses a message only to a try of its own line, so every try finds one.
+-- Inside a run on a network in shape every try is accepted or rejected with NoRoom. A round tries each line at most as often as it held a message when the
+-- round began, and a channel loses a message only to a try of its own line, so every try finds one.
 use mathlib.Core.Path.{_≡_, refl, sym, _∙_}
 use mathlib.Core.Logic.{_⊎_, inl, inr}
-use mathlib.Core.List.{List, [], _∷_}
+use mathlib.Core.List.{List, [], _∷_, _++_, append-nil, append-assoc}
 use mathlib.Core.Bool.{true, false, not, cond, false≢true}
-use mathlib.Core.Option.{Option, some}
 use Prim.Native.Nat.{ℕ, zero, suc, _+_, _≤_}
 use native.Mathlib.Omega.{arith}
 use lib.ListN.{length, replicate, length-append}
 use lib.Dec.{eqb}
 use borrow.Author.Tests.{eqb-true}
 use Rattle.base.specs.Finite.{at}
-use Rattle.base.proofs.Tests.{test, no-some, to-within, or-false-both, to-both}
+use Rattle.base.proofs.Tests.{test, to-within, or-false-both, to-both}
 use Rattle.base.proofs.Lists.{All, All-map, All-append, gather-all}
 use Rattle.base.proofs.Counting.{countIf}
 use Rattle.agent_rules.specs.Message.{Message, Info, Back, AddLink, sentTo}
@@ -19,15 +18,11 @@ use Rattle.agent_rules.specs.Agent.{Step}
 use Rattle.protocol.specs.Network.{Network, withStep, withChannel, handed}
 use Rattle.protocol.specs.Shape.{inShape}
 use Rattle.protocol.specs.Delivery.{
-  Rejection,
   BadShape,
   BadNumbers,
   VerdictStands,
   EmptyChannel,
-  AlreadyInformed,
   NoRoom,
-  rejectionNumber,
-  Answer,
   Accepted,
   Rejected,
   Delivery,
@@ -35,7 +30,7 @@ use Rattle.protocol.specs.Delivery.{
   numbersGood,
   deliver,
 }
-use Rattle.protocol.specs.Run.{Line, Sweep, beginRound, stopped, isNoRoom, stopFor, tally, skipped, attempt, sweep, round, visits, isLine}
+use Rattle.protocol.specs.Run.{Line, Sweep, beginRound, stopped, tally, skipped, attempt, sweep, round, visits, isLine}
 use Rattle.shape_laws.proofs.Handing.{Handing, OnChannel, hit, put, rest, on-channel, handing}
 use Rattle.shape_laws.proofs.Outcome.{Outcome, refused, accepted, outcome, numbers}
 use Rattle.shape_laws.proofs.ShapeClauses.{MessageShaped, Shaped, shaped}
@@ -45,12 +40,8 @@ use Rattle.shape_laws.proofs.Visits.{visits-most}
 
 -- ---- one try that finds a message
 
--- the rejections that a run can meet
-abbrev pub RunFault : Rejection → Type 0
-RunFault r = (r ≡ AlreadyInformed) ⊎ (r ≡ NoRoom)
-
 pub data Tried (w : Network) (i j : ℕ) (d : Delivery) : Type 0 where
-  turned : (r : Rejection) → RunFault r → d .answer ≡ Rejected r → d .network ≡ w → Tried w i j d
+  turned : d .answer ≡ Rejected NoRoom → d .network ≡ w → Tried w i j d
   taken : (m : Message) (others : List Message) → w .channel i j ≡ m ∷ others → d .answer ≡ Accepted → d .network ≡ handed w i j m others
       → Tried w i j d
 
@@ -64,8 +55,7 @@ tried w i j s n v h = go (outcome w i j)
     go (refused BadNumbers b e) = absurd (false≢true (sym b ∙ n))
     go (refused VerdictStands b e) = absurd (false≢true (sym v ∙ b))
     go (refused EmptyChannel b e) = absurd (omega (arith, rw b at h))
-    go (refused AlreadyInformed _ e) = turned AlreadyInformed (inl refl) (rw e) (rw e)
-    go (refused NoRoom _ e) = turned NoRoom (inr refl) (rw e) (rw e)
+    go (refused NoRoom _ e) = turned (rw e) (rw e)
     go (accepted m others T e) = taken m others (T .head) (rw e) (rw e)
 
 -- ---- tries that all find one
@@ -88,7 +78,7 @@ unfolding countIf
 supplied-tail l ls w s = record { lines = s .lines .1; enough = λ i j. omega (arith, s .enough i j) }
 
 -- the next try finds a message
-pub next-tried : (l : Line) (ls : List Line) (w : Network) → inShape w ≡ true → w .verdict ≡ false → Supplied (l ∷ ls) w
+next-tried : (l : Line) (ls : List Line) (w : Network) → inShape w ≡ true → w .verdict ≡ false → Supplied (l ∷ ls) w
     → Tried w (l .from) (l .to) (deliver w (l .from) (l .to))
 next-tried l ls w h v s = tried w (l .from) (l .to) h (s .lines .0) v (supplied-waits l ls w s)
 
@@ -103,10 +93,10 @@ loses-one l m t w w′ H x y = go (on-channel H x y)
     go (rest h _ e) = rw (h, e) (omega arith)
 
 -- what is left to try finds messages after the next try too
-pub supplied-next : (l : Line) (ls : List Line) (w : Network) (d : Delivery) → Tried w (l .from) (l .to) d → Supplied (l ∷ ls) w
+supplied-next : (l : Line) (ls : List Line) (w : Network) (d : Delivery) → Tried w (l .from) (l .to) d → Supplied (l ∷ ls) w
     → Supplied ls (d .network)
 unfolding countIf numbersGood handed withStep withChannel
-supplied-next l ls w d (turned r f a e) s = rw e (supplied-tail l ls w s)
+supplied-next l ls w d (turned a e) s = rw e (supplied-tail l ls w s)
 supplied-next l ls w d (taken m others h a e) s =
     rw e (record {
       lines = All-map _ _ (λ k n. same k n) ls (s .lines .1);
@@ -115,70 +105,6 @@ supplied-next l ls w d (taken m others h a e) s =
   where
     same : (k : Line) → numbersGood w (k .from) (k .to) ≡ true → numbersGood (handed w (l .from) (l .to) m others) (k .from) (k .to) ≡ true
     same k n = n
-
--- ---- along a round
-
--- the rejection that stops a round
-abbrev pub MayFault : Option Rejection → Type 0
-MayFault o = (r : Rejection) → o ≡ some r → r ≡ AlreadyInformed
-
--- what a try of a round is answered
-abbrev pub MayMeet : Answer → Type 0
-MayMeet Accepted = Unit {0}
-MayMeet (Rejected r) = RunFault r
-
-pub running : (s : Sweep) (l : Line) → skipped s l ≡ false → s .network .verdict ≡ false
-unfolding skipped stopped
-running s l e = or-false-both (s .network .verdict) _ (or-false-both (stopped s) _ e .0) .0
-
-pub attempt-supplied : (s : Sweep) (l : Line) (ls : List Line) → inShape (s .network) ≡ true → Supplied (l ∷ ls) (s .network)
-    → Supplied ls (attempt s l .network)
-unfolding attempt tally
-attempt-supplied s l ls h f =
-    test (skipped s l)
-    (λ e. rw (e, attempt) (supplied-tail l ls (s .network) f))
-    (λ e. rw (e, attempt) (supplied-next l ls (s .network) _ (next-tried l ls (s .network) h (running s l e) f) f))
-
-tried-fault : (w : Network) (i j : ℕ) (d : Delivery) → Tried w i j d → MayFault (stopFor (d .answer))
-unfolding stopFor isNoRoom rejectionNumber
-tried-fault w i j d (turned r (inl f) a e) = rw (a, f) (λ t q. let is : AlreadyInformed ≡ t = cc in sym is)
-tried-fault w i j d (turned r (inr f) a e) = rw (a, f) (λ t q. no-some q)
-tried-fault w i j d (taken m others h a e) = rw a (λ t q. no-some q)
-
-tried-meets : (w : Network) (i j : ℕ) (d : Delivery) → Tried w i j d → MayMeet (d .answer)
-tried-meets w i j d (turned r f a e) = rw a f
-tried-meets w i j d (taken m others h a e) = rw a tt
-
-pub attempt-faults : (s : Sweep) (l : Line) (ls : List Line) → inShape (s .network) ≡ true → Supplied (l ∷ ls) (s .network)
-    → MayFault (s .fault) → MayFault (attempt s l .fault)
-unfolding attempt tally
-attempt-faults s l ls h f m =
-    test (skipped s l)
-    (λ e. rw (e, attempt) m)
-    (λ e. rw (e, attempt) (tried-fault (s .network) (l .from) (l .to) _ (next-tried l ls (s .network) h (running s l e) f)))
-
-attempt-meets : (s : Sweep) (l : Line) (ls : List Line) → inShape (s .network) ≡ true → Supplied (l ∷ ls) (s .network)
-    → All (λ t. MayMeet (t .answer)) (s .tried) → All (λ t. MayMeet (t .answer)) (attempt s l .tried)
-unfolding attempt tally
-attempt-meets s l ls h f m =
-    test (skipped s l)
-    (λ e. rw (e, attempt) m)
-    (λ e. rw (e, attempt) (All-append _ (s .tried) _ m
-    (tried-meets (s .network) (l .from) (l .to) _ (next-tried l ls (s .network) h (running s l e) f), tt)))
-
-pub sweep-faults : (s : Sweep) (ls : List Line) → inShape (s .network) ≡ true → Supplied ls (s .network) → MayFault (s .fault)
-    → MayFault (sweep s ls .fault)
-unfolding sweep
-sweep-faults s [] h f m = m
-sweep-faults s (l ∷ ls) h f m =
-    sweep-faults (attempt s l) ls (attempt-keeps s l h) (attempt-supplied s l ls h f) (attempt-faults s l ls h f m)
-
-sweep-meets : (s : Sweep) (ls : List Line) → inShape (s .network) ≡ true → Supplied ls (s .network) → All (λ t. MayMeet (t .answer)) (s .tried)
-    → All (λ t. MayMeet (t .answer)) (sweep s ls .tried)
-unfolding sweep
-sweep-meets s [] h f m = m
-sweep-meets s (l ∷ ls) h f m =
-    sweep-meets (attempt s l) ls (attempt-keeps s l h) (attempt-supplied s l ls h f) (attempt-meets s l ls h f m)
 
 -- ---- the visits of a round
 
@@ -216,12 +142,57 @@ visits-lines w S =
 pub visits-supplied : (w : Network) → inShape w ≡ true → Supplied (visits w) w
 visits-supplied w h = record { lines = visits-lines w (shaped w h); enough = visits-most w }
 
--- what stops a round is AlreadyInformed
-pub run-faults : (w : Network) → inShape w ≡ true → MayFault (round w .fault)
-unfolding round beginRound
-run-faults w h = sweep-faults (beginRound w) (visits w) h (visits-supplied w h) (λ r e. no-some e)
+-- ---- along a round
 
--- every try of a round is accepted, or rejected with AlreadyInformed or NoRoom
-pub run-meets : (w : Network) → inShape w ≡ true → All (λ t. MayMeet (t .answer)) (round w .tried)
+running : (s : Sweep) (l : Line) → skipped s l ≡ false → s .network .verdict ≡ false
+unfolding skipped stopped
+running s l e = or-false-both (s .network .verdict) _ e .0
+
+pub attempt-supplied : (s : Sweep) (l : Line) (ls : List Line) → inShape (s .network) ≡ true → Supplied (l ∷ ls) (s .network)
+    → Supplied ls (attempt s l .network)
+unfolding attempt tally
+attempt-supplied s l ls h f =
+    test (skipped s l)
+    (λ e. rw (e, attempt) (supplied-tail l ls (s .network) f))
+    (λ e. rw (e, attempt) (supplied-next l ls (s .network) _ (next-tried l ls (s .network) h (running s l e) f) f))
+
+-- Every visit keeps what is said of the lines visited so far and of the round on its way: one that does nothing, and one that tries its line.
+pub record VisitsKeep (P : List Line → Sweep → Type 0) : Type 0 where
+  pub skips : (done : List Line) (s : Sweep) (l : Line) → skipped s l ≡ true → P done s → P (done ++ (l ∷ [])) s
+  pub tries : (done : List Line) (s : Sweep) (l : Line) (d : Delivery) → skipped s l ≡ false → Tried (s .network) (l .from) (l .to) d → P done s
+      → P (done ++ (l ∷ [])) (tally s l d)
+
+module _ (P : List Line → Sweep → Type 0) (K : VisitsKeep P) where
+  kept-by-attempt : (done : List Line) (s : Sweep) (l : Line) (ls : List Line) → inShape (s .network) ≡ true → Supplied (l ∷ ls) (s .network)
+      → P done s → P (done ++ (l ∷ [])) (attempt s l)
+  unfolding attempt
+  kept-by-attempt done s l ls h f p =
+      test (skipped s l)
+      (λ e. rw (e, attempt) (K .skips done s l e p))
+      (λ e. rw (e, attempt) (K .tries done s l _ e (next-tried l ls (s .network) h (running s l e) f) p))
+
+  kept-by-sweep : (done ls : List Line) (s : Sweep) → inShape (s .network) ≡ true → Supplied ls (s .network) → P done s
+      → P (done ++ ls) (sweep s ls)
+  unfolding sweep
+  kept-by-sweep done [] s h f p = rw (append-nil done) p
+  kept-by-sweep done (l ∷ ls) s h f p =
+      rw (← append-assoc done (l ∷ []) ls)
+      (kept-by-sweep (done ++ (l ∷ [])) ls (attempt s l) (attempt-keeps s l h) (attempt-supplied s l ls h f) (kept-by-attempt done s l ls h f p))
+
+-- .. so it holds after the round
+pub kept-by-visits : (P : List Line → Sweep → Type 0) → VisitsKeep P → (w : Network) → inShape w ≡ true → P [] (beginRound w)
+    → P (visits w) (round w)
 unfolding round beginRound
-run-meets w h = sweep-meets (beginRound w) (visits w) h (visits-supplied w h) tt
+kept-by-visits P K w h p = kept-by-sweep P K [] (visits w) (beginRound w) h (visits-supplied w h) p
+
+-- every try of a round is accepted or rejected with NoRoom
+pub run-meets : (w : Network) → inShape w ≡ true → All (λ t. (t .answer ≡ Accepted) ⊎ (t .answer ≡ Rejected NoRoom)) (round w .tried)
+unfolding beginRound tally
+run-meets w h =
+    kept-by-visits (λ _ s. All (λ t. (t .answer ≡ Accepted) ⊎ (t .answer ≡ Rejected NoRoom)) (s .tried))
+    (record { skips = λ _ _ _ _ m. m; tries = λ _ s l d _ t m. All-append _ (s .tried) _ m (meets s l d t, tt) }) w h tt
+  where
+    meets : (s : Sweep) (l : Line) (d : Delivery) → Tried (s .network) (l .from) (l .to) d
+        → (d .answer ≡ Accepted) ⊎ (d .answer ≡ Rejected NoRoom)
+    meets s l d (turned a e) = inr a
+    meets s l d (taken m others h a e) = inl a

@@ -1,16 +1,14 @@
 -- How a run ends, and what it keeps: what every round keeps after which a run goes on holds where it ends.
 use mathlib.Core.Path.{_≡_, refl}
 use mathlib.Core.Bool.{true, false, _||_}
-use mathlib.Core.Option.{none}
 use mathlib.Core.List.{List, [], _∷_, _++_}
 use Prim.Native.Nat.{ℕ, zero, suc, _+_, _≤_, _<_}
 use native.Mathlib.Omega.{arith}
 use lib.ListN.{length, length-append}
-use Rattle.base.specs.Finite.{isSome}
 use Rattle.base.proofs.Tests.{test, or-false-both}
 use Rattle.protocol.specs.Network.{Network}
 use Rattle.protocol.specs.Shape.{inShape}
-use Rattle.protocol.specs.Run.{idle, round, isFull, Round, Ran, finish, oneIf, faultAfter, runFrom, allowed, run}
+use Rattle.protocol.specs.Run.{idle, round, isFull, Round, Ran, finish, oneIf, isStuck, runFrom, allowed, run}
 
 -- the round that a run makes of w
 unfoldable pub roundOf : Network → Round
@@ -27,7 +25,7 @@ After P made rounds w = P (made + oneIf (roundOf w .full)) (rounds ++ (roundOf w
 -- Every round keeps it that a run begins, with no verdict and with something waiting, and after which it goes on.
 abbrev pub GoesOnKeeping : Fact → Type 0
 GoesOnKeeping P =
-    (made : ℕ) (rounds : List Round) (w : Network) → w .verdict ≡ false → idle w ≡ false → isSome (faultAfter (round w)) ≡ false
+    (made : ℕ) (rounds : List Round) (w : Network) → w .verdict ≡ false → idle w ≡ false → isStuck (round w) ≡ false
     → P made rounds w → After P made rounds w
 
 -- every round keeps it that a run begins
@@ -35,14 +33,14 @@ abbrev pub RoundKeeps : Fact → Type 0
 RoundKeeps P =
     (made : ℕ) (rounds : List Round) (w : Network) → w .verdict ≡ false → idle w ≡ false → P made rounds w → After P made rounds w
 
--- A run ends with a verdict or with nothing waiting, with all the rounds used that it may use, or after a round.
+-- A run ends with a verdict or with nothing waiting, with all the rounds used that it may use, or after a round that delivered nothing.
 pub data Ends (P : Fact) (most : ℕ) (x : Ran) : Type 0 where
   rests : (made : ℕ) (rounds : List Round) (w : Network) → P made rounds w → w .verdict || idle w ≡ true → length rounds ≤ most
-      → x ≡ finish w made rounds none → Ends P most x
-  used : (made : ℕ) (rounds : List Round) (w : Network) → P made rounds w → length rounds ≡ most → x ≡ finish w made rounds none → Ends P most x
+      → x ≡ finish w made rounds false → Ends P most x
+  used : (made : ℕ) (rounds : List Round) (w : Network) → P made rounds w → length rounds ≡ most → x ≡ finish w made rounds false → Ends P most x
   stops : (made : ℕ) (rounds : List Round) (w : Network) → P made rounds w → w .verdict ≡ false → idle w ≡ false
-      → isSome (faultAfter (round w)) ≡ true → length rounds < most
-      → x ≡ finish (round w .network) (made + oneIf (roundOf w .full)) (rounds ++ (roundOf w ∷ [])) (faultAfter (round w)) → Ends P most x
+      → isStuck (round w) ≡ true → length rounds < most
+      → x ≡ finish (round w .network) (made + oneIf (roundOf w .full)) (rounds ++ (roundOf w ∷ [])) true → Ends P most x
 
 ends-from : (P : Fact) → GoesOnKeeping P → (most left made : ℕ) (rounds : List Round) (w : Network) → length rounds + left ≡ most
     → P made rounds w → Ends P most (runFrom left made rounds w)
@@ -52,7 +50,7 @@ ends-from P K most (suc left) made rounds w e h =
     test (w .verdict || idle w)
     (λ t. rests made rounds w h t (omega arith) (rw (t, runFrom)))
     (λ t. let o = or-false-both (w .verdict) (idle w) t in
-    test (isSome (faultAfter (round w)))
+    test (isStuck (round w))
     (λ f. stops made rounds w h (o .0) (o .1) f (omega arith) (rw (t, runFrom, f)))
     (λ f. rw (t, runFrom, f) (ends-from P K most left _ _ (round w .network) (omega (arith, length-append rounds (roundOf w ∷ [])))
     (K made rounds w (o .0) (o .1) f h))))

@@ -19,7 +19,9 @@ use Rattle.agent_rules.specs.Message.{Assignment, known, Message, Info, Back, A
 use Rattle.agent_rules.specs.Counts.{Sort, Counts, eachCount, top}
 use Rattle.agent_rules.specs.Agent.{Agent}
 use Rattle.agent_rules.specs.Shape.{maxNamed, EachNamed, EachIn}
+use Rattle.agent_rules.specs.Sorts.{OneLink}
 use Rattle.agent_rules.proofs.Counts.{each-count, to-each-count}
+use Rattle.agent_rules.proofs.Messages.{one-counted, counted-one}
 use Rattle.protocol.specs.Network.{Network, isRule}
 use Rattle.protocol.specs.Shape.{
   capacity,
@@ -40,6 +42,7 @@ use Rattle.protocol.specs.Shape.{
   lhsFits,
   messageFits,
   hasRoom,
+  oneRequest,
   channelInShape,
   inShape,
 }
@@ -272,7 +275,7 @@ MessageShaped w i j (Info v) = (i < j) × (owns (w .problem) i v ≡ true) × (w
 MessageShaped w i j (Back lhs v) =
     (j < i) × (owns (w .problem) j v ≡ true) × (w .agents i .listens j ≡ true)
     × EachNamed lhs (λ k u. (k < j) × (owns (w .problem) k u ≡ true))
-MessageShaped w i j AddLink = (j < i) × (w .agents i .listens j ≡ true)
+MessageShaped w i j AddLink = (j < i) × (w .agents i .listens j ≡ true) × (w .agents j .informs i ≡ false)
 
 pub message-shaped : (w : Network) (i j : ℕ) (m : Message) → messageFits w i j m ≡ true → MessageShaped w i j m
 unfolding messageFits lhsFits
@@ -290,7 +293,10 @@ message-shaped w i j (Back lhs v) e =
       λ k lo hi h.
           let n = both (ltb k j) _ (each-named lhs _ (b .1) k lo hi h) in (ltb-true _ _ (n .0), n .1),
     )
-message-shaped w i j AddLink e = let b = both (ltb j i) (w .agents i .listens j) e in (ltb-true _ _ (b .0), b .1)
+message-shaped w i j AddLink e =
+    let b = both (ltb j i && w .agents i .listens j) (not (w .agents j .informs i)) e in
+    let c = both (ltb j i) (w .agents i .listens j) (b .0) in
+    (ltb-true _ _ (c .0), c .1, not-true _ (b .1))
 
 pub to-message-shaped : (w : Network) (i j : ℕ) (m : Message) → MessageShaped w i j m → messageFits w i j m ≡ true
 unfolding messageFits lhsFits
@@ -298,25 +304,28 @@ to-message-shaped w i j (Info v) h = rw (lt-ltb i j (h .0), h .1) (h .2)
 to-message-shaped w i j (Back lhs v) h =
     rw (lt-ltb j i (h .0), h .1, h .2)
     (to-each-named lhs _ (λ k lo hi n. let b = h .3 k lo hi n in to-both _ _ (lt-ltb k j (b .0)) (b .1)))
-to-message-shaped w i j AddLink h = rw (lt-ltb j i (h .0)) (h .1)
+to-message-shaped w i j AddLink h = rw (lt-ltb j i (h .0), h .1, h .2)
 
 pub record ChannelShaped (w : Network) (i j : ℕ) : Type 0 where
   pub room : length (w .channel i j) ≤ capacity
+  pub once : OneLink (w .channel i j)
   pub messages : All (MessageShaped w i j) (w .channel i j)
 
 pub channel-shaped : (w : Network) (i j : ℕ) → channelInShape w i j ≡ true → ChannelShaped w i j
-unfolding channelInShape hasRoom
+unfolding channelInShape hasRoom oneRequest
 channel-shaped w i j e =
-    let b = both (hasRoom w i j) (every (messageFits w i j) (w .channel i j)) e in
+    let b = both (hasRoom w i j && oneRequest w i j) (every (messageFits w i j) (w .channel i j)) e in
+    let c = both (hasRoom w i j) (oneRequest w i j) (b .0) in
     record {
-      room = leb-true _ _ (b .0);
+      room = leb-true _ _ (c .0);
+      once = counted-one (w .channel i j) (leb-true _ _ (c .1));
       messages = All-map _ _ (message-shaped w i j) (w .channel i j) (every-all _ _ (b .1));
     }
 
 pub to-channel-shaped : (w : Network) (i j : ℕ) → ChannelShaped w i j → channelInShape w i j ≡ true
-unfolding channelInShape hasRoom
+unfolding channelInShape hasRoom oneRequest
 to-channel-shaped w i j c =
-    to-both (hasRoom w i j) _ (le-leb _ _ (c .room))
+    to-both _ _ (to-both (hasRoom w i j) (oneRequest w i j) (le-leb _ _ (c .room)) (le-leb _ _ (one-counted (w .channel i j) (c .once))))
     (to-every _ (w .channel i j) (All-map _ _ (to-message-shaped w i j) (w .channel i j) (c .messages)))
 
 -- ---- the whole

@@ -73,8 +73,8 @@ module _ (rule : ℕ) (is-rule : isRule rule ≡ true) (p : Problem) (r : Ranged
       (λ e.
       let (l, h, n) = linked-inside p r i j e in
       let c = linked-channel rule p r i j e in
-      record { room = rw c (omega arith); messages = rw c ((h, owned i l (omega arith), linked-listens rule p r i j e), tt) })
-      (λ e. let c = unlinked-channel rule p r i j e in record { room = rw c (omega arith); messages = rw c tt })
+      record { room = rw c (omega arith); once = rw c tt; messages = rw c ((h, owned i l (omega arith), linked-listens rule p r i j e), tt) })
+      (λ e. let c = unlinked-channel rule p r i j e in record { room = rw c (omega arith); once = rw c tt; messages = rw c tt })
 
   start-shaped : Shaped (start rule p)
   unfolding start

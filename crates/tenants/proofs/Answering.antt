@@ -1,4 +1,4 @@
--- A delivery's answer is settled by five tests. On two networks alike in the receiver, with the same message next, each comes out the same where
+-- A delivery's answer is settled by four tests. On two networks alike in the receiver, with the same message next, each comes out the same where
 -- shape, verdict and room agree: numbers are known without n, and room is room on the receiver's own lines.
 use Prim.Native.Nat.{ℕ}
 use mathlib.Core.Path.{_≡_, refl, sym, _∙_}
@@ -17,7 +17,6 @@ use Rattle.protocol.specs.Delivery.{
   BadShape,
   BadNumbers,
   VerdictStands,
-  AlreadyInformed,
   NoRoom,
   Answer,
   Accepted,
@@ -25,7 +24,6 @@ use Rattle.protocol.specs.Delivery.{
   Delivery,
   rejecting,
   numbersGood,
-  asksAgain,
   fits,
   deliverHead,
   deliver,
@@ -67,17 +65,11 @@ same-judged {s′ = s′} {g′ = g′} shape numbers verdict head =
     (λ g. rw (shape, s, numbers s, g)))
     (λ s. rw (shape, s))
 
--- the agent asks again, there is room
-headJudged : Bool → Bool → Answer
-headJudged again room = cond again (Rejected AlreadyInformed) (cond room Accepted (Rejected NoRoom))
-
-head-by-tests : (w : Network) (i j : ℕ) (m : Message) (others : List Message)
-    → deliverHead w i j (m ∷ others) .answer ≡ headJudged (asksAgain (w .agents j) i m) (fits (handed w i j m others))
-unfolding deliverHead rejecting headJudged
-head-by-tests w i j m others =
-    test (asksAgain (w .agents j) i m)
-    (λ a. rw (a, deliverHead))
-    (λ a. test (fits (handed w i j m others)) (λ f. rw (a, deliverHead, f)) (λ f. rw (a, deliverHead, f)))
+-- the last test: there is room
+head-by-room : (w : Network) (i j : ℕ) (m : Message) (others : List Message)
+    → deliverHead w i j (m ∷ others) .answer ≡ cond (fits (handed w i j m others)) Accepted (Rejected NoRoom)
+unfolding deliverHead rejecting
+head-by-room w i j m others = test (fits (handed w i j m others)) (λ f. rw (f, deliverHead)) (λ f. rw (f, deliverHead))
 
 -- ---- two networks
 
@@ -103,8 +95,7 @@ module _ (j : ℕ) (w v : Network) (A : Alike NamingAbove j w v) (R : SameRest j
 
   same-head : inShape v ≡ true → numbersGood v i j ≡ true
       → deliverHead w i j (w .channel i j) .answer ≡ deliverHead v i j (v .channel i j) .answer
-  same-head s g =
-      rw (e, f, head-by-tests w i j m after, head-by-tests v i j m later, A .agent, same-room s g)
+  same-head s g = rw (e, f, head-by-room w i j m after, head-by-room v i j m later, same-room s g)
 
   pub same-answer : deliver w i j .answer ≡ deliver v i j .answer
   same-answer =

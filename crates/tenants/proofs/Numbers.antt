@@ -68,7 +68,7 @@ module _ (w : Network) (shape : inShape w ≡ true) where
       let h = ltb-true j i (c .0) in
       (listener i j i₁ i₂ j₁ j₂ (b .1), owner j x j₂ (c .1), λ e. absurd (omega arith))
   ends i j AddLink i₁ i₂ j₁ j₂ f =
-      let b = both (ltb j i) _ f in
+      let b = both (ltb j i) _ (both _ (not (w .agents j .informs i)) f .0) in
       let h = ltb-true j i (b .0) in
       let u = listener i j i₁ i₂ j₁ j₂ (b .1) in
       (u, omega arith, λ e. absurd (omega arith))

@@ -15,7 +15,7 @@ use Rattle.base.proofs.Peeling.{same-test}
 use Rattle.problem.specs.Problem.{maxAgents, inRange}
 use Rattle.agent_rules.specs.Message.{Message, sentTo}
 use Rattle.protocol.specs.Network.{Network, isRule, posted, withStep, withChannel, stepOn, handed}
-use Rattle.protocol.specs.Shape.{capacity, agentInShape, messageFits, hasRoom, channelInShape, inShape}
+use Rattle.protocol.specs.Shape.{capacity, agentInShape, messageFits, hasRoom, oneRequest, channelInShape, inShape}
 use Rattle.protocol.specs.Delivery.{fits}
 use Rattle.tenants.specs.Tenants.{roomOn}
 
@@ -27,8 +27,8 @@ module _ (w : Network) (shape : inShape w ≡ true) (x y : ℕ) (x₁ : 1 ≤ x)
   line-shape =
       let lines = both (inRange (w .problem) && isRule (w .rule) && allTo maxAgents (agentInShape w)) _ shape .1 in
       let here = allTo-at maxAgents (channelInShape w x) (allTo-at maxAgents (λ i. allTo maxAgents (channelInShape w i)) lines x x₁ x₂) y y₁ y₂ in
-      let parts = both (hasRoom w x y) (every (messageFits w x y) (w .channel x y)) here in
-      (leb-true (length (w .channel x y)) capacity (parts .0), parts .1)
+      let parts = both (hasRoom w x y && oneRequest w x y) (every (messageFits w x y) (w .channel x y)) here in
+      (leb-true (length (w .channel x y)) capacity (both (hasRoom w x y) (oneRequest w x y) (parts .0) .0), parts .1)
 
 -- ---- a delivery of m, with the others left behind it, on the line from i to j
 

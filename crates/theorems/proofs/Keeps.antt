@@ -21,7 +21,7 @@ use Rattle.agent_facts.specs.Facts.{Requests, Good, busyView, quietView, TellsS
 use Rattle.protocol.specs.Network.{Network, selfOf, bansOf}
 use Rattle.protocol.specs.Run.{Line}
 use Rattle.shape_laws.proofs.Lines.{is-line, other-to}
-use Rattle.shape_laws.proofs.Handing.{OnAgent, mine, other, on-agent, OnChannel, hit, put, rest, on-channel}
+use Rattle.shape_laws.proofs.Handing.{OnAgent, mine, other, on-agent, OnChannel, hit, put, rest, on-channel, still-listens, informed-by}
 use Rattle.theorems.proofs.Moves.{Move, Waits, Linked, Links, Invariant}
 use Rattle.theorems.proofs.Steps.{
   QuietOrBusy,
@@ -77,11 +77,7 @@ module _ (p : Problem) (r : inRange p ≡ true) (d : Line) (w w′ : Network) (I
   -- ---- who listens
 
   grown : (y x : ℕ) → w .agents y .listens x ≡ true → w′ .agents y .listens x ≡ true
-  grown y x l = go (agent y)
-    where
-      go : OnAgent d t w w′ y → w′ .agents y .listens x ≡ true
-      go (mine e h) = rw h (M .handing .links .keeps x (rw e at l))
-      go (other ne h) = rw h l
+  grown = still-listens (M .handing)
 
   lower-kept : (y x : ℕ) → w′ .agents y .listens x ≡ true → (1 ≤ x) × (x < y) × (y ≤ p .count)
   unfolding selfOf
@@ -98,15 +94,10 @@ module _ (p : Problem) (r : inRange p ≡ true) (d : Line) (w w′ : Network) (I
   sender AddLink h n = h
 
   informed-kept : (x y : ℕ) → w′ .agents x .informs y ≡ true → w′ .agents y .listens x ≡ true
-  informed-kept x y n = go (agent x)
-    where
-      joined : (a .informs y ≡ true) ⊎ ((y ≡ i) × IsAddLink m) → w′ .agents y .listens j ≡ true
-      joined (inl q) = grown y j (L .informed j y q)
-      joined (inr q) = rw (q .0) (grown i j (sender m handed (addlink-not-info m (q .1))))
-
-      go : OnAgent d t w w′ x → w′ .agents y .listens x ≡ true
-      go (mine e h) = rw e (joined (M .handing .links .joined y (rw h at n)))
-      go (other ne h) = grown y x (L .informed x y (rw h at n))
+  informed-kept x y n =
+      ⊎-elim (λ q. grown y x (L .informed x y q))
+      (λ q. rw (q .0, q .1 .0) (grown i j (sender m handed (addlink-not-info m (q .1 .1)))))
+      (informed-by (M .handing) x y n)
 
   -- ---- what waits
 

@@ -1,28 +1,26 @@
--- One round, visit by visit. If nothing stopped it, it was whole: each line's visits were all accepted, or one of them met a 10. If a rejection stopped it,
--- the line that met it still holds something and met no 10.
+-- One round, visit by visit. If no verdict stopped it, it was whole: each line's visits were all accepted, or one of them met a 10. And one that
+-- delivered nothing leaves the network as it was.
 use mathlib.Core.Path.{_≡_, refl, sym, ap, _∙_}
 use mathlib.Core.Logic.{_⊎_, inl, inr}
-use mathlib.Core.Bool.{true, false, false≢true, and-false}
-use mathlib.Core.List.{List, [], _∷_, _++_, map, append-nil, append-assoc, head-eq-of-cons-eq, tail-eq-of-cons-eq}
+use mathlib.Core.Bool.{true, false}
+use mathlib.Core.List.{List, [], _∷_, _++_, map, head-eq-of-cons-eq, tail-eq-of-cons-eq}
 use Prim.Native.Nat.{ℕ, _+_, _≤_}
 use native.Mathlib.Omega.{arith}
 use lib.ListN.{length}
-use Rattle.base.specs.Finite.{isSome}
-use Rattle.base.proofs.Tests.{test, or-left, or-right, or-false-both}
+use Rattle.base.proofs.Tests.{test, or-left, or-false-both}
 use Rattle.base.proofs.Lists.{All}
 use Rattle.base.proofs.Counting.{countIf, count-append}
 use Rattle.protocol.specs.Network.{Network}
 use Rattle.protocol.specs.Shape.{inShape}
-use Rattle.protocol.specs.Delivery.{rejectionNumber, Answer, Accepted, Rejected, isAccepted, Delivery, numbersGood, deliver}
-use Rattle.protocol.specs.Run.{Line, Try, visits, Sweep, beginRound, stopped, isNoRoom, passedOver, stopFor, tally, skipped, attempt, sweep, round, isLine}
+use Rattle.protocol.specs.Delivery.{rejectionNumber, Accepted, isAccepted, Delivery}
+use Rattle.protocol.specs.Run.{Line, Try, visits, Sweep, stopped, isNoRoom, passedOver, tally, skipped, round, isLine}
 use Rattle.shape_laws.proofs.Lines.{line-ends}
 use Rattle.shape_laws.proofs.Outcome.{numbers}
 use Rattle.shape_laws.proofs.Visits.{visits-least}
-use Rattle.shape_laws.proofs.Shape.{attempt-keeps}
 use Rattle.shape_laws.proofs.Runs.{roundOf}
-use Rattle.shape_laws.proofs.Passing.{skips, tries, passed-tally, passed-now}
-use Rattle.shape_laws.proofs.RunFaults.{Tried, turned, taken, Supplied, supplied-waits, next-tried, running, attempt-supplied, visits-supplied}
-use Rattle.theorems.specs.Calls.{lineOf, answerOf, replay, answers, acceptedOn, VisitedThrough, Whole, DeliveredNothing}
+use Rattle.shape_laws.proofs.Passing.{passed-tally, passed-now}
+use Rattle.shape_laws.proofs.RunFaults.{Tried, turned, taken, VisitsKeep, kept-by-visits}
+use Rattle.theorems.specs.Calls.{lineOf, answerOf, replay, answers, VisitedThrough, Whole, DeliveredNothing}
 use Rattle.theorems.proofs.Shut.{rejected-stays}
 use Rattle.theorems.proofs.Tries.{acceptedIn, accepted-append}
 use Rattle.theorems.proofs.Swept.{round-swept, accepted-on}
@@ -36,20 +34,13 @@ line i j = record { from = i; to = j }
 abbrev Visited : List Line → Sweep → ℕ → ℕ → Type 0
 Visited done s i j = (countIf (isLine i j) done ≤ countIf (isLine i j) (acceptedIn (s .tried))) ⊎ (passedOver s (line i j) ≡ true)
 
--- the answer to a try that does not stop the round
-goes-on : (a : Answer) → isSome (stopFor a) ≡ false → (a ≡ Accepted) ⊎ (isNoRoom a ≡ true)
-unfolding stopFor isSome
-goes-on Accepted e = inl refl
-goes-on (Rejected r) e =
-    test (isNoRoom (Rejected r)) (λ h. inr h) (λ h. absurd (false≢true (sym (rw (h, stopFor) at e))))
-
 passed-same : (s : Sweep) (i j : ℕ) (l : Line) → isLine i j l ≡ true → passedOver s l ≡ true → passedOver s (line i j) ≡ true
 passed-same s i j l e h = let q = line-ends i j l e in rw (q .0, q .1) h
 
-visited-tally : (done : List Line) (s : Sweep) (l : Line) (d : Delivery) → isSome (stopFor (d .answer)) ≡ false → (i j : ℕ) → Visited done s i j
+visited-tally : (done : List Line) (s : Sweep) (l : Line) (d : Delivery) → Tried (s .network) (l .from) (l .to) d → (i j : ℕ) → Visited done s i j
     → Visited (done ++ (l ∷ [])) (tally s l d) i j
-unfolding tally countIf acceptedIn isAccepted
-visited-tally done s l d e i j seen = go seen (goes-on (d .answer) e)
+unfolding tally countIf acceptedIn isAccepted isNoRoom rejectionNumber
+visited-tally done s l d e i j seen = go seen e
   where
     t : Try
     t = record { line = l; answer = d .answer }
@@ -67,94 +58,42 @@ visited-tally done s l d e i j seen = go seen (goes-on (d .answer) e)
     now : isNoRoom (d .answer) ≡ true → isLine i j l ≡ true → passedOver (tally s l d) (line i j) ≡ true
     now r h = passed-same (tally s l d) i j l h (passed-now s l d r)
 
-    go : Visited done s i j → (d .answer ≡ Accepted) ⊎ (isNoRoom (d .answer) ≡ true) → Visited (done ++ (l ∷ [])) (tally s l d) i j
-    go (inr h) a = inr (passed-tally s l d (line i j) ∙ or-left (passedOver s (line i j)) _ h)
-    go (inl h) (inl a) = inl (omega (arith, here, accepted, gains a))
-    go (inl h) (inr r) =
+    go : Visited done s i j → Tried (s .network) (l .from) (l .to) d → Visited (done ++ (l ∷ [])) (tally s l d) i j
+    go (inr h) _ = inr (passed-tally s l d (line i j) ∙ or-left (passedOver s (line i j)) _ h)
+    go (inl h) (taken _ _ _ a _) = inl (omega (arith, here, accepted, gains a))
+    go (inl h) (turned a _) =
         test (isLine i j l)
-        (λ q. inr (now r q))
+        (λ q. inr (now (rw a) q))
         (λ q. inl (omega (arith, rw q at here, accepted)))
 
-visited-attempt : (done : List Line) (s : Sweep) (l : Line) → (stopped s ≡ false → (i j : ℕ) → Visited done s i j)
-    → stopped (attempt s l) ≡ false → (i j : ℕ) → Visited (done ++ (l ∷ [])) (attempt s l) i j
-unfolding stopped tally countIf skipped
-visited-attempt done s l seen still i j =
-    test (stopped s)
-    (λ e. absurd (false≢true (sym (rw (skips s l (or-left (stopped s) (passedOver s l) e)) at still) ∙ e)))
-    (λ e. test (passedOver s l)
-    (λ p. rw (skips s l (or-right (stopped s) (passedOver s l) p)) (past p (seen e i j)))
-    (λ p. let q = tries s l (rw (e, p)) in
-    let d = deliver (s .network) (l .from) (l .to) in
-    let f = or-false-both (d .network .verdict) (isSome (stopFor (d .answer))) (rw q at still) in
-    rw q (visited-tally done s l d (f .1) i j (seen e i j))))
-  where
-    here : countIf (isLine i j) (done ++ (l ∷ [])) ≡ countIf (isLine i j) done + countIf (isLine i j) (l ∷ [])
-    here = count-append (isLine i j) done (l ∷ [])
+visited-past : (done : List Line) (s : Sweep) (l : Line) → passedOver s l ≡ true → (i j : ℕ) → Visited done s i j
+    → Visited (done ++ (l ∷ [])) s i j
+unfolding countIf
+visited-past done s l p i j (inr h) = inr h
+visited-past done s l p i j (inl h) =
+    test (isLine i j l)
+    (λ q. inr (passed-same s i j l q p))
+    (λ q. inl (omega (arith, rw q at (count-append (isLine i j) done (l ∷ [])))))
 
-    past : passedOver s l ≡ true → Visited done s i j → Visited (done ++ (l ∷ [])) s i j
-    past p (inr h) = inr h
-    past p (inl h) =
-        test (isLine i j l) (λ q. inr (passed-same s i j l q p)) (λ q. inl (omega (arith, rw q at here)))
-
-visited : (done ls : List Line) (s : Sweep) → (stopped s ≡ false → (i j : ℕ) → Visited done s i j) → stopped (sweep s ls) ≡ false
-    → (i j : ℕ) → Visited (done ++ ls) (sweep s ls) i j
-unfolding sweep
-visited done [] s seen still = rw (append-nil done) (seen still)
-visited done (l ∷ ls) s seen still =
-    rw (← append-assoc done (l ∷ []) ls) (visited (done ++ (l ∷ [])) ls (attempt s l) (visited-attempt done s l seen) still)
+visited : VisitsKeep (λ done s. stopped s ≡ false → (i j : ℕ) → Visited done s i j)
+unfolding skipped
+visited =
+    record {
+      skips = λ done s l e seen still i j. visited-past done s l (rw (still, skipped) at e) i j (seen still i j);
+      tries = λ done s l d e t seen _ i j. visited-tally done s l d t i j (seen (or-false-both (stopped s) _ e .0) i j);
+    }
 
 -- a round that nothing stopped was whole
-pub not-stopped : (w : Network) → stopped (round w) ≡ false → Whole w (roundOf w)
-unfolding round roundOf beginRound countIf passedOver
-not-stopped w e i j g =
+pub not-stopped : (w : Network) → inShape w ≡ true → stopped (round w) ≡ false → Whole w (roundOf w)
+unfolding roundOf countIf passedOver
+not-stopped w s e i j g =
     let n = numbers w i j g in
-    go (visits-least w i j (n .0) (n .1) (n .2) (n .3)) (visited [] (visits w) (beginRound w) (λ _ i j. inl (omega arith)) e i j)
+    go (visits-least w i j (n .0) (n .1) (n .2) (n .3)) (kept-by-visits _ visited w s (λ _ i j. inl (omega arith)) e i j)
   where
     go : length (w .channel i j) ≤ countIf (isLine i j) (visits w) → Visited (visits w) (round w) i j
         → VisitedThrough w (roundOf w) i j
     go least (inl h) = inl (rw (accepted-on w i j) (omega arith))
     go least (inr h) = inr h
-
--- ---- stopped by a rejection: its line holds something, and met no 10
-
-pub record Halt (s : Sweep) : Type 0 where
-  pub line : Line
-  pub numbers : numbersGood (s .network) (line .from) (line .to) ≡ true
-  pub waits : 1 ≤ length (s .network .channel (line .from) (line .to))
-  pub fresh : passedOver s line ≡ false
-
-halt-attempt : (s : Sweep) (l : Line) (ls : List Line) → inShape (s .network) ≡ true → Supplied (l ∷ ls) (s .network)
-    → (isSome (s .fault) ≡ true → Halt s) → isSome (attempt s l .fault) ≡ true → Halt (attempt s l)
-unfolding tally skipped stopFor isSome isNoRoom rejectionNumber
-halt-attempt s l ls h f before now =
-    test (skipped s l)
-    (λ e. rw (skips s l e) (before (rw (skips s l e) at now)))
-    (λ e. rw (tries s l e) (go e (next-tried l ls (s .network) h (running s l e) f) (rw (tries s l e) at now)))
-  where
-    d : Delivery
-    d = deliver (s .network) (l .from) (l .to)
-
-    go : skipped s l ≡ false → Tried (s .network) (l .from) (l .to) d → isSome (stopFor (d .answer)) ≡ true → Halt (tally s l d)
-    go e (turned r (inl q) a same) t =
-        record {
-          line = l;
-          numbers = rw same (f .lines .0);
-          waits = rw same (supplied-waits l ls (s .network) f);
-          fresh = passed-tally s l d l ∙ rw (or-false-both (stopped s) (passedOver s l) e .1, a, q) (and-false (isLine (l .from) (l .to) l));
-        }
-    go e (turned r (inr q) a same) t = absurd (false≢true (rw (a, q) at t))
-    go e (taken m others c a same) t = absurd (false≢true (rw a at t))
-
-halted : (ls : List Line) (s : Sweep) → inShape (s .network) ≡ true → Supplied ls (s .network) → (isSome (s .fault) ≡ true → Halt s)
-    → isSome (sweep s ls .fault) ≡ true → Halt (sweep s ls)
-unfolding sweep
-halted [] s h f before now = before now
-halted (l ∷ ls) s h f before now =
-    halted ls (attempt s l) (attempt-keeps s l h) (attempt-supplied s l ls h f) (halt-attempt s l ls h f before) now
-
-pub round-halts : (w : Network) → inShape w ≡ true → isSome (round w .fault) ≡ true → Halt (round w)
-unfolding round beginRound isSome
-round-halts w h e = halted (visits w) (beginRound w) h (visits-supplied w h) (λ q. absurd (false≢true q)) e
 
 -- ---- nothing delivered: the network is as it was
 
@@ -191,21 +130,3 @@ nothing-delivered w h = rw (round-swept w .delivered, rejects-all (round w .trie
 pub delivered-nothing : (w : Network) → round w .delivered ≡ 0 → DeliveredNothing (roundOf w)
 unfolding roundOf
 delivered-nothing w e = all-rejects (round w .tried) (sym (round-swept w .delivered) ∙ e)
-
--- a whole round that delivered nothing was not stopped by a rejection
-pub whole-goes : (w : Network) → inShape w ≡ true → Whole w (roundOf w) → DeliveredNothing (roundOf w) → isSome (round w .fault) ≡ false
-unfolding roundOf countIf passedOver
-whole-goes w s whole nothing = test (isSome (round w .fault)) (λ e. absurd (go (round-halts w s e))) (λ e. e)
-  where
-    same : round w .network ≡ w
-    same = nothing-moves w nothing
-
-    none : (i j : ℕ) → acceptedOn i j (map lineOf (roundOf w .tried)) w ≡ 0
-    none i j = rw (accepted-on w i j, rejects-all (round w .tried) nothing)
-
-    go : Halt (round w) → ⊥
-    go H = at-line (whole (H .line .from) (H .line .to) (rw same at (H .numbers)))
-      where
-        at-line : VisitedThrough w (roundOf w) (H .line .from) (H .line .to) → ⊥
-        at-line (inl h) = omega (arith, rw same at (H .waits), none (H .line .from) (H .line .to))
-        at-line (inr h) = false≢true (sym (H .fresh) ∙ h)

@@ -90,7 +90,7 @@ runs-count = run-counts
 -- A link is asked for once, under a verdict too.
 pub asked-once : EveryProblem AskedOnce
 asked-once rule _ p r calls x y =
-    let O = replay-once (triedByAll calls (start rule p)) (start rule p) (start-once rule p (ranged p r)) x y in
+    let O = replay-once x y (triedByAll calls (start rule p)) (start rule p) (start-once x y rule p (ranged p r)) in
     rw (calls-replay calls (start rule p)) (O .once, O .none)
 
 -- Every network reached is in shape.

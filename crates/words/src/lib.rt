@@ -33,10 +33,6 @@ pub fn word_for(e: Ending) -> Word
             letters: [b'j', b'a', b'm', b'm', b'e', b'd'],
             length: 6,
         },
-        Ending::Faulty => Word {
-            letters: [b'f', b'a', b'u', b'l', b't', b'y'],
-            length: 6,
-        },
         Ending::Open => Word {
             letters: [b'o', b'p', b'e', b'n', 0, 0],
             length: 4,

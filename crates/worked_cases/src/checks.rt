@@ -76,7 +76,6 @@ fn initial(e: Ending) -> u8 {
         Ending::None => b'n',
         Ending::Plan => b'p',
         Ending::Jammed => b'j',
-        Ending::Faulty => b'f',
         Ending::Open => b'o',
         Ending::Broken => b' ',
     }

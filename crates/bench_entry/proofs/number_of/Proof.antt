@@ -1,7 +1,7 @@
 -- The digit of each ending is the definition's.
 use mathlib.Core.Path.{_≡_, refl}
 use borrow.Enum.Known.{lives-at}
-use Rattle.run.specs.declared.Ending.the-variants.{None, Plan, Jammed, Faulty, Open, Broken}
+use Rattle.run.specs.declared.Ending.the-variants.{None, Plan, Jammed, Open, Broken}
 use Rattle.run.specs.Answers.{endingOf}
 use Rattle.run.proofs.Ending as E
 use Rattle.bench_entry.specs.Giving.{endingDigit}
@@ -24,9 +24,6 @@ enum-told-4 c = search needs
 enum-told-5 : tie.Need-enum-told-5
 enum-told-5 c = search needs
 
-enum-told-6 : tie.Need-enum-told-6
-enum-told-6 c = search needs
-
 returns : tie.Need-returns
 unfolding endingDigit endingOf
 returns c = let e : c .before .before .args .e ≡ None = lives-at E.enum _ 0 (c .before .match .keys1) .1 in rw e refl
@@ -41,15 +38,11 @@ returns-3 c = let e : c .before .before .args .e ≡ Jammed = lives-at E.enum _ 
 
 returns-4 : tie.Need-returns-4
 unfolding endingDigit endingOf
-returns-4 c = let e : c .before .before .args .e ≡ Faulty = lives-at E.enum _ 3 (c .before .match .keys4) .1 in rw e refl
+returns-4 c = let e : c .before .before .args .e ≡ Open = lives-at E.enum _ 3 (c .before .match .keys4) .1 in rw e refl
 
 returns-5 : tie.Need-returns-5
 unfolding endingDigit endingOf
-returns-5 c = let e : c .before .before .args .e ≡ Open = lives-at E.enum _ 4 (c .before .match .keys5) .1 in rw e refl
-
-returns-6 : tie.Need-returns-6
-unfolding endingDigit endingOf
-returns-6 c = let e : c .before .before .args .e ≡ Broken = lives-at E.enum _ 5 (c .before .match .keys6) .1 in rw e refl
+returns-5 c = let e : c .before .before .args .e ≡ Broken = lives-at E.enum _ 4 (c .before .match .keys5) .1 in rw e refl
 
 pub number-of-spec : {M : Type 1} → statement M
 number-of-spec =
@@ -60,10 +53,8 @@ number-of-spec =
     enum-told-3
     enum-told-4
     enum-told-5
-    enum-told-6
     returns
     returns-2
     returns-3
     returns-4
-    returns-5
-    returns-6)
+    returns-5)

@@ -1,7 +1,7 @@
 -- The slots of a plan, and nothing for the other words. Assumes nothing.
 use mathlib.Core.Path.{_≡_, ap}
 use borrow.Enum.Known.{lives-at}
-use Rattle.run.specs.declared.Ending.the-variants.{None, Plan, Jammed, Faulty, Open, Broken}
+use Rattle.run.specs.declared.Ending.the-variants.{None, Plan, Jammed, Open, Broken}
 use Rattle.run.specs.Answers.{endingOf}
 use Rattle.run.proofs.Ending as E
 use Rattle.words.proofs.Appending.{appends-none}
@@ -31,9 +31,6 @@ enum-told-4 c = search needs
 enum-told-5 : tie.Need-enum-told-5
 enum-told-5 c = search needs
 
-enum-told-6 : tie.Need-enum-told-6
-enum-told-6 c = search needs
-
 returns : tie.Need-returns
 unfolding planLines endingOf
 returns c = let e : c .before .before .before .args .e ≡ None = lives-at E.enum _ 0 (c .before .match .keys1) .1 in rw e (appends-none _ _)
@@ -51,15 +48,11 @@ returns-3 c = let e : c .before .before .before .args .e ≡ Jammed = lives-at E
 
 returns-4 : tie.Need-returns-4
 unfolding planLines endingOf
-returns-4 c = let e : c .before .before .before .args .e ≡ Faulty = lives-at E.enum _ 3 (c .before .match .keys4) .1 in rw e (appends-none _ _)
+returns-4 c = let e : c .before .before .before .args .e ≡ Open = lives-at E.enum _ 3 (c .before .match .keys4) .1 in rw e (appends-none _ _)
 
 returns-5 : tie.Need-returns-5
 unfolding planLines endingOf
-returns-5 c = let e : c .before .before .before .args .e ≡ Open = lives-at E.enum _ 4 (c .before .match .keys5) .1 in rw e (appends-none _ _)
-
-returns-6 : tie.Need-returns-6
-unfolding planLines endingOf
-returns-6 c = let e : c .before .before .before .args .e ≡ Broken = lives-at E.enum _ 5 (c .before .match .keys6) .1 in rw e (appends-none _ _)
+returns-5 c = let e : c .before .before .before .args .e ≡ Broken = lives-at E.enum _ 4 (c .before .match .keys5) .1 in rw e (appends-none _ _)
 
 pub append-plan-spec : {M : Type 1} → statement M
 append-plan-spec =
@@ -71,11 +64,9 @@ append-plan-spec =
     enum-told-3
     enum-told-4
     enum-told-5
-    enum-told-6
     returns
     same-length
     returns-2
     returns-3
     returns-4
-    returns-5
-    returns-6)
+    returns-5)

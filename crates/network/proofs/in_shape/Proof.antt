@@ -13,25 +13,24 @@ use Rattle.base.proofs.Tests.{both}
 use Rattle.problem.specs.Problem.{inRange}
 use Rattle.problem.proofs.Range.{ranged as in-range}
 use Rattle.packed.specs.Packed.{assignment}
-use Rattle.agent_rules.specs.Agent.{Agent as Agent′}
 use Rattle.agent.specs.Abstract.{noneCounted, agentOf}
 use Rattle.agent.specs.declared.Agent.{Agent}
 use Rattle.agent.specs.declared.Message.the-variants.{Info}
 use Rattle.packed.proofs.Known.{known-true}
 use Rattle.packed.proofs.Naming.{naming, naming-few, naming-fewer}
 use Rattle.protocol.specs.Network.{isRule}
-use Rattle.protocol.specs.Shape.{messageFits, unused, inShape}
+use Rattle.protocol.specs.Shape.{inShape}
 use Rattle.network.specs.Abstract.{isChannel, problemOf, placeOf, networkOf}
-use Rattle.network.specs.Parts.{Domains, setOf, linksInShape}
+use Rattle.network.specs.Parts.{Domains, agentPasses, isLink, fitsNow}
 use Rattle.network.specs.declared.Place.{Place}
 use Rattle.network.specs.declared.Network.{Network}
 use Rattle.network.proofs.Numbering.{ends}
 use Rattle.network.proofs.Ranges.{small-domain}
 use Rattle.network.proofs.Clauses.{agent-at}
-use Rattle.network.proofs.Links.{agentPasses, passes-beyond, passes-within}
+use Rattle.network.proofs.Words.{set-at}
 use Rattle.network.proofs.Rings.{lastLeft, message-at}
 use Rattle.network.proofs.Sweeping.{Swept, channelsInShape, beginning, one-unfit, message-unfit, message-passed, channel-here, channel-full, channel-next, sender-next, swept}
-use Rattle.network.proofs.Whole.{listensOf, informsOf, linking, lengths, head-unfit, AgentsFit, agent-unfit, agent-passed, agents-passed}
+use Rattle.network.proofs.Whole.{listensOf, informsOf, Linking, linking, lengths, head-unfit, AgentsFit, agent-unfit, agent-passed, agents-passed}
 use Rattle.network.proofs.in_shape.Statement.{statement}
 use Rattle.network.proofs.in_shape.Tie as tie
 
@@ -53,11 +52,11 @@ noAgent =
 abbrev noMessage : Place
 noMessage = record { message = Info 0 }
 
--- the channels are left; `domains` has them as digits, and `listens` every agent's set
-record Checked (r : Network) (domains : ℕ) (listens : List ℕ) : Type 0 where
+-- the channels are left; `domains` has them as digits, and `listens` and `informs` every agent's sets
+record Checked (r : Network) (domains : ℕ) (listens informs : List ℕ) : Type 0 where
   rest : inShape (networkOf r) ≡ channelsInShape r
   owned : Domains (problemOf r) domains
-  sets : (k x : ℕ) → networkOf r .agents k .listens x ≡ setOf listens k x
+  links : Linking listens informs (networkOf r)
 
 abbrev Inv-loop : tie.InvT-loop
 Inv-loop r n domains listens₀ informs₀ k₀ listens informs k =
@@ -77,10 +76,10 @@ abbrev μ-loop2 : tie.MeasureT-loop2
 μ-loop2 r n domains listens informs k i₀ i = 12 - i
 
 abbrev Inv-loop3 : tie.InvT-loop3
-Inv-loop3 r n domains listens k i₀ rest₀ j₀ left₀ i rest j left = Checked r domains listens × Swept r i rest j left
+Inv-loop3 r n domains listens informs k i₀ rest₀ j₀ left₀ asked₀ i rest j left asked = Checked r domains listens informs × Swept r i rest j left asked
 
 abbrev μ-loop3 : tie.MeasureT-loop3
-μ-loop3 r n domains listens k i₀ rest₀ j₀ left₀ i rest j left = (12 - i) * 1000 + naming rest * 16 + left
+μ-loop3 r n domains listens informs k i₀ rest₀ j₀ left₀ asked₀ i rest j left asked = (12 - i) * 1000 + naming rest * 16 + left
 
 is-rule-requires : tie.Need-is-rule-requires Inv-loop μ-loop Inv-loop2 μ-loop2 Inv-loop3 μ-loop3
 is-rule-requires c κs = search needs
@@ -190,64 +189,33 @@ add-i c = search needs
 agent : (c : tie.After-a2 Inv-loop μ-loop Inv-loop2 μ-loop2 Inv-loop3 μ-loop3) → networkOf (c .before .before .before .before .before .before .before .before .before .before .before .before .before .before .args .t1) .agents (c .before .before .loop2 .i + 1) ≡ agentOf (getD (c .before .before .before .before .before .before .before .before .before .before .before .before .before .before .args .t1 .agents) (c .before .before .loop2 .i) noAgent)
 agent c = agent-at (c .before .before .before .before .before .before .before .before .before .before .before .before .before .before .args .t1) (c .before .before .loop2 .i) noAgent (staffed (c .before .before .before .before .before .before .before .before .before .before .before .before .before .before)) (c .before .loop2-test .taken)
 
-blank : (c : tie.After-unused Inv-loop μ-loop Inv-loop2 μ-loop2 Inv-loop3 μ-loop3) → agentPasses (networkOf (c .before .before .before .before .before .before .before .before .before .before .before .before .before .before .before .before .args .t1)) (c .before .before .before .before .loop2 .i + 1) ≡ c .unused .result
+found : (c : tie.After-agent-passes Inv-loop μ-loop Inv-loop2 μ-loop2 Inv-loop3 μ-loop3) → agentPasses (networkOf (c .before .before .before .before .before .before .before .before .before .before .before .before .before .before .before .before .before .before .args .t1)) (c .before .before .before .before .before .before .loop2 .i + 1) ≡ c .agent-passes .result
 unfolding networkOf problemOf
-blank c = passes-beyond (networkOf (c .before .before .before .before .before .before .before .before .before .before .before .before .before .before .before .before .args .t1)) (c .before .before .before .before .loop2 .i + 1) (c .before .if2 .taken) ∙ ap unused (agent (c .before .before)) ∙ sym (c .unused .ensures)
+found c = sym (c .agent-passes .ensures (networkOf (c .before .before .before .before .before .before .before .before .before .before .before .before .before .before .before .before .before .before .args .t1)) refl refl (c .before .before .before .before .before .before .loop2 .inv .owned) refl (c .before .before .before .before .before .before .loop2 .inv .links .informs) (agent (c .before .before .before .before)))
 
-linked : (c : tie.After-links-in-shape Inv-loop μ-loop Inv-loop2 μ-loop2 Inv-loop3 μ-loop3) → linksInShape (networkOf (c .before .before .before .before .before .before .before .before .before .before .before .before .before .before .before .before .before .before .before .args .t1)) (c .before .before .before .before .before .before .before .loop2 .i + 1) ≡ c .links-in-shape .result
-unfolding networkOf problemOf agentOf
-linked c = sym (c .links-in-shape .ensures (networkOf (c .before .before .before .before .before .before .before .before .before .before .before .before .before .before .before .before .before .before .before .args .t1)) refl refl (c .before .before .before .before .before .before .before .loop2 .inv .links .informs) (ap (λ (x : Agent′). x .listens) (agent (c .before .before .before .before .before))))
-
-holding : (c : tie.After-holds-in-shape Inv-loop μ-loop Inv-loop2 μ-loop2 Inv-loop3 μ-loop3) → agentPasses (networkOf (c .before .before .before .before .before .before .before .before .before .before .before .before .before .before .before .before .before .before .before .before .before .args .t1)) (c .before .before .before .before .before .before .before .before .before .loop2 .i + 1) ≡ c .holds-in-shape .result
-unfolding networkOf problemOf
-holding c =
-    passes-within (networkOf (c .before .before .before .before .before .before .before .before .before .before .before .before .before .before .before .before .before .before .before .before .before .args .t1)) (c .before .before .before .before .before .before .before .before .before .loop2 .i + 1) (omega (arith, c .before .before .before .before .before .before .if2 .left))
-    ∙ rw (linked (c .before .before) ∙ not-false _ (c .before .if4 .left)) (sym (c .holds-in-shape .ensures (networkOf (c .before .before .before .before .before .before .before .before .before .before .before .before .before .before .before .before .before .before .before .before .before .args .t1)) refl (c .before .before .before .before .before .before .before .before .before .loop2 .inv .owned) (agent (c .before .before .before .before .before .before .before))))
-
-unused-requires : tie.Need-unused-requires Inv-loop μ-loop Inv-loop2 μ-loop2 Inv-loop3 μ-loop3
-unused-requires c κs = search needs
+agent-passes-requires : tie.Need-agent-passes-requires Inv-loop μ-loop Inv-loop2 μ-loop2 Inv-loop3 μ-loop3
+agent-passes-requires c κs = search needs
 
 returns-2 : tie.Need-returns-2 Inv-loop μ-loop Inv-loop2 μ-loop2 Inv-loop3 μ-loop3
-returns-2 c = sym (agent-unfit (c .before .before .before .before .before .before .before .before .before .before .before .before .before .before .before .before .before .args .t1) _ _ _ (c .before .before .before .before .before .loop2 .i) (c .before .before .before .before .before .loop2 .inv) (c .before .before .before .before .loop2-test .taken) (blank (c .before) ∙ not-true _ (c .if3 .taken)))
+returns-2 c = sym (agent-unfit (c .before .before .before .before .before .before .before .before .before .before .before .before .before .before .before .before .before .before .before .args .t1) _ _ _ (c .before .before .before .before .before .before .before .loop2 .i) (c .before .before .before .before .before .before .before .loop2 .inv) (c .before .before .before .before .before .before .loop2-test .taken) (found (c .before) ∙ not-true _ (c .if2 .taken)))
 
 loop2-less : tie.Need-loop2-less Inv-loop μ-loop Inv-loop2 μ-loop2 Inv-loop3 μ-loop3
 loop2-less c = search needs
 
 loop2-again : tie.Need-loop2-again Inv-loop μ-loop Inv-loop2 μ-loop2 Inv-loop3 μ-loop3
-loop2-again c = agent-passed (c .before .before .before .before .before .before .before .before .before .before .before .before .before .before .before .before .before .args .t1) _ _ _ (c .before .before .before .before .before .loop2 .i) (c .before .before .before .before .before .loop2 .inv) (c .before .before .before .before .loop2-test .taken) (blank (c .before) ∙ not-false _ (c .if3 .left))
-
-links-in-shape-requires : tie.Need-links-in-shape-requires Inv-loop μ-loop Inv-loop2 μ-loop2 Inv-loop3 μ-loop3
-links-in-shape-requires c κs = search needs
-
-returns-3 : tie.Need-returns-3 Inv-loop μ-loop Inv-loop2 μ-loop2 Inv-loop3 μ-loop3
-unfolding networkOf problemOf
-returns-3 c =
-    sym (agent-unfit (c .before .before .before .before .before .before .before .before .before .before .before .before .before .before .before .before .before .before .before .before .args .t1) _ _ _ (c .before .before .before .before .before .before .before .before .loop2 .i) (c .before .before .before .before .before .before .before .before .loop2 .inv) (c .before .before .before .before .before .before .before .loop2-test .taken)
-    (passes-within (networkOf (c .before .before .before .before .before .before .before .before .before .before .before .before .before .before .before .before .before .before .before .before .args .t1)) (c .before .before .before .before .before .before .before .before .loop2 .i + 1) (omega (arith, c .before .before .before .before .before .if2 .left)) ∙ rw (linked (c .before) ∙ not-true _ (c .if4 .taken))))
-
-holds-in-shape-requires : tie.Need-holds-in-shape-requires Inv-loop μ-loop Inv-loop2 μ-loop2 Inv-loop3 μ-loop3
-holds-in-shape-requires c κs = search needs
-
-returns-4 : tie.Need-returns-4 Inv-loop μ-loop Inv-loop2 μ-loop2 Inv-loop3 μ-loop3
-returns-4 c = sym (agent-unfit (c .before .before .before .before .before .before .before .before .before .before .before .before .before .before .before .before .before .before .before .before .before .before .args .t1) _ _ _ (c .before .before .before .before .before .before .before .before .before .before .loop2 .i) (c .before .before .before .before .before .before .before .before .before .before .loop2 .inv) (c .before .before .before .before .before .before .before .before .before .loop2-test .taken) (holding (c .before) ∙ not-true _ (c .if5 .taken)))
-
-loop2-less-2 : tie.Need-loop2-less-2 Inv-loop μ-loop Inv-loop2 μ-loop2 Inv-loop3 μ-loop3
-loop2-less-2 c = search needs
-
-loop2-again-2 : tie.Need-loop2-again-2 Inv-loop μ-loop Inv-loop2 μ-loop2 Inv-loop3 μ-loop3
-loop2-again-2 c = agent-passed (c .before .before .before .before .before .before .before .before .before .before .before .before .before .before .before .before .before .before .before .before .before .before .args .t1) _ _ _ (c .before .before .before .before .before .before .before .before .before .before .loop2 .i) (c .before .before .before .before .before .before .before .before .before .before .loop2 .inv) (c .before .before .before .before .before .before .before .before .before .loop2-test .taken) (holding (c .before) ∙ not-false _ (c .if5 .left))
+loop2-again c = agent-passed (c .before .before .before .before .before .before .before .before .before .before .before .before .before .before .before .before .before .before .before .args .t1) _ _ _ (c .before .before .before .before .before .before .before .loop2 .i) (c .before .before .before .before .before .before .before .loop2 .inv) (c .before .before .before .before .before .before .loop2-test .taken) (found (c .before) ∙ not-false _ (c .if2 .left))
 
 loop3-holds : tie.Need-loop3-holds Inv-loop μ-loop Inv-loop2 μ-loop2 Inv-loop3 μ-loop3
 loop3-holds c =
     let r = c .before .before .before .before .before .before .before .before .before .before .before .before .before .args .t1 in
     let loop = c .before .loop2 in
-    (record { owned = loop .inv .owned; rest = agents-passed r _ _ _ (loop .i) (loop .inv) (omega arith); sets = loop .inv .links .listens }, beginning r)
+    (record { owned = loop .inv .owned; rest = agents-passed r _ _ _ (loop .i) (loop .inv) (omega arith); links = loop .inv .links }, beginning r)
 
 -- a message is left to look at
-waiting : (c : tie.Then6 Inv-loop μ-loop Inv-loop2 μ-loop2 Inv-loop3 μ-loop3) → 1 ≤ c .before .loop3 .left
-waiting c = omega (arith, c .if6 .taken)
+waiting : (c : tie.Then3 Inv-loop μ-loop Inv-loop2 μ-loop2 Inv-loop3 μ-loop3) → 1 ≤ c .before .loop3 .left
+waiting c = omega (arith, c .if3 .taken)
 
-line : (c : tie.Then6 Inv-loop μ-loop Inv-loop2 μ-loop2 Inv-loop3 μ-loop3) → isChannel (c .before .loop3 .i) (c .before .loop3 .j) ≡ true
+line : (c : tie.Then3 Inv-loop μ-loop Inv-loop2 μ-loop2 Inv-loop3 μ-loop3) → isChannel (c .before .loop3 .i) (c .before .loop3 .j) ≡ true
 line c = c .before .loop3 .inv .1 .here (waiting c) .0
 
 sub-left : tie.Need-sub-left Inv-loop μ-loop Inv-loop2 μ-loop2 Inv-loop3 μ-loop3
@@ -283,67 +251,98 @@ element-copy-out-place c = c .place-at .ensures .1
 message-fits-requires : tie.Need-message-fits-requires Inv-loop μ-loop Inv-loop2 μ-loop2 Inv-loop3 μ-loop3
 message-fits-requires c κs = let b = ends _ _ (line (c .before .before .before .before .before .before)) in (b .from-low, b .from-high, b .to-low, b .to-high)
 
--- that message is the one that the test of the channel asks for
-looked : (c : tie.After-message-fits Inv-loop μ-loop Inv-loop2 μ-loop2 Inv-loop3 μ-loop3) → messageFits (networkOf (c .before .before .before .before .before .before .before .before .before .before .before .before .before .before .before .before .before .before .before .before .before .before .args .t1)) (c .before .before .before .before .before .before .before .before .loop3 .i) (c .before .before .before .before .before .before .before .before .loop3 .j) (lastLeft (c .before .before .before .before .before .before .before .before .before .before .before .before .before .before .before .before .before .before .before .before .before .before .args .t1) (c .before .before .before .before .before .before .before .before .loop3 .i) (c .before .before .before .before .before .before .before .before .loop3 .j) (c .before .before .before .before .before .before .before .before .loop3 .left)) ≡ c .message-fits .result
-unfolding networkOf problemOf placeOf lastLeft
+-- that message is the last that is left
+last : (c : tie.After-place-at Inv-loop μ-loop Inv-loop2 μ-loop2 Inv-loop3 μ-loop3) → lastLeft (c .before .before .before .before .before .before .before .before .before .before .before .before .before .before .before .before .before .before .before .args .t1) (c .before .before .before .before .before .loop3 .i) (c .before .before .before .before .before .loop3 .j) (c .before .before .before .before .before .loop3 .left) ≡ placeOf (getD (c .before .before .before .before .before .before .before .before .before .before .before .before .before .before .before .before .before .before .before .args .t1 .places) (c .place-at .result) noMessage)
+unfolding lastLeft
+last c = ap placeOf (message-at (c .before .before .before .before .before .before .before .before .before .before .before .before .before .before .before .before .before .before .before .args .t1) (c .before .before .before .before .before .loop3 .i) (c .before .before .before .before .before .loop3 .j) (c .before .before .digit .result) (c .before .channel-at .result) (c .place-at .result) (c .before .before .before .before .before .loop3 .left - 1) noMessage (placed (c .before .before .before .before .before .before .before .before .before .before .before .before .before .before .before .before .before .before .before)) (ends _ _ (line (c .before .before .before .before)) .from-low) (c .before .before .digit .ensures .0) (c .before .channel-at .ensures .0) (c .place-at .ensures))
+
+looked : (c : tie.After-message-fits Inv-loop μ-loop Inv-loop2 μ-loop2 Inv-loop3 μ-loop3) → fitsNow (networkOf (c .before .before .before .before .before .before .before .before .before .before .before .before .before .before .before .before .before .before .before .before .before .before .args .t1)) (c .before .before .before .before .before .before .before .before .loop3 .i) (c .before .before .before .before .before .before .before .before .loop3 .j) (c .before .before .before .before .before .before .before .before .loop3 .asked) (lastLeft (c .before .before .before .before .before .before .before .before .before .before .before .before .before .before .before .before .before .before .before .before .before .before .args .t1) (c .before .before .before .before .before .before .before .before .loop3 .i) (c .before .before .before .before .before .before .before .before .loop3 .j) (c .before .before .before .before .before .before .before .before .loop3 .left)) ≡ c .message-fits .result
+unfolding networkOf problemOf placeOf
 looked c =
     let r = c .before .before .before .before .before .before .before .before .before .before .before .before .before .before .before .before .before .before .before .before .before .before .args .t1 in
     let loop = c .before .before .before .before .before .before .before .before .loop3 in
-    let t6 = c .before .before .before .before .before .before .before in
-    ap (λ (p : Place). messageFits (networkOf r) (loop .i) (loop .j) (placeOf p))
-    (message-at r (loop .i) (loop .j) (c .before .before .before .before .before .digit .result) (c .before .before .before .before .channel-at .result) (c .before .before .before .place-at .result) (loop .left - 1) noMessage (placed (c .before .before .before .before .before .before .before .before .before .before .before .before .before .before .before .before .before .before .before .before .before .before)) (ends _ _ (line t6) .from-low) (c .before .before .before .before .before .digit .ensures .0) (c .before .before .before .before .channel-at .ensures .0) (c .before .before .before .place-at .ensures))
-    ∙ sym (c .message-fits .ensures (networkOf r) (loop .inv .0 .owned) (loop .inv .0 .sets))
+    ap (fitsNow (networkOf r) (loop .i) (loop .j) (loop .asked)) (last (c .before .before .before))
+    ∙ sym (c .message-fits .ensures (networkOf r) (loop .inv .0 .owned) (loop .inv .0 .links .listens) (loop .inv .1 .here (waiting (c .before .before .before .before .before .before .before)) .3))
 
-returns-5 : tie.Need-returns-5 Inv-loop μ-loop Inv-loop2 μ-loop2 Inv-loop3 μ-loop3
-returns-5 c =
+met : (c : tie.After-is-link Inv-loop μ-loop Inv-loop2 μ-loop2 Inv-loop3 μ-loop3) → isLink (lastLeft (c .before .before .before .before .before .before .before .before .before .before .before .before .before .before .before .before .before .before .before .before .before .before .before .before .args .t1) (c .before .before .before .before .before .before .before .before .before .before .loop3 .i) (c .before .before .before .before .before .before .before .before .before .before .loop3 .j) (c .before .before .before .before .before .before .before .before .before .before .loop3 .left)) ≡ c .is-link .result
+unfolding placeOf
+met c = ap isLink (last (c .before .before .before .before .before)) ∙ sym (c .is-link .ensures)
+
+returns-3 : tie.Need-returns-3 Inv-loop μ-loop Inv-loop2 μ-loop2 Inv-loop3 μ-loop3
+returns-3 c =
     let r = c .before .before .before .before .before .before .before .before .before .before .before .before .before .before .before .before .before .before .before .before .before .before .before .args .t1 in
     let loop = c .before .before .before .before .before .before .before .before .before .loop3 in
     sym (loop .inv .0 .rest
     ∙ one-unfit r (loop .i) (loop .j) (line (c .before .before .before .before .before .before .before .before))
-    (message-unfit r (loop .i) (loop .rest) (loop .j) (loop .left) (loop .inv .1) (waiting (c .before .before .before .before .before .before .before .before)) (looked (c .before) ∙ not-true _ (c .if7 .taken))))
+    (message-unfit r (loop .i) (loop .rest) (loop .j) (loop .left) (loop .asked) (loop .inv .1) (waiting (c .before .before .before .before .before .before .before .before)) (looked (c .before) ∙ not-true _ (c .if4 .taken))))
+
+is-link-requires : tie.Need-is-link-requires Inv-loop μ-loop Inv-loop2 μ-loop2 Inv-loop3 μ-loop3
+is-link-requires c κs = search needs
 
 loop3-less : tie.Need-loop3-less Inv-loop μ-loop Inv-loop2 μ-loop2 Inv-loop3 μ-loop3
-loop3-less c = omega (arith, waiting (c .before .before .before .before .before .before .before .before))
+loop3-less c = omega (arith, waiting (c .before .before .before .before .before .before .before .before .before))
 
 loop3-again : tie.Need-loop3-again Inv-loop μ-loop Inv-loop2 μ-loop2 Inv-loop3 μ-loop3
 loop3-again c =
-    let r = c .before .before .before .before .before .before .before .before .before .before .before .before .before .before .before .before .before .before .before .before .before .before .before .args .t1 in
-    let loop = c .before .before .before .before .before .before .before .before .before .loop3 in
-    (loop .inv .0, message-passed r (loop .i) (loop .rest) (loop .j) (loop .left) (loop .inv .1) (waiting (c .before .before .before .before .before .before .before .before)) (looked (c .before) ∙ not-false _ (c .if7 .left)))
+    let r = c .before .before .before .before .before .before .before .before .before .before .before .before .before .before .before .before .before .before .before .before .before .before .before .before .args .t1 in
+    let loop = c .before .before .before .before .before .before .before .before .before .before .loop3 in
+    (loop .inv .0, rw (← met c) (message-passed r (loop .i) (loop .rest) (loop .j) (loop .left) (loop .asked) (loop .inv .1) (waiting (c .before .before .before .before .before .before .before .before .before)) (looked (c .before .before) ∙ not-false _ (c .before .if4 .left))))
 
 first-digit-requires : tie.Need-first-digit-requires Inv-loop μ-loop Inv-loop2 μ-loop2 Inv-loop3 μ-loop3
-first-digit-requires c κs = omega (arith, c .if8 .taken)
+first-digit-requires c κs = omega (arith, c .if5 .taken)
 
 digit-requires-2 : tie.Need-digit-requires-2 Inv-loop μ-loop Inv-loop2 μ-loop2 Inv-loop3 μ-loop3
 digit-requires-2 c κs = (c .first-digit .ensures .2, c .first-digit .ensures .3)
 
-returns-6 : tie.Need-returns-6 Inv-loop μ-loop Inv-loop2 μ-loop2 Inv-loop3 μ-loop3
-returns-6 c =
+returns-4 : tie.Need-returns-4 Inv-loop μ-loop Inv-loop2 μ-loop2 Inv-loop3 μ-loop3
+returns-4 c =
     let r = c .before .before .before .before .before .before .before .before .before .before .before .before .before .before .before .before .before .before .before .args .t1 in
     let loop = c .before .before .before .before .before .loop3 in
     let k = c .before .before .first-digit .result in
     let h = known-true (assignment (loop .rest) k) (c .before .before .first-digit .ensures .1) in
     sym (loop .inv .0 .rest
-    ∙ one-unfit r (loop .i) k (channel-here r (loop .i) (loop .rest) (loop .j) (loop .left) k (loop .inv .1) (c .before .before .before .before .if6 .left) h)
-    (channel-full r (loop .i) (loop .rest) (loop .j) (loop .left) k (loop .inv .1) (c .before .before .before .before .if6 .left) h (omega (arith, c .before .digit2 .ensures .0, c .if9 .taken))))
+    ∙ one-unfit r (loop .i) k (channel-here r (loop .i) (loop .rest) (loop .j) (loop .left) k (loop .asked) (loop .inv .1) (c .before .before .before .before .if3 .left) h)
+    (channel-full r (loop .i) (loop .rest) (loop .j) (loop .left) k (loop .asked) (loop .inv .1) (c .before .before .before .before .if3 .left) h (omega (arith, c .before .digit2 .ensures .0, c .if6 .taken))))
 
 with-digit-requires : tie.Need-with-digit-requires Inv-loop μ-loop Inv-loop2 μ-loop2 Inv-loop3 μ-loop3
 with-digit-requires c κs = (c .before .before .first-digit .ensures .2, c .before .before .first-digit .ensures .3, omega arith)
 
+-- the channel that comes next
+next : (c : tie.After-with-digit Inv-loop μ-loop Inv-loop2 μ-loop2 Inv-loop3 μ-loop3) → isChannel (c .before .before .before .before .before .before .loop3 .i) (c .before .before .before .first-digit .result) ≡ true
+next c =
+    let h = known-true (assignment (c .before .before .before .before .before .before .loop3 .rest) (c .before .before .before .first-digit .result)) (c .before .before .before .first-digit .ensures .1) in
+    channel-here (c .before .before .before .before .before .before .before .before .before .before .before .before .before .before .before .before .before .before .before .before .args .t1) (c .before .before .before .before .before .before .loop3 .i) (c .before .before .before .before .before .before .loop3 .rest) (c .before .before .before .before .before .before .loop3 .j) (c .before .before .before .before .before .before .loop3 .left) (c .before .before .before .first-digit .result) (c .before .before .before .before .before .before .loop3 .asked) (c .before .before .before .before .before .before .loop3 .inv .1) (c .before .before .before .before .before .if3 .left) h
+
+cast-has : tie.Need-cast-has Inv-loop μ-loop Inv-loop2 μ-loop2 Inv-loop3 μ-loop3
+cast-has c = search needs
+
+sub-has : tie.Need-sub-has Inv-loop μ-loop Inv-loop2 μ-loop2 Inv-loop3 μ-loop3
+sub-has c = ends _ _ (next c) .to-low
+
+mul-has : tie.Need-mul-has Inv-loop μ-loop Inv-loop2 μ-loop2 Inv-loop3 μ-loop3
+mul-has c = search needs
+
+array-read-has : tie.Need-array-read-has Inv-loop μ-loop Inv-loop2 μ-loop2 Inv-loop3 μ-loop3
+array-read-has c = omega (arith, ends _ _ (next c) .to-low, ends _ _ (next c) .to-high)
+
+has-requires : tie.Need-has-requires Inv-loop μ-loop Inv-loop2 μ-loop2 Inv-loop3 μ-loop3
+has-requires c κs = let b = ends _ _ (next c) in (b .from-low, omega (arith, b .from-high))
+
 loop3-less-2 : tie.Need-loop3-less-2 Inv-loop μ-loop Inv-loop2 μ-loop2 Inv-loop3 μ-loop3
 loop3-less-2 c =
-    let e = c .before .before .before .first-digit .ensures in
-    omega (arith, naming-fewer (c .before .before .before .before .before .before .loop3 .rest) (c .with-digit .result) (c .before .before .before .first-digit .result) (e .2) (e .3) (e .1) (c .with-digit .ensures), c .before .if9 .left)
+    let e = c .before .before .before .before .first-digit .ensures in
+    omega (arith, naming-fewer (c .before .before .before .before .before .before .before .loop3 .rest) (c .before .with-digit .result) (c .before .before .before .before .first-digit .result) (e .2) (e .3) (e .1) (c .before .with-digit .ensures), c .before .before .if6 .left)
 
 loop3-again-2 : tie.Need-loop3-again-2 Inv-loop μ-loop Inv-loop2 μ-loop2 Inv-loop3 μ-loop3
 loop3-again-2 c =
-    let r = c .before .before .before .before .before .before .before .before .before .before .before .before .before .before .before .before .before .before .before .before .args .t1 in
-    let loop = c .before .before .before .before .before .before .loop3 in
-    let k = c .before .before .before .first-digit .result in
-    let h = known-true (assignment (loop .rest) k) (c .before .before .before .first-digit .ensures .1) in
-    let few : assignment (loop .rest) k ≤ 8 = omega (arith, c .before .before .digit2 .ensures .0, c .before .if9 .left) in (
+    let r = c .before .before .before .before .before .before .before .before .before .before .before .before .before .before .before .before .before .before .before .before .before .args .t1 in
+    let loop = c .before .before .before .before .before .before .before .loop3 in
+    let k = c .before .before .before .before .first-digit .result in
+    let h = known-true (assignment (loop .rest) k) (c .before .before .before .before .first-digit .ensures .1) in
+    let few : assignment (loop .rest) k ≤ 8 = omega (arith, c .before .before .before .digit2 .ensures .0, c .before .before .if6 .left) in
+    let informed : c .has .result ≡ networkOf r .agents k .informs (loop .i) = c .has .ensures ∙ sym (loop .inv .0 .links .informs k (loop .i) ∙ set-at _ k (loop .i) (c .before .before .before .before .first-digit .ensures .2)) in (
       loop .inv .0,
-      rw (c .before .before .digit2 .ensures .0) (channel-next r (loop .i) (loop .rest) (loop .j) (loop .left) k (loop .inv .1) (c .before .before .before .before .before .if6 .left) h (c .with-digit .result) few (c .with-digit .ensures)),
+      rw (c .before .before .before .digit2 .ensures .0, informed) (channel-next r (loop .i) (loop .rest) (loop .j) (loop .left) k (loop .asked) (loop .inv .1) (c .before .before .before .before .before .before .if3 .left) h (c .before .with-digit .result) few (c .before .with-digit .ensures)),
     )
 
 cast-lines-of : tie.Need-cast-lines-of Inv-loop μ-loop Inv-loop2 μ-loop2 Inv-loop3 μ-loop3
@@ -359,23 +358,23 @@ add-lines-of : tie.Need-add-lines-of Inv-loop μ-loop Inv-loop2 μ-loop2 Inv-loo
 add-lines-of c = search needs
 
 lines-of-requires : tie.Need-lines-of-requires Inv-loop μ-loop Inv-loop2 μ-loop2 Inv-loop3 μ-loop3
-lines-of-requires c κs = (omega arith, omega (arith, c .before .if10 .taken))
+lines-of-requires c κs = (omega arith, omega (arith, c .before .if7 .taken))
 
 add-i-2 : tie.Need-add-i-2 Inv-loop μ-loop Inv-loop2 μ-loop2 Inv-loop3 μ-loop3
 add-i-2 c = search needs
 
 loop3-less-3 : tie.Need-loop3-less-3 Inv-loop μ-loop Inv-loop2 μ-loop2 Inv-loop3 μ-loop3
-loop3-less-3 c = omega (arith, naming-few (c .lines-of .result), c .before .before .if10 .taken)
+loop3-less-3 c = omega (arith, naming-few (c .lines-of .result), c .before .before .if7 .taken)
 
 loop3-again-3 : tie.Need-loop3-again-3 Inv-loop μ-loop Inv-loop2 μ-loop2 Inv-loop3 μ-loop3
 loop3-again-3 c =
     let loop = c .before .before .before .before .before .loop3 in
-    (loop .inv .0, sender-next (c .before .before .before .before .before .before .before .before .before .before .before .before .before .before .before .before .before .before .before .args .t1) (loop .i) (loop .rest) (loop .j) (loop .left) (loop .inv .1) (c .before .before .before .before .if6 .left) (c .before .before .before .if8 .left) (c .lines-of .result) (c .before .before .if10 .taken) (c .lines-of .ensures))
+    (loop .inv .0, sender-next (c .before .before .before .before .before .before .before .before .before .before .before .before .before .before .before .before .before .before .before .args .t1) (loop .i) (loop .rest) (loop .j) (loop .left) (loop .asked) (loop .inv .1) (c .before .before .before .before .if3 .left) (c .before .before .before .if5 .left) (c .lines-of .result) (c .before .before .if7 .taken) (c .lines-of .ensures))
 
-returns-7 : tie.Need-returns-7 Inv-loop μ-loop Inv-loop2 μ-loop2 Inv-loop3 μ-loop3
-returns-7 c =
+returns-5 : tie.Need-returns-5 Inv-loop μ-loop Inv-loop2 μ-loop2 Inv-loop3 μ-loop3
+returns-5 c =
     let loop = c .before .before .before .loop3 in
-    sym (loop .inv .0 .rest ∙ swept (c .before .before .before .before .before .before .before .before .before .before .before .before .before .before .before .before .before .args .t1) (loop .i) (loop .rest) (loop .j) (loop .left) (loop .inv .1) (c .before .before .if6 .left) (c .before .if8 .left) (c .if10 .left))
+    sym (loop .inv .0 .rest ∙ swept (c .before .before .before .before .before .before .before .before .before .before .before .before .before .before .before .before .before .args .t1) (loop .i) (loop .rest) (loop .j) (loop .left) (loop .asked) (loop .inv .1) (c .before .before .if3 .left) (c .before .if5 .left) (c .if7 .left))
 
 pub in-shape-spec : {M : Type 1} → statement M
 in-shape-spec =
@@ -406,16 +405,10 @@ in-shape-spec =
     mul-a-2
     element-copy-out-a-2
     add-i
-    unused-requires
+    agent-passes-requires
     returns-2
     loop2-less
     loop2-again
-    links-in-shape-requires
-    returns-3
-    holds-in-shape-requires
-    returns-4
-    loop2-less-2
-    loop2-again-2
     loop3-holds
     sub-left
     cast-digit
@@ -428,13 +421,19 @@ in-shape-spec =
     mul-place
     element-copy-out-place
     message-fits-requires
-    returns-5
+    returns-3
+    is-link-requires
     loop3-less
     loop3-again
     first-digit-requires
     digit-requires-2
-    returns-6
+    returns-4
     with-digit-requires
+    cast-has
+    sub-has
+    mul-has
+    array-read-has
+    has-requires
     loop3-less-2
     loop3-again-2
     cast-lines-of
@@ -445,4 +444,4 @@ in-shape-spec =
     add-i-2
     loop3-less-3
     loop3-again-3
-    returns-7)
+    returns-5)

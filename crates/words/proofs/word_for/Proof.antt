@@ -3,7 +3,7 @@ use mathlib.Core.Path.{_≡_, refl}
 use native.Mathlib.Omega.{arith}
 use borrow.Enum.Known.{lives-at}
 use Rattle.protocol.specs.Run.{endingWord}
-use Rattle.run.specs.declared.Ending.the-variants.{None, Plan, Jammed, Faulty, Open, Broken}
+use Rattle.run.specs.declared.Ending.the-variants.{None, Plan, Jammed, Open, Broken}
 use Rattle.run.specs.Answers.{endingOf}
 use Rattle.run.proofs.Ending as E
 use borrow.Author.Needs.{needs}
@@ -25,9 +25,6 @@ enum-told-4 c = search needs
 enum-told-5 : tie.Need-enum-told-5
 enum-told-5 c = search needs
 
-enum-told-6 : tie.Need-enum-told-6
-enum-told-6 c = search needs
-
 returns : tie.Need-returns
 unfolding endingWord endingOf
 returns c =
@@ -46,17 +43,12 @@ returns-3 c =
 returns-4 : tie.Need-returns-4
 unfolding endingWord endingOf
 returns-4 c =
-    let e : c .before .before .args .e ≡ Faulty = lives-at E.enum _ 3 (c .before .match .keys4) .1 in rw e (refl, (omega arith, refl))
+    let e : c .before .before .args .e ≡ Open = lives-at E.enum _ 3 (c .before .match .keys4) .1 in rw e (refl, (omega arith, refl))
 
 returns-5 : tie.Need-returns-5
 unfolding endingWord endingOf
 returns-5 c =
-    let e : c .before .before .args .e ≡ Open = lives-at E.enum _ 4 (c .before .match .keys5) .1 in rw e (refl, (omega arith, refl))
-
-returns-6 : tie.Need-returns-6
-unfolding endingWord endingOf
-returns-6 c =
-    let e : c .before .before .args .e ≡ Broken = lives-at E.enum _ 5 (c .before .match .keys6) .1 in rw e (refl, (omega arith, refl))
+    let e : c .before .before .args .e ≡ Broken = lives-at E.enum _ 4 (c .before .match .keys5) .1 in rw e (refl, (omega arith, refl))
 
 pub word-for-spec : {M : Type 1} → statement M
 word-for-spec =
@@ -67,10 +59,8 @@ word-for-spec =
     enum-told-3
     enum-told-4
     enum-told-5
-    enum-told-6
     returns
     returns-2
     returns-3
     returns-4
-    returns-5
-    returns-6)
+    returns-5)

@@ -4,7 +4,7 @@ use native.Mathlib.Omega.{arith}
 use lib.ListN.{length}
 use Rattle.protocol.specs.Run.{endingWord}
 use Rattle.run.specs.declared.Ending.{Ending}
-use Rattle.run.specs.declared.Ending.the-variants.{None, Plan, Jammed, Faulty, Open, Broken}
+use Rattle.run.specs.declared.Ending.the-variants.{None, Plan, Jammed, Open, Broken}
 use Rattle.run.specs.Answers.{endingOf}
 use borrow.Author.Needs.{needs}
 use Rattle.words.proofs.text.append_ending.Statement.{statement}
@@ -17,7 +17,6 @@ unfolding endingWord endingOf
 word-short None = omega arith
 word-short Plan = omega arith
 word-short Jammed = omega arith
-word-short Faulty = omega arith
 word-short Open = omega arith
 word-short Broken = omega arith
 
