@@ -1,10 +1,12 @@
--- What is gathered where most of the numbers have nothing: from none, from one, from the low or the high ones.
-use Prim.Native.Nat.{ℕ, zero, suc, _+_, _-_, _≤_, _<_}
-use mathlib.Core.Path.{_≡_, refl, ap, ap₂, _∙_}
+-- What is gathered where most of the numbers have nothing: from none, from one, from the low or the high ones; and a list, element by element.
+use Prim.Native.Nat.{ℕ, zero, suc, pred, _+_, _-_, _≤_, _<_}
+use mathlib.Core.Path.{_≡_, refl, sym, ap, ap₂, _∙_}
 use mathlib.Core.Logic.{_≢_}
-use mathlib.Core.List.{List, [], _++_, append-nil, append-assoc}
+use mathlib.Core.List.{List, [], _∷_, _++_, append-nil, append-assoc}
 use native.Mathlib.Nat.{add-zero, add-suc, suc-add, zero-add}
 use native.Mathlib.Omega.{arith}
+use lib.ListN.{length, getD, drop, drop-of-length-le}
+use lib.Seq.{drop-cons}
 use Rattle.base.specs.Finite.{gather}
 use Rattle.base.proofs.Tests.{eq-test}
 
@@ -30,7 +32,7 @@ gather-one (suc m) k i f l u h =
     rw (gather-none m (suc k) f (λ j a b. h j (λ q. omega arith)), ← e) (append-nil (f k)))
     (λ n. rw (h k n) (gather-one m (suc k) i f (omega (arith, n)) (omega arith) h))
 
-gather-split : {A : Type 0} (m n k : ℕ) (f : ℕ → List A) → gather (m + n) k f ≡ gather m k f ++ gather n (k + m) f
+pub gather-split : {A : Type 0} (m n k : ℕ) (f : ℕ → List A) → gather (m + n) k f ≡ gather m k f ++ gather n (k + m) f
 unfolding gather
 gather-split zero n k f = rw (add-zero, zero-add)
 gather-split (suc m) n k f =
@@ -54,3 +56,13 @@ gather-high m n f l h =
     ap (λ (x : ℕ). gather x 1 f) e
     ∙ gather-split m (n - m) 1 f
     ∙ rw (gather-none m 1 f (λ j a b. h j a (omega arith)), q)
+
+-- what a list holds from place c on
+gather-rest : {A : Type 0} (n c : ℕ) (t : List A) (d : A) → length t ≡ c + n → gather n (suc c) (λ k. getD t (pred k) d ∷ []) ≡ drop c t
+unfolding gather
+gather-rest zero c t d e = sym (drop-of-length-le t {i = c} (omega arith))
+gather-rest (suc n) c t d e =
+    ap (λ (l : List _). getD t c d ∷ l) (gather-rest n (suc c) t d (omega arith)) ∙ sym (drop-cons t c d (omega arith))
+
+pub gather-list : {A : Type 0} (n : ℕ) (t : List A) (d : A) → length t ≡ n → gather n 1 (λ k. getD t (pred k) d ∷ []) ≡ t
+gather-list n t d e = gather-rest n 0 t d (omega arith)

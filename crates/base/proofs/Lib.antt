@@ -2,6 +2,7 @@ pub mod Tests
 pub mod Search
 pub mod Lists
 pub mod Counting
+pub mod Splits
 pub mod Loops
 pub mod Bits
 pub mod Peeling

@@ -15,12 +15,12 @@ use mathlib.Core.List.{
   concat-ne-nil,
   append-ne-nil-of-right-ne-nil,
 }
-use Prim.Native.Nat.{ℕ, zero, suc, _+_, _≤_, _<_}
+use Prim.Native.Nat.{ℕ, zero, suc, _+_, _*_, _≤_, _<_}
 use native.Mathlib.Nat.{add-zero, add-suc, suc-add}
 use native.Mathlib.Omega.{arith}
 use lib.ListN.{length, length-append}
 use Rattle.base.specs.Finite.{every, any, gather}
-use Rattle.base.proofs.Tests.{both, to-both}
+use Rattle.base.proofs.Tests.{both, to-both, eq-test}
 pub use Rattle.base.specs.Lists.{All, Any}
 
 pub All-append : {A : Type 0} (P : A → Type 0) (l r : List A) → All P l → All P r → All P (l ++ r)
@@ -103,10 +103,26 @@ gather-last zero k f = rw add-zero (append-nil (f k))
 gather-last (suc m) k f =
     rw (add-suc k m, ← suc-add k m, append-assoc (f k) (gather m (suc k) f) (f (suc k + m))) (ap (λ (l : List _). f k ++ l) (gather-last m (suc k) f))
 
-pub gather-length : {A : Type 0} (m k : ℕ) (f : ℕ → List A) → ((j : ℕ) → length (f j) ≤ 1) → length (gather m k f) ≤ m
+-- ---- how much is gathered
+
+pub gather-length : {A : Type 0} (c m k : ℕ) (f : ℕ → List A) → ((j : ℕ) → k ≤ j → j < k + m → length (f j) ≤ c)
+    → length (gather m k f) ≤ m * c
 unfolding gather
-gather-length zero k f h = omega arith
-gather-length (suc m) k f h = rw length-append (omega (arith, h k, gather-length m (suc k) f h))
+gather-length c zero k f h = omega arith
+gather-length c (suc m) k f h =
+    rw length-append
+    (omega (arith, h k (omega arith) (omega arith), gather-length c m (suc k) f (λ j l u. h j (omega arith) (omega arith))))
+
+-- where one of the numbers has nothing
+pub gather-but-one : {A : Type 0} (m k i : ℕ) (f : ℕ → List A) → ((j : ℕ) → length (f j) ≤ 1) → k ≤ i → i < k + m → f i ≡ []
+    → length (gather m k f) < m
+unfolding gather
+gather-but-one zero k i f h l u e = absurd (omega arith)
+gather-but-one (suc m) k i f h l u e =
+    rw length-append
+    (eq-test k i
+    (λ q. let z : f k ≡ [] = rw q e in rw z (omega (arith, gather-length 1 m (suc k) f (λ j a b. h j))))
+    (λ n. omega (arith, h k, gather-but-one m (suc k) i f h (omega (arith, n)) (omega arith) e)))
 
 -- ---- the last element
 

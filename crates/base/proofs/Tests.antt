@@ -1,12 +1,12 @@
 -- Cases on a test or an option, and what tests say.
-use mathlib.Core.Path.{_≡_, refl, sym}
+use mathlib.Core.Path.{_≡_, refl, sym, _∙_}
 use mathlib.Core.Logic.{_≢_, _⊎_, inl, inr}
 use mathlib.Core.Bool.{Bool, true, false, not, _&&_, _||_, and-eq-true-iff, false≢true}
 use mathlib.Core.Option.{Option, none, some}
-use Prim.Native.Nat.{ℕ, _≤_}
+use Prim.Native.Nat.{ℕ, _≤_, _<_}
 use native.Mathlib.Omega.{arith}
 use lib.Dec.{eqb, ltb, leb}
-use borrow.Author.Tests.{ltb-true, leb-true, lt-ltb, le-leb, eqb-true, eqb-false}
+use borrow.Author.Tests.{ltb-true, leb-true, leb-false, lt-ltb, le-leb, eqb-true, eqb-false}
 use Rattle.base.specs.Finite.{within, isSome}
 
 pub test {ℓ} : {C : Type ℓ} (b : Bool) → (b ≡ true → C) → (b ≡ false → C) → C
@@ -77,3 +77,6 @@ to-within m k l h = rw (lt-ltb 0 k l, le-leb k m h)
 
 pub not-within : (m k : ℕ) → (1 ≤ k → k ≤ m → ⊥) → within m k ≡ false
 not-within m k h = test (within m k) (λ e. let b = within-true m k e in absurd (h (b .0) (b .1))) (λ e. e)
+
+pub above-within : (m k : ℕ) → within m k ≡ false → 1 ≤ k → m < k
+above-within m k e l = test (leb k m) (λ u. absurd (false≢true (sym e ∙ to-within m k l (leb-true k m u)))) (λ u. leb-false k m u)

@@ -1,3 +1,4 @@
 pub mod Finite
 pub mod Bits
 pub mod Lists
+pub mod Lent

@@ -1,27 +1,19 @@
 -- What the network's record means. A primed name is the definitions'.
 use Prim.Native.Nat.{ℕ, zero, suc, pred, _+_, _*_, _%_}
-use mathlib.Core.Bool.{Bool, true, false, not, _&&_}
+use mathlib.Core.Bool.{true, false}
 use mathlib.Core.List.{List, [], _∷_, map}
 use lib.ListN.{getD}
-use lib.Dec.{eqb, ltb}
-use Rattle.base.specs.Finite.{fromOne, within}
-use Rattle.problem.specs.Problem.{Problem, maxAgents}
+use Rattle.base.specs.Finite.{fromOne}
+use Rattle.problem.specs.Problem.{Problem}
 use Rattle.agent_rules.specs.Message.{Message as Message′}
 use Rattle.agent_rules.specs.Agent.{Agent as Agent′, unusedAgent}
+unfoldable pub use Rattle.protocol.specs.Lines.{isChannel, channelAt}
 use Rattle.protocol.specs.Network.{Network as Network′}
 use Rattle.packed.specs.Packed.{assignment}
 use Rattle.agent.specs.declared.Message.the-variants.{AddLink}
 use Rattle.agent.specs.Abstract.{messageOf, agentOf}
 use Rattle.network.specs.declared.Place.{Place}
 use Rattle.network.specs.declared.Network.{Network}
-
--- there is a line from i to j
-unfoldable pub isChannel : ℕ → ℕ → Bool
-isChannel i j = within maxAgents i && within maxAgents j && not (eqb i j)
-
--- its number, from 0: by sender, then receiver
-unfoldable pub channelAt : ℕ → ℕ → ℕ
-channelAt i j = 11 * pred i + elim (ltb j i) [ true ↦ pred j | false ↦ pred (pred j) ]
 
 unfoldable pub placeOf : Place → Message′
 placeOf p = messageOf (p .message)

@@ -7,5 +7,6 @@ pub mod Checks
 pub mod Rows
 pub mod Sheet
 pub mod Writing
+pub mod Same
 pub mod Longest
 mod Cases

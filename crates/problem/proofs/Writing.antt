@@ -24,7 +24,7 @@ use Rattle.problem.proofs.Checks.{walked}
 two-bytes : (k : ℕ) → k % 256 + 256 * (k / 256) ≡ k
 two-bytes k = omega arith
 
-chained-length : (r : ℕ) (rows : List Row) → length (chained r rows) ≡ 8 * length rows
+pub chained-length : (r : ℕ) (rows : List Row) → length (chained r rows) ≡ 8 * length rows
 unfolding chained rowBytes twoBytes
 chained-length r [] = refl
 chained-length r (row ∷ rows) = omega (arith, chained-length (suc r) rows)
@@ -67,7 +67,7 @@ module _ (e : ℕ) (p : Problem) (rows : List Row) (long : length (p .domains) �
   unfolding wordFrom
   reads-zeros = (rw (zero-bytes 0, zero-bytes 1), rw (zero-bytes 2, zero-bytes 3))
 
-  writes-length : length (written e p rows) ≡ headerLength + recordLength * length rows
+  pub writes-length : length (written e p rows) ≡ headerLength + recordLength * length rows
   unfolding maxAgents headerLength recordLength written headerBytes twoBytes
   writes-length =
       omega (

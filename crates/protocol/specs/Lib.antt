@@ -1,3 +1,4 @@
+pub mod Lines
 pub mod Network
 pub mod Shape
 pub mod Delivery

@@ -1,0 +1,1 @@
+// The dispatcher as rules, and what is claimed of it; no code.

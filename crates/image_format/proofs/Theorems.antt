@@ -1,0 +1,60 @@
+-- The claims about one image: it reads back, it is the image of one network, and nothing else is read.
+-- All from the law that parsing an image gives the network back: the reader parses, tests the shape, writes again and compares.
+use Prim.Native.Nat.{ℕ}
+use mathlib.Core.Path.{_≡_, sym, ap, _∙_}
+use mathlib.Core.Bool.{true}
+use mathlib.Core.List.{List}
+use native.Mathlib.Omega.{arith}
+use Rattle.base.proofs.Tests.{test, both, to-both}
+use Rattle.protocol.specs.Network.{Network, emptyNetwork}
+use Rattle.protocol.specs.Shape.{inShape}
+use Rattle.image_format.specs.Bytes.{sameBytes}
+use Rattle.image_format.specs.Image.{image}
+use Rattle.image_format.specs.Reading.{parse, badImage, isImage, load}
+use Rattle.image_format.specs.Plain.{Plain}
+use Rattle.image_format.specs.Claims.{ReadsBack, OneRail, ReadsOnlyImages}
+use Rattle.image_format.proofs.Bytes.{same-itself, same-true}
+use Rattle.image_format.proofs.Parsing.{parts}
+use Rattle.image_format.proofs.Plainness.{parse-plain}
+pub use Rattle.image_format.proofs.Lengths.{image-length}
+pub use Rattle.image_format.proofs.Parsing.{parse-image}
+
+is-image : (w : Network) → Plain w → inShape w ≡ true → isImage (image w) ≡ true
+unfolding isImage
+is-image w plain e = rw (parse-image w plain e) (to-both (inShape w) _ e (same-itself (image w)))
+
+pub reads-back : ReadsBack
+unfolding load
+reads-back w plain e =
+    rw (is-image w plain e, load) (ap (λ (v : Network). record { number = 0; network = v }) (parse-image w plain e))
+
+pub one-rail : OneRail
+one-rail w v plain plain′ e e′ same = sym (parse-image w plain e) ∙ ap parse same ∙ parse-image v plain′ e′
+
+-- ---- bytes that are read
+
+module _ (s : List ℕ) where
+  -- what an accepted image gives
+  given : isImage s ≡ true → (image (parse s) ≡ s) × (inShape (parse s) ≡ true) × Plain (parse s)
+  unfolding isImage
+  given e =
+      let b = both (inShape (parse s)) (sameBytes (image (parse s)) s) e in
+      let same = same-true (image (parse s)) s (b .1) in
+      (same, b .0, parse-plain s same (parts (parse s) (b .0)))
+
+  accepted : load s .number ≡ 0 → (image (load s .network) ≡ s) × (inShape (load s .network) ≡ true) × Plain (load s .network)
+  unfolding load badImage
+  accepted z =
+      test (isImage s)
+      (λ e. rw (e, load) (given e))
+      (λ e. absurd (let w : _≡_ {A = ℕ} 13 0 = rw (e, load) at z in omega arith))
+
+  otherwise : ((w : Network) → Plain w → inShape w ≡ true → image w ≡ s → ⊥) → load s ≡ record { number = badImage; network = emptyNetwork }
+  unfolding load
+  otherwise none =
+      test (isImage s)
+      (λ e. let g = given e in absurd (none (parse s) (g .2) (g .1) (g .0)))
+      (λ e. rw (e, load))
+
+pub reads-only-images : ReadsOnlyImages
+reads-only-images s = record { taken = accepted s; refused = otherwise s }

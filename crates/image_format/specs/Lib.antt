@@ -1,0 +1,7 @@
+pub mod Bytes
+pub mod Image
+pub mod Reading
+pub mod Writing
+pub mod Plain
+pub mod Claims
+pub mod Cases

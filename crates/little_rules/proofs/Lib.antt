@@ -1,0 +1,10 @@
+pub mod Cases
+pub mod Unlike
+pub mod Subsets
+pub mod Sizes
+pub mod Places
+pub mod Choices
+pub mod Rows
+pub mod Problems
+pub mod Choosing
+pub mod Theorems

@@ -1,0 +1,4 @@
+pub mod Little
+pub mod Putting
+pub mod Claims
+pub mod Cases

@@ -1,0 +1,1 @@
+// Definitions and theorems of the little sheets; no code.

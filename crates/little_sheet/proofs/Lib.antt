@@ -1,0 +1,4 @@
+pub mod Counts
+pub mod Pairs
+pub mod Records
+pub mod Sheets

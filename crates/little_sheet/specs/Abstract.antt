@@ -1,0 +1,29 @@
+-- What the code's values mean. A primed name is the definitions'.
+use Prim.Native.Nat.{ℕ}
+use mathlib.Core.Path.{_≡_}
+use mathlib.Core.List.{List}
+use lib.ListN.{length, getD}
+use Rattle.problem.specs.Row.{Row as Row′}
+use Rattle.little_rules.specs.Little.{Choice as Choice′}
+use Rattle.base.specs.Lent.{Written as Written′}
+use Rattle.little_sheet.specs.declared.Written.{Written}
+use Rattle.little_sheet.specs.declared.choice.Counts.{Counts}
+use Rattle.little_sheet.specs.declared.choice.Choice.{Choice}
+use Rattle.little_sheet.specs.declared.rows.Row.{Row}
+
+unfoldable pub writtenOf : Written → List ℕ → Written′
+writtenOf w buffer = record { number = w .number; length = w .length; buffer = buffer }
+
+unfoldable pub rowOf : Row → Row′
+rowOf r = record { lower = r .lower; higher = r .higher; low = r .low; high = r .high }
+
+-- these slot counts
+pub record Holds (c : Counts) (ds : List ℕ) : Type 0 where
+  pub agents : c .agents ≡ length ds
+  pub first : c .first ≡ getD ds 0 0
+  pub second : c .second ≡ getD ds 1 0
+  pub third : c .third ≡ getD ds 2 0
+
+pub record Means (c : Choice) (d : Choice′) : Type 0 where
+  pub counts : Holds (c .counts) (d .counts)
+  pub bans : c .bans ≡ d .bans

@@ -1,0 +1,46 @@
+// The little sheets: one, by its ordinal, into a lent buffer.
+ghost use mathlib.Core.Path.{_≡_};
+ghost use Rattle.little_rules.specs.Putting.{putLittle};
+ghost use Rattle.little_sheet.specs.Abstract.{writtenOf};
+
+mod choice;
+mod rows;
+mod writing;
+
+use choice::chosen;
+use writing::put_header;
+use writing::put_records;
+
+// The answer: number 0 and the length written, or a refusal's number and 0.
+pub struct Written {
+    pub number: u8,
+    pub length: usize,
+}
+
+pub fn little(ordinal: u64, out: &mut [u8]) -> Written
+    ensures { λ r. ⌜ writtenOf r (now (out .exit)) ≡ putLittle ordinal (now (out .entry)) ⌝ }
+{
+    if 4995 < ordinal {
+        return Written {
+            number: 14,
+            length: 0,
+        };
+    }
+    let c = chosen(ordinal);
+    let counts = c.counts;
+    let bans = c.bans;
+    let records = u64::count_ones(bans) as usize;
+    let length = 24 + 8 * records;
+    if out.len() < length {
+        return Written {
+            number: 12,
+            length: 0,
+        };
+    }
+    put_header(out, counts, records);
+    put_records(out, counts, bans, records);
+    Written {
+        number: 0,
+        length: length,
+    }
+}
