@@ -76,8 +76,5 @@ pub fn next_banned(c: Counts, k: u8, left: u64) -> Cursor
         }
         place += 1;
     }
-    Cursor {
-        place: 0,
-        left: 0,
-    }
+    Cursor { place: 0, left: 0 }
 }

@@ -32,7 +32,30 @@ pub fn put_header(out: &mut [u8], c: Counts, records: usize)
     let first = if 0 < records { 1 } else { 0 };
     let m = records as u8;
     let bytes = [
-        c.agents, 1, first, 0, m, 0, 0, 0, c.first, c.second, c.third, 0, 0, 0, 0, 0, 0, 0, 0, 0, 0, 0, 0, 0,
+        c.agents,
+        1,
+        first,
+        0,
+        m,
+        0,
+        0,
+        0,
+        c.first,
+        c.second,
+        c.third,
+        0,
+        0,
+        0,
+        0,
+        0,
+        0,
+        0,
+        0,
+        0,
+        0,
+        0,
+        0,
+        0,
     ];
     put(out, 0, &bytes);
 }

@@ -52,7 +52,7 @@ loop-again c =
       omega (arith, n .ensures .inside),
       search needs,
       rw (add-one (l .r), add-one (n .result .place))
-      (going-on _ _ _ _ _ _ _ _ (l .inv .3) (n .result) _ (omega arith) (n .ensures) (c .before .before .put-record .ensures)),
+          (going-on _ _ _ _ _ _ _ _ (l .inv .3) (n .result) _ (omega arith) (n .ensures) (c .before .before .put-record .ensures)),
     )
 
 same-length : tie.Need-same-length Inv-loop μ-loop
