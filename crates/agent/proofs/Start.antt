@@ -1,5 +1,5 @@
 -- The start: an agent that knows nothing takes the lowest value and tells those below.
-use Prim.Native.Nat.{ℕ, zero, suc, pred, _-_, _≤_}
+use Prim.Native.Nat.{ℕ, zero, suc, pred, _≤_}
 use mathlib.Core.Path.{_≡_, refl, ap, ap₂, _∙_, fun-ext}
 use mathlib.Core.Bool.{Bool, _&&_}
 use mathlib.Core.Option.{none, some}

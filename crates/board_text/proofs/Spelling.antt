@@ -1,7 +1,7 @@
 -- A word against `--rule` and against two dashes. Words are compared letter by letter, so they compare alike exactly where they are the same list.
 use mathlib.Core.Path.{_≡_, refl, ap₂}
 use mathlib.Core.Logic.{_≢_}
-use mathlib.Core.Bool.{true, false, _&&_, and-eq-true-iff, false≢true}
+use mathlib.Core.Bool.{true, false, and-eq-true-iff, false≢true}
 use mathlib.Core.List.{List, [], _∷_}
 use Prim.Native.Nat.{ℕ, _<_}
 use native.Mathlib.Omega.{arith}

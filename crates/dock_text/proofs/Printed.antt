@@ -1,10 +1,8 @@
 -- Text that stands in a buffer from its first byte on is what is printed; and it is that of the whole input.
 use mathlib.Core.Path.{_≡_, sym, ap, subst, _∙_}
-use mathlib.Core.Bool.{true, false}
-use mathlib.Core.List.{List, []}
-use Prim.Native.Nat.{ℕ, _+_, _≤_, min}
+use mathlib.Core.List.{List}
+use Prim.Native.Nat.{ℕ, _≤_, min}
 use native.Mathlib.Omega.{arith}
-use lib.Dec.{eqb}
 use lib.ListN.{length, take, length-take}
 use borrow.Author.Tests.{eq-eqb, ne-eqb}
 use Rattle.io.specs.Counts.{Counts}
@@ -14,7 +12,7 @@ use Rattle.run.specs.Answers.{endingOf}
 use Rattle.words.specs.Text.{lineOf, Appends}
 use Rattle.dock_text.specs.declared.Settlement.{Settlement}
 use Rattle.dock_text.specs.Settling.{programRule, Settles, settled}
-use Rattle.dock_text.specs.Text.{sheetRefused, ranText, answerText, settledText, dockText, Prints}
+use Rattle.dock_text.specs.Text.{sheetRefused, answerText, settledText, dockText, Prints}
 use Rattle.dock_text.proofs.Cut.{text-cut}
 use Rattle.dock_text.proofs.Refused.{plan-counted}
 use Rattle.dock_text.proofs.Lines.{count-is}

@@ -1,6 +1,5 @@
 -- A refused sheet starts the empty rail, which is out of shape: a run on it is refused.
 use mathlib.Core.Path.{_≡_, refl, ap, _∙_}
-use mathlib.Core.Bool.{true, false}
 use mathlib.Core.List.{List}
 use Prim.Native.Nat.{ℕ, _≤_}
 use native.Mathlib.Omega.{arith}
@@ -10,8 +9,8 @@ use Rattle.problem.specs.Problem.{maxAgents, maxPairs, noBans, emptyProblem, si
 use Rattle.problem.specs.Sheet.{Decoded, Valid, Invalid, decode}
 use Rattle.protocol.specs.Network.{Network, emptyNetwork, isRule, startedOn, startSheet}
 use Rattle.protocol.specs.Shape.{inShape}
-use Rattle.protocol.specs.Delivery.{BadShape, rejectionNumber}
-use Rattle.protocol.specs.Run.{Ending, Plan, Broken, endingNumber, run}
+use Rattle.protocol.specs.Delivery.{rejectionNumber}
+use Rattle.protocol.specs.Run.{Plan, Broken, endingNumber, run}
 use Rattle.dock_text.specs.Settling.{programRule}
 use Rattle.shape_laws.proofs.ShapeClauses.{shaped}
 use Rattle.shape_laws.proofs.Shape.{run-keeps}

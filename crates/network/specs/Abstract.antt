@@ -1,5 +1,5 @@
 -- What the network's record means. A primed name is the definitions'.
-use Prim.Native.Nat.{ℕ, zero, suc, pred, _+_, _*_, _%_}
+use Prim.Native.Nat.{ℕ, zero, suc, _+_, _*_, _%_}
 use mathlib.Core.Bool.{true, false}
 use mathlib.Core.List.{List, [], _∷_, map}
 use lib.ListN.{getD}

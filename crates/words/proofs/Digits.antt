@@ -1,6 +1,5 @@
 -- The fewest digits that hold a number, written out, are its decimal: by induction on how many there are.
 use mathlib.Core.Path.{_≡_, sym, ap, _∙_}
-use mathlib.Core.Bool.{true, false}
 use mathlib.Core.List.{List, [], _∷_, _++_}
 use Prim.Native.Nat.{ℕ, zero, suc, _+_, _-_, _*_, _/_, _%_, _^_, _≤_, _<_}
 use native.Mathlib.Nat.{pow-suc, div-lt-iff-lt-mul, le-div-iff-mul-le, mod-eq-of-lt, mod-lt, one-le-pow, pow-le-pow-right}

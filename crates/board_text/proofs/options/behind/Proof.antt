@@ -1,5 +1,5 @@
 -- An option is not understood, any other word is the file. Assumes nothing.
-use mathlib.Core.Path.{_≡_, refl, sym, _∙_}
+use mathlib.Core.Path.{refl, sym, _∙_}
 use Rattle.board_text.specs.Options.{stageBehind}
 use borrow.Author.Needs.{needs}
 use Rattle.board_text.proofs.options.behind.Statement.{statement}
