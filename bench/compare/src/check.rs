@@ -1,4 +1,5 @@
-//! Both sides give the same answers: through the entries, under both rules, and as the programs print.
+//! Both sides give the same answers: through the entries, under both rules, on images, and as the
+//! programs print.
 
 use std::io::Write;
 use std::path::Path;
@@ -7,6 +8,7 @@ use std::process::{Command, Stdio};
 use plain::random::Random;
 use plain::{Rule, PROGRAM_ROUNDS};
 
+use crate::images::{damaged, image, network, play};
 use crate::sheets;
 use crate::sides::{Plain, Proved, Side};
 
@@ -54,6 +56,29 @@ pub fn entries(measured: &[(String, Vec<u8>)]) -> Result<usize, String> {
     Ok(compared.count)
 }
 
+/// Images of the measured sheets' networks after some rounds and deliveries, and of random ones;
+/// and bytes close to these. Gives the number of answers compared, or what differs.
+pub fn images(measured: &[(String, Vec<u8>)]) -> Result<usize, String> {
+    let mut compared = Compared { proved: Proved, plain: Plain::new(), count: 0 };
+    let mut random = Random::new(12);
+    for (name, sheet) in measured {
+        for (rule, rounds) in Rule::BOTH.into_iter().flat_map(|rule| [0, 1, 10, 1_000].map(|k| (rule, k))) {
+            let mut network = network(rule, sheet, rounds);
+            for _ in 0..10 {
+                compared.on_image(&format!("{name}, {rounds} rounds"), &image(&network), &mut random)?;
+                play(&mut network, 200, &mut random);
+            }
+        }
+    }
+    let sheets = [sheets::random(1_000, 5, 4, 0, 40, 23), sheets::random(500, 12, 8, 0, 40, 24)].concat();
+    for (number, sheet) in sheets.iter().enumerate() {
+        let mut network = network(Rule::BOTH[number % 2], sheet, random.below(20) as u64);
+        play(&mut network, 60, &mut random);
+        compared.on_image(&format!("random sheet {number}"), &image(&network), &mut random)?;
+    }
+    Ok(compared.count)
+}
+
 struct Compared {
     proved: Proved,
     plain: Plain,
@@ -69,6 +94,37 @@ impl Compared {
             self.same(name, |side| side.counts(rule, sheet, 1_000, agent))?;
         }
         Ok(())
+    }
+
+    /// An image is read, and written back the same; so are bytes close to it, if they are one.
+    fn on_image(&mut self, name: &str, image: &[u8], random: &mut Random) -> Result<(), String> {
+        self.same(name, |side| side.read(image))?;
+        if self.written(name, image, image.len())? != image {
+            return Err(format!("{name}: the image is written back as another"));
+        }
+        for room in [0, random.below(image.len()), image.len() - 1, image.len() + 100] {
+            self.written(name, image, room)?;
+        }
+        for _ in 0..8 {
+            let bytes = damaged(image, random);
+            self.same(name, |side| side.read(&bytes))?;
+            self.written(name, &bytes, bytes.len() + 40)?;
+        }
+        Ok(())
+    }
+
+    /// Both leave the same buffer, of so many bytes.
+    fn written(&mut self, name: &str, image: &[u8], room: usize) -> Result<Vec<u8>, String> {
+        let (mut one, mut other) = (vec![0xa5; room], vec![0xa5; room]);
+        for times in 0..3 {
+            let proved = self.proved.write(image, times, &mut one);
+            let plain = self.plain.write(image, times, &mut other);
+            self.count += 1;
+            if proved != plain || one != other {
+                return Err(format!("{name}: written differently, {proved} and {plain}, {room} bytes lent"));
+            }
+        }
+        Ok(one)
     }
 
     fn same(&mut self, name: &str, ask: impl Fn(&mut dyn Side) -> u64) -> Result<(), String> {

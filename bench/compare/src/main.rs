@@ -3,6 +3,7 @@
 //! are timed, alternately, and the medians printed.
 
 mod check;
+mod images;
 mod sheets;
 mod sides;
 mod timing;
@@ -12,7 +13,7 @@ use std::hint::black_box;
 use std::path::{Path, PathBuf};
 use std::process::{Command, Stdio};
 
-use plain::{Rule, PROGRAM_ROUNDS};
+use plain::{Rule, MAX_IMAGE, PROGRAM_ROUNDS};
 
 use crate::sides::{Plain, Proved, Side};
 use crate::timing::{alternately, Clock, Times};
@@ -29,6 +30,7 @@ fn main() -> Result<(), String> {
     let measured: Vec<_> = deep.iter().chain(&open).chain([&longest, &gaps]).cloned().collect();
 
     println!("same answers: {} of the libraries' entries", check::entries(&measured)?);
+    println!("same answers: {} on images", check::images(&measured)?);
     println!("same output: {} sheets, by the programs", check::programs(proved, plain, &measured)?);
 
     let long = &open[open.len() - 1].1;
@@ -50,6 +52,8 @@ fn main() -> Result<(), String> {
     );
     delivery_row("a delivery by the public entry, 12 scanners", long);
     delivery_row("a delivery by the public entry, 6 scanners", deepest);
+    image_rows("12 scanners", long, 50_000);
+    image_rows("6 scanners", deepest, 36_900);
     program_row("the program on the long run's sheet", plain, proved, long)?;
 
     println!("\ngrowth with n, 100,000 rounds of eight slots each");
@@ -104,6 +108,19 @@ fn bulk_row(what: &str, rule: Rule, sheets: &[Vec<u8>]) {
 fn delivery_row(what: &str, sheet: &[u8]) {
     let calls = sheets::calls(Rule::Loud, sheet, 4_000);
     row(what, both(|side| side.deliver(Rule::Loud.number(), sheet, &calls)), calls.len() / 2);
+}
+
+/// The image after so many rounds, written over and over into the same buffer, and read.
+fn image_rows(what: &str, sheet: &[u8], rounds: u64) {
+    const TIMES: u64 = 1_000;
+    let image = images::image(&images::network(Rule::Loud, sheet, rounds));
+    let what = format!("an image, {what}, {} bytes", image.len());
+    let write = |side: &mut dyn Side| {
+        let mut buffer = [0; MAX_IMAGE];
+        side.write(&image, TIMES, black_box(&mut buffer))
+    };
+    row(&format!("writing {what}"), both(write), TIMES as usize);
+    row(&format!("reading {what}"), both(|side| side.read(&image)), 1);
 }
 
 fn program_row(what: &str, plain: &Path, proved: &Path, sheet: &[u8]) -> Result<(), String> {

@@ -1,7 +1,7 @@
-//! The two sides, each with the same five entries: the proved libraries behind `bench_entry`, and
+//! The two sides, each with the same seven entries: the proved libraries behind `bench_entry`, and
 //! the plain one.
 
-use plain::{Network, Problem, Rejection, Rule, Word};
+use plain::{Agent, Network, Problem, Rejection, Rule, Word, MAX_AGENTS};
 
 /// One side. What each entry gives is said at `crates/bench_entry/specs/Giving.antt`. A rule is its
 /// number, and may be a wrong one.
@@ -17,6 +17,10 @@ pub trait Side {
     /// Decoding, the start and a run: one agent's counts after it, in one number. Agents are
     /// counted from 0.
     fn counts(&mut self, rule: u8, sheet: &[u8], rounds: u64, agent: usize) -> u64;
+    /// Reading an image.
+    fn read(&mut self, image: &[u8]) -> u64;
+    /// Reading an image once, and writing what it gives so many times into the same buffer.
+    fn write(&mut self, image: &[u8], times: u64, buffer: &mut [u8]) -> u64;
 }
 
 mod entry {
@@ -38,6 +42,14 @@ mod entry {
             length: usize,
             rounds: u64,
             agent: usize,
+        ) -> u64;
+        pub fn bench_entry_read(image: *const u8, length: usize) -> u64;
+        pub fn bench_entry_write(
+            image: *const u8,
+            length: usize,
+            times: u64,
+            buffer: *mut u8,
+            room: usize,
         ) -> u64;
     }
 }
@@ -65,6 +77,15 @@ impl Side for Proved {
 
     fn counts(&mut self, rule: u8, sheet: &[u8], rounds: u64, agent: usize) -> u64 {
         unsafe { entry::bench_entry_counts(rule, sheet.as_ptr(), sheet.len(), rounds, agent) }
+    }
+
+    fn read(&mut self, image: &[u8]) -> u64 {
+        unsafe { entry::bench_entry_read(image.as_ptr(), image.len()) }
+    }
+
+    fn write(&mut self, image: &[u8], times: u64, buffer: &mut [u8]) -> u64 {
+        let (start, room) = (buffer.as_mut_ptr(), buffer.len());
+        unsafe { entry::bench_entry_write(image.as_ptr(), image.len(), times, start, room) }
     }
 }
 
@@ -141,7 +162,7 @@ impl Side for Plain {
             }
         };
         let mut sum = u64::from(refused);
-        let mut add = |number: u8| sum = (sum & 0xffff_ffff) * 31 + u64::from(number);
+        let mut add = |number: u8| sum = mixed(sum, u64::from(number));
         for call in calls.chunks_exact(2) {
             add(self.network.deliver(call[0], call[1]).map_or_else(|rejection| rejection.number(), |()| 0));
         }
@@ -160,11 +181,56 @@ impl Side for Plain {
         let Some(agent) = self.network.agents().nth(agent) else {
             return 0;
         };
-        let (sent, received) = agent.counts();
-        [sent.infos, received.infos, sent.backs, received.backs, sent.links, received.links]
-            .iter()
-            .fold(0, |sum, count| (sum & 0xffff_ffff) * 31 + (count & 0xffff_ffff))
+        counts_mixed(agent)
     }
+
+    #[inline(never)]
+    fn read(&mut self, image: &[u8]) -> u64 {
+        let number = match self.network.read_image_over(image) {
+            Ok(()) => 0,
+            Err(rejection) => rejection.number(),
+        };
+        let rule = self.network.rule().map_or(0, Rule::number);
+        let verdict = u64::from(self.network.verdict());
+        let mut sum = (self.network.n() as u64 * 31 + u64::from(rule)) * 31 + verdict;
+        for agent in self.network.agents() {
+            sum = mixed(sum, counts_mixed(agent) & 0xffff_ffff);
+            sum = mixed(sum, u64::from(agent.value().unwrap_or(0)));
+            sum = mixed(sum, u64::from(agent.last()));
+        }
+        // Beyond n all is zero.
+        for _ in self.network.n()..MAX_AGENTS {
+            sum = mixed(mixed(mixed(sum, 0), 0), 0);
+        }
+        (sum & 0xffff_ffff) << 4 | u64::from(number)
+    }
+
+    #[inline(never)]
+    fn write(&mut self, image: &[u8], times: u64, buffer: &mut [u8]) -> u64 {
+        // What is no image gives the empty network.
+        let _ = self.network.read_image_over(image);
+        let mut answer = 0;
+        for _ in 0..times {
+            answer = match self.network.write_image(buffer) {
+                Ok(length) => length as u64,
+                Err(rejection) => u64::from(rejection.number()),
+            };
+        }
+        answer
+    }
+}
+
+/// A number mixed into a sum.
+fn mixed(sum: u64, number: u64) -> u64 {
+    (sum & 0xffff_ffff) * 31 + number
+}
+
+/// An agent's six counts in one number.
+fn counts_mixed(agent: &Agent) -> u64 {
+    let (sent, received) = agent.counts();
+    [sent.infos, received.infos, sent.backs, received.backs, sent.links, received.links]
+        .iter()
+        .fold(0, |sum, count| mixed(sum, count & 0xffff_ffff))
 }
 
 /// The two agents of a word of the ban table, counted from 0.

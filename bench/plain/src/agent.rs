@@ -88,6 +88,11 @@ impl Agent {
         (self.value != 0).then_some(self.value)
     }
 
+    /// The last value that it took, 0 for none yet.
+    pub fn last(&self) -> u8 {
+        self.last
+    }
+
     /// The messages that it sent, and those that it received.
     pub fn counts(&self) -> (Counts, Counts) {
         (self.sent, self.received)

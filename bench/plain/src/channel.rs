@@ -82,6 +82,12 @@ impl Channels {
         (self.counts >> shift(to)) as usize & 15
     }
 
+    /// How many messages wait in all: the digits of each byte together, then the bytes.
+    pub fn len(&self) -> u64 {
+        const LOW: u64 = 0x0f0f_0f0f_0f0f_0f0f;
+        ((self.counts & LOW) + (self.counts >> 4 & LOW)).wrapping_mul(0x0101_0101_0101_0101) >> 56
+    }
+
     /// The first message to a receiver. Only where one waits.
     #[inline(always)]
     pub fn head(&self, to: usize) -> Packed {
@@ -173,5 +179,9 @@ mod tests {
         assert!(channels.send_one::<true>(11, Message::AddLink).is_err());
         assert!(channels.send::<true>(AgentSet(ONES), Message::AddLink).is_err());
         assert_eq!((channels.waiting(11), channels.waiting(5), channels.waiting(10)), (8, 0, 0));
+        for receiver in 0..11 {
+            assert_eq!(channels.len(), 8 * (receiver as u64 + 1));
+            (0..8).for_each(|_| assert!(channels.send_one::<true>(receiver, Message::AddLink).is_ok()));
+        }
     }
 }

@@ -3,12 +3,13 @@
 //!
 //! The field's terms stand for the dock's words: agent (scanner), value (slot), domain (slot
 //! count), network (rail), channel (line), Info (news), Back (refusal), AddLink (link request),
-//! nogood (stored reason), lhs (left side), rejection (the numbers 1 to 11, of which 9
+//! nogood (stored reason), lhs (left side), rejection (the numbers 1 to 13, of which 9
 //! is given to nothing).
 
 mod agent;
 mod assignment;
 mod channel;
+mod image;
 mod network;
 mod problem;
 pub mod random;
@@ -19,6 +20,7 @@ pub mod sheet;
 pub use agent::{Agent, Counts};
 pub use assignment::{AgentSet, Assignment, MAX_AGENTS, MAX_DOMAIN};
 pub use channel::{Message, CAPACITY};
+pub use image::MAX_IMAGE;
 pub use network::{Network, Run, Word};
 pub use problem::{Problem, HEADER, MAX_RECORDS, MAX_SHEET, RECORD};
 pub use rule::Rule;
@@ -50,6 +52,10 @@ pub enum Rejection {
     Room = 10,
     /// A rule other than 1 or 2.
     Rule = 11,
+    /// The buffer is shorter than the image.
+    Buffer = 12,
+    /// Not the image of a network in shape, or bytes follow it.
+    Image = 13,
 }
 
 impl Rejection {

@@ -163,6 +163,11 @@ impl Network {
         self.n
     }
 
+    /// The rule; the empty network alone has none.
+    pub fn rule(&self) -> Option<Rule> {
+        self.rule
+    }
+
     /// The number of values (slots) of an agent, counted from 0.
     pub(crate) fn domain(&self, agent: usize) -> u8 {
         self.domains.get(agent)

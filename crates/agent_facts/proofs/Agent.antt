@@ -1,5 +1,5 @@
--- The agent facts, proved of the rules: links, shape, accuracy and the first step stand in files of their own, and so do Info and Back; a link
--- request chooses nothing.
+-- The agent facts, proved of the rules: links, shape, plainness, accuracy and the first step stand in files of their own, and so do Info and Back;
+-- a link request chooses nothing.
 use mathlib.Core.Path.{_≡_, refl, sym, subst}
 use mathlib.Core.Bool.{true, false, false≢true}
 use mathlib.Core.List.{[], _∷_}
@@ -15,7 +15,8 @@ use Rattle.agent_facts.proofs.Links.{react-links}
 use Rattle.agent_facts.proofs.Info.{info-facts, info-ends}
 use Rattle.agent_facts.proofs.Back.{back-facts, back-ends}
 use Rattle.agent_facts.proofs.Fits.{react-fits}
-use Rattle.agent_facts.proofs.Counted.{step-counted, links-counted, fits-counted, facts-counted, begun-counted}
+use Rattle.agent_facts.proofs.Plain.{react-plain}
+use Rattle.agent_facts.proofs.Counted.{step-counted, links-counted, fits-counted, plain-counted, facts-counted, begun-counted}
 use Rattle.agent_facts.proofs.Begin.{first-facts}
 
 add-link-facts : (S : Assignment → Type 0) (s : Self) (bans : Bans) (a : Agent) (from : ℕ) → Good S s bans a
@@ -71,6 +72,7 @@ agent-facts =
       links = λ s bans a from m. links-counted a _ _ (react-links s bans a from m);
       counts = λ s bans a from m. step-counted a (m ∷ []) (react s bans a from m);
       fits = λ owns s bans a from m high small f h. fits-counted a _ _ (react-fits owns s bans a from m high small f h);
+      plain = λ s bans a from m inside small own P M. plain-counted a _ _ (react-plain s bans a from inside small P m own M);
       runs = λ S s bans a from m problem heard G z. facts-counted a _ _ (react-facts S s bans a from m problem heard G z);
       ends = λ S s bans a from m problem heard G z. react-ends S s bans a from m problem heard G z;
       begins = λ s bans listens informs l d. begun-counted (fresh listens informs) _ _ (first-facts s bans listens informs l d);

@@ -13,6 +13,7 @@ use Rattle.agent_facts.specs.Facts.{
   Linking,
   Counted,
   StepFits,
+  PlainStep,
   Good,
   Sends,
   Quiet,
@@ -59,6 +60,17 @@ module _ (a : Agent) (got : List Message) (t : Step) where
         posts = F .posts;
         twice = F .twice;
         lasting = F .lasting;
+      }
+
+  -- ---- plainness
+
+  pub plain-counted : PlainStep t → PlainStep (counted a got t)
+  unfolding counted
+  plain-counted P =
+      let A = P .agent in
+      record {
+        agent = record { listens = A .listens; informs = A .informs; view = A .view; nogoods = A .nogoods; reasons = A .reasons };
+        sent = P .sent;
       }
 
   -- ---- accuracy

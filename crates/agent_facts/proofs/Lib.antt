@@ -9,6 +9,7 @@ mod Info
 mod Back
 mod ChoosingFits
 mod Fits
+mod Plain
 mod Begin
 mod Counted
 pub mod Agent

@@ -13,7 +13,8 @@ use Rattle.problem.specs.Problem.{maxAgents, maxDomain}
 use Rattle.agent_rules.specs.Message.{Assignment, known, Message, Info, Back, AddLink, sentTo}
 use Rattle.agent_rules.specs.Counts.{Sort, Counts, noCounts, number, messagesIn, raised}
 use Rattle.agent_rules.specs.Agent.{Self, Bans, Agent, Step}
-use Rattle.agent_rules.specs.Shape.{EachNamed, EachIn, RecordFits, MessageFits}
+use Rattle.agent_rules.specs.Shape.{maxNamed, EachNamed, EachIn, RecordFits, MessageFits}
+use Rattle.agent_rules.specs.Plain.{PlainAgent, PlainMessage}
 use Rattle.agent_rules.specs.Sorts.{IsInfo, IsBack, IsAddLink, Not, Refuses, OneLink, seen}
 
 -- ---- links: of every step, whatever the record and the message
@@ -82,6 +83,12 @@ pub record StepFits (owns : ℕ → ℕ → Bool) (s : Self) (a : Agent) (from :
   pub twice : (y : ℕ) → length (sentTo y (t .sent)) ≤ 2
   -- the last value taken is an owned one, and the one held if any is held
   pub lasting : (within (s .domain) (t .agent .last) ≡ true) × (known (t .agent .value) ≡ true → t .agent .last ≡ t .agent .value)
+
+-- ---- plainness: what is left and what is sent hold nothing outside their arrays
+
+pub record PlainStep (t : Step) : Type 0 where
+  pub agent : PlainAgent (t .agent)
+  pub sent : (y : ℕ) → All PlainMessage (sentTo y (t .sent))
 
 -- ---- assignments. `S` says which assignments count: at the network level, those that obey all bans.
 
@@ -231,6 +238,10 @@ pub record AgentFacts (receive : Self → Bans → Agent → ℕ → Message →
   pub fits : (owns : ℕ → ℕ → Bool) (s : Self) (bans : Bans) (a : Agent) (from : ℕ) (m : Message)
       → s .number ≤ maxAgents → s .domain ≤ maxDomain → RecordFits owns s a → MessageFits owns s a from m
       → StepFits owns s a from m (receive s bans a from m)
+  -- of a plain record that holds a value, and a plain message from an agent that a record can name
+  pub plain : (s : Self) (bans : Bans) (a : Agent) (from : ℕ) (m : Message)
+      → within maxNamed from ≡ true → s .domain ≤ maxDomain → within maxDomain (a .value) ≡ true → PlainAgent a → PlainMessage m
+      → PlainStep (receive s bans a from m)
   -- of a good record and an implied message: with no verdict, and with one
   pub runs : (S : Assignment → Type 0) (s : Self) (bans : Bans) (a : Agent) (from : ℕ) (m : Message)
       → Setting S s bans → Handed S s a from m → Good S s bans a

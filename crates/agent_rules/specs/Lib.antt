@@ -5,4 +5,5 @@ pub mod Agent
 pub mod Choosing
 pub mod Receiving
 pub mod Shape
+pub mod Plain
 pub mod Cases

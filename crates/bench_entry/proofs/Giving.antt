@@ -88,7 +88,7 @@ values-fit k w h =
     let p : 9 ^ k ≤ 9 ^ 12 = pow-le-pow-right (omega arith) {i = k} {j = 12} h in
     omega (arith, values-below k w, p)
 
-agent-at : (r : Network) (k : ℕ) (d : Agent) → k < length (r .agents) → agentOf (getD (r .agents) k d) ≡ networkOf r .agents (suc k)
+pub agent-at : (r : Network) (k : ℕ) (d : Agent) → k < length (r .agents) → agentOf (getD (r .agents) k d) ≡ networkOf r .agents (suc k)
 unfolding networkOf agentsOf fromOne
 agent-at r k d h = sym (getD-below (map agentOf (r .agents)) k unusedAgent (agentOf d) (simp length-map h) ∙ List·getD-map agentOf (r .agents) k d)
 

@@ -6,11 +6,16 @@ use mathlib.Core.List.{List}
 use lib.Dec.{eqb, ltb}
 use lib.ListN.{length, getD}
 use Rattle.problem.specs.Sheet.{faultNumber, Decoded, Valid, Invalid}
+use Rattle.base.specs.Lent.{Written, untouched}
 use Rattle.agent_rules.specs.Counts.{Sort, Infos, Backs, AddLinks, Counts}
+use Rattle.agent_rules.specs.Agent.{Agent}
 use Rattle.protocol.specs.Network.{Network, Started, startSheet}
 use Rattle.protocol.specs.Delivery.{answerNumber, Delivery, deliver, askValue}
 use Rattle.protocol.specs.Run.{Ending, None, Plan, Jammed, Open, Broken, Ran, run}
 use Rattle.packed.specs.Packed.{assignment}
+use Rattle.image_format.specs.Image.{byteFor}
+use Rattle.image_format.specs.Reading.{Loaded}
+use Rattle.image_format.specs.Writing.{store}
 use Rattle.network.specs.declared.Network.{Network as Rail}
 use Rattle.network.specs.Abstract.{networkOf}
 
@@ -97,3 +102,32 @@ countsMixed c = sortMixed (sortMixed (sortMixed 0 c Infos) c Backs) c AddLinks
 unfoldable pub countsFor : Started → ℕ → ℕ → ℕ
 countsFor s rounds agent =
     elim (ltb agent 12) [ true ↦ countsMixed (run rounds (s .network) .network .agents (suc agent) .counts) | false ↦ 0 ]
+
+-- ---- reading an image: what is read, mixed into one number, and in the lowest four bits the number answered, 0 or 13
+
+-- an agent's counts, its value and the last that it took
+unfoldable pub agentMixed : ℕ → Agent → ℕ
+agentMixed sum a = mixed (mixed (countMixed sum (countsMixed (a .counts))) (a .value)) (a .last)
+
+-- how many agents there are, the rule, the verdict, and the agents 1 to k
+unfoldable pub readTo : ℕ → Network → ℕ
+readTo zero w = (w .problem .count * 31 + w .rule) * 31 + byteFor (w .verdict)
+readTo (suc k) w = agentMixed (readTo k w) (w .agents (suc k))
+
+unfoldable pub readFor : Loaded → ℕ
+readFor l = readTo 12 (l .network) % 4294967296 * 16 + l .number
+
+-- ---- writing: a network's image, written into the same buffer so many times
+
+unfoldable pub writtenTo : ℕ → Network → List ℕ → Written
+writtenTo zero w buffer = untouched 0 buffer
+writtenTo (suc k) w buffer = store w (writtenTo k w buffer .buffer)
+
+-- the length written, or the number that refuses
+unfoldable pub lengthFor : Written → ℕ
+lengthFor x = elim (eqb (x .number) 0) [ true ↦ x .length | false ↦ x .number ]
+
+-- the last answer, and the buffer as it is left
+pub record WritesFor (w : Network) (times : ℕ) (before : List ℕ) (r : ℕ) (after : List ℕ) : Type 0 where
+  pub answer : r ≡ lengthFor (writtenTo times w before)
+  pub buffer : after ≡ writtenTo times w before .buffer

@@ -7,9 +7,12 @@ ghost use Rattle.problem.specs.Sheet.{decode};
 ghost use Rattle.protocol.specs.Network.{Started as Started′, startSheet};
 ghost use Rattle.network.specs.Abstract.{networkOf};
 ghost use Rattle.run.specs.Answers.{endingOf};
-ghost use Rattle.agent.specs.Abstract.{countsOf};
-ghost use Rattle.bench_entry.specs.Giving.{wordFor, WaitsFor, endingDigit, settledFor, playedTo, Playing, playedFor, countMixed, countsMixed, countsFor};
+ghost use Rattle.agent.specs.Abstract.{countsOf, agentOf};
+ghost use Rattle.image_format.specs.Reading.{load};
+ghost use Rattle.bench_entry.specs.Giving.{wordFor, WaitsFor, endingDigit, settledFor, playedTo, Playing, playedFor, countMixed, countsMixed, countsFor, agentMixed, readFor, WritesFor};
+use agent::Agent;
 use agent::Counts;
+use lent::Written;
 use network::Network;
 use network::places::lines_of;
 use run::Answer;
@@ -167,4 +170,55 @@ pub extern "C" fn bench_entry_counts(rule: u8, sheet: &[u8], rounds: u64, agent:
         return all_mixed(a.sent, a.received);
     }
     0
+}
+
+// ---- images
+
+// An agent's counts, its value and the last that it took, mixed into a sum.
+fn agent_mixed(sum: u64, a: Agent) -> u64
+    ensures { λ r. ⌜ r ≡ agentMixed sum (agentOf a) ⌝ }
+{
+    let counted = mixed(sum, all_mixed(a.sent, a.received));
+    let valued = (counted % 4294967296) * 31 + a.value as u64;
+    (valued % 4294967296) * 31 + a.last as u64
+}
+
+// Reading an image: what is read, in one number, and the number answered, 0 or 13.
+#[no_mangle]
+pub extern "C" fn bench_entry_read(image: &[u8]) -> u64
+    ensures { λ r. ⌜ r ≡ readFor (load (now (image .entry))) ⌝ }
+{
+    let loaded = image_reader::load(image);
+    let agents = loaded.network.agents;
+    let ruled = loaded.network.count as u64 * 31 + loaded.network.rule as u64;
+    let mut sum: u64 = ruled * 31 + loaded.network.verdict as u64;
+    let mut k: usize = 0;
+    while k < 12 {
+        let a = agents[k];
+        sum = agent_mixed(sum, a);
+        k += 1;
+    }
+    (sum % 4294967296) * 16 + loaded.number as u64
+}
+
+// Reading an image once, and writing what it gives so many times into the same buffer: the length of the last, or the number that refuses it.
+#[no_mangle]
+pub extern "C" fn bench_entry_write(image: &[u8], times: u64, out: &mut [u8]) -> u64
+    ensures { λ r. ⌜ WritesFor (load (now (image .entry)) .network) times (now (out .entry)) r (now (out .exit)) ⌝ }
+{
+    let loaded = image_reader::load(image);
+    let network = loaded.network;
+    let mut last = Written {
+        number: 0,
+        length: 0,
+    };
+    let mut k: u64 = 0;
+    while k < times {
+        last = image_writer::store(network, out);
+        k += 1;
+    }
+    if last.number != 0 {
+        return last.number as u64;
+    }
+    last.length as u64
 }

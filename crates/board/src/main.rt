@@ -1,6 +1,8 @@
-// Steps a network call by call and draws it: `board [--rule N] SHEET [CALL ..]`.
+// Steps a network call by call and draws it: `board [--rule N] SHEET [CALL ..]`, `board --image IMAGE [CALL ..]`.
+use board_text::Begun;
 use board_text::Stepped;
 use board_text::begin;
+use board_text::begin_image;
 use board_text::call;
 use board_text::options::Options;
 use board_text::options::goes_on;
@@ -8,6 +10,7 @@ use board_text::options::no_options;
 use board_text::options::opens;
 use board_text::options::option;
 use board_text::options::put_unopened;
+use tool::read_file;
 use words::printing::Out;
 
 // ---- calls
@@ -35,14 +38,22 @@ fn calls(stepped: Stepped, first: usize) {
     }
 }
 
-// The start of a sheet by a rule, and the calls where it is not refused.
-fn play(rule: u8, sheet: &[u8], first: usize) {
-    let begun = begin(Out::new(), rule, sheet);
-    if begun.number != 0 {
+// The start of a sheet by the rule, or the network of an image.
+fn begun(o: Options, bytes: &[u8]) -> Begun {
+    if o.image {
+        return begin_image(Out::new(), bytes);
+    }
+    begin(Out::new(), o.rule, bytes)
+}
+
+// The calls, where the file is not refused.
+fn play(o: Options, bytes: &[u8], first: usize) {
+    let b = begun(o, bytes);
+    if b.number != 0 {
         return;
     }
-    let network = begun.network;
-    let out = begun.out;
+    let network = b.network;
+    let out = b.out;
     let s = Stepped {
         network: network,
         out: out,
@@ -50,37 +61,16 @@ fn play(rule: u8, sheet: &[u8], first: usize) {
     calls(s, first);
 }
 
-// ---- the sheet
-
-fn say_unread(name: &[u8]) {
-    Out::new().put(b"cannot read ").put(name).put(b"\n");
-}
-
-// A read fails, as of a directory. At the end of a file it gives nothing, which is no failure.
-fn read_fails(fd: i32) -> bool {
-    let mut next = [0u8; 1];
-    libc::read(fd, &mut next) < 0
-}
-
-// One byte beyond the longest sheet tells that the file is too long.
-fn read_and_play(fd: i32, name: &[u8], rule: u8, first: usize) {
-    let mut sheet = [0u8; 33817];
-    let n = io::read_full(fd, &mut sheet);
-    if read_fails(fd) {
-        say_unread(name);
+// One byte beyond the longest sheet tells that the file is too long; no image is as long.
+fn open_and_play(o: Options, name: &[u8], first: usize) {
+    let mut bytes = [0u8; 33817];
+    let file = read_file(name, &mut bytes);
+    if !file.good {
+        Out::new().put(b"cannot read ").put(name).put(b"\n");
         return;
     }
-    play(rule, &sheet[..n], first);
-}
-
-fn open_and_play(name: &[u8], rule: u8, first: usize) {
-    let fd = os::open_read(name);
-    if fd < 0 {
-        say_unread(name);
-        return;
-    }
-    read_and_play(fd, name, rule, first);
-    libc::close(fd);
+    let n = file.length;
+    play(o, &bytes[..n], first);
 }
 
 // ---- the words in front of the calls
@@ -96,7 +86,7 @@ fn follow(o: Options, i: usize, first: usize) {
     let mut word = [0u8; 131072];
     let n = os::arg(i, &mut word);
     if opens(o) {
-        open_and_play(&word[..n], o.rule, first);
+        open_and_play(o, &word[..n], first);
         return;
     }
     put_unopened(Out::new(), o, &word[..n]);
@@ -105,7 +95,7 @@ fn follow(o: Options, i: usize, first: usize) {
 // The options are read, up to the file, to a word that is not understood or to the end.
 fn main() {
     let end = os::arg_count();
-    let mut o = no_options();
+    let mut o = no_options(true);
     let mut i: usize = 1;
     while i < end {
         o = option_at(o, i);

@@ -9,8 +9,8 @@ use Rattle.base.proofs.Tests.{test}
 use Rattle.protocol.specs.Network.{Network}
 use Rattle.protocol.specs.Shape.{inShape}
 use Rattle.protocol.specs.Run.{maxRounds, allowed, runFrom, run}
-use Rattle.board_text.specs.Reading.{capped}
-use Rattle.board_text.proofs.Numbers.{capped-low, capped-high}
+use Rattle.numerals.specs.Reading.{capped}
+use Rattle.numerals.proofs.Numbers.{capped-low, capped-high}
 
 many : (k : ℕ) → 1000000 ≤ k → allowed k ≡ 1000000
 unfolding allowed maxRounds

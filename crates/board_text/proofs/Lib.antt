@@ -1,4 +1,3 @@
-mod Numbers
 mod Spelling
 mod Words
 pub mod Capped

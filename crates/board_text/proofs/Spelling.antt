@@ -1,4 +1,4 @@
--- A word against `--rule` and against two dashes. Words are compared letter by letter, so they compare alike exactly where they are the same list.
+-- A word against an option's name and against two dashes. Words are compared letter by letter, so they compare alike exactly where they are the same list.
 use mathlib.Core.Path.{_≡_, refl, ap₂}
 use mathlib.Core.Logic.{_≢_}
 use mathlib.Core.Bool.{true, false, and-eq-true-iff, false≢true}
@@ -10,8 +10,7 @@ use lib.ListN.{length, getD, List·getD-eq-default}
 use borrow.Author.Tests.{eq-eqb, eqb-true}
 use Rattle.base.proofs.Tests.{test}
 use Rattle.problem.specs.Cases.{sameNumbers}
-use Rattle.board_text.specs.declared.options.Stage.the-variants.{Awaits}
-use Rattle.board_text.specs.Options.{ruleOption, isOption, stageBehind, stageFirst}
+use Rattle.board_text.specs.Options.{isOption}
 
 same-itself : (s : List ℕ) → sameNumbers s s ≡ true
 unfolding sameNumbers
@@ -27,13 +26,11 @@ same-only (b ∷ s) (c ∷ t) e =
     let h = and-eq-true-iff (eqb b c) (sameNumbers s t) .0 e in
     ap₂ (λ (x : ℕ) (l : List ℕ). x ∷ l) (eqb-true b c (h .0)) (same-only s t (h .1))
 
-pub rule-next : (word : List ℕ) → word ≡ ruleOption → stageFirst word ≡ Awaits
-unfolding stageFirst
-rule-next word e = rw (e, same-itself ruleOption, stageFirst)
+pub same-word : (word t : List ℕ) → word ≡ t → sameNumbers word t ≡ true
+same-word word t e = rw e (same-itself t)
 
-pub no-rule : (word : List ℕ) → word ≢ ruleOption → stageFirst word ≡ stageBehind word
-unfolding stageFirst
-no-rule word n = test (sameNumbers word ruleOption) (λ t. absurd (n (same-only word ruleOption t))) (λ t. rw (t, stageFirst))
+pub other-word : (word t : List ℕ) → word ≢ t → sameNumbers word t ≡ false
+other-word word t n = test (sameNumbers word t) (λ y. absurd (n (same-only word t y))) (λ y. y)
 
 pub short-word : (word : List ℕ) → length word < 2 → isOption word ≡ false
 unfolding isOption

@@ -8,11 +8,12 @@ use native.Mathlib.Numerals.{add-one}
 use lib.ListN.{length, getD, take, drop, length-drop}
 use lib.Seq.{drop-cons, drop-length, take-all}
 use borrow.Author.Tests.{eq-eqb, ne-eqb, le-leb, lt-leb}
-use Rattle.board_text.specs.declared.calls.Number.{Number}
-use Rattle.board_text.specs.declared.calls.Number.the-variants.{Of, Nothing}
+use Rattle.numerals.specs.declared.Number.{Number}
+use Rattle.numerals.specs.declared.Number.the-variants.{Of, Nothing}
 use Rattle.board_text.specs.declared.calls.Call.the-variants.{Deliver, Unknown}
-use Rattle.board_text.specs.Reading.{numberIn, dashIn, isByte, deliverFor, runFor, callIn}
-use Rattle.board_text.proofs.Numbers.{no-digits}
+use Rattle.numerals.specs.Reading.{numberIn}
+use Rattle.board_text.specs.Reading.{dashIn, isByte, deliverFor, runFor, callIn}
+use Rattle.numerals.proofs.Numbers.{no-digits}
 
 -- ---- the first dash
 

@@ -1,49 +1,71 @@
--- What the words of the command line in front of the calls come to, one by one: options, and behind them the file. `--rule N` gives the rule, N 0 to 255.
+-- What the words of the command line in front of the calls come to, one by one: options, and behind them the file. `--rule N` gives the rule, N 0 to 255;
+-- `--image` says that the file is an image.
 use Prim.Native.Nat.{ℕ}
-use mathlib.Core.Bool.{Bool, true, false, _&&_}
+use mathlib.Core.Bool.{Bool, true, false, not, _&&_, _||_}
 use mathlib.Core.List.{List, [], _∷_}
 use lib.Dec.{eqb}
 use lib.ListN.{getD}
 use Rattle.problem.specs.Cases.{sameNumbers}
 use Rattle.protocol.specs.Network.{isRule}
-use Rattle.board_text.specs.declared.calls.Number.{Number}
-use Rattle.board_text.specs.declared.calls.Number.the-variants.{Of, Nothing}
+use Rattle.numerals.specs.declared.Number.{Number}
+use Rattle.numerals.specs.declared.Number.the-variants.{Of, Nothing}
+use Rattle.numerals.specs.Reading.{numberIn}
 use Rattle.board_text.specs.declared.options.Stage.{Stage}
-use Rattle.board_text.specs.declared.options.Stage.the-variants.{First, Awaits, Given, File, Wrong}
+use Rattle.board_text.specs.declared.options.Stage.the-variants.{Words, Awaits, File, Wrong}
+use Rattle.board_text.specs.declared.options.Kind.{Kind}
+use Rattle.board_text.specs.declared.options.Kind.the-variants.{Rule, Image, Unknown, File as FileName}
 use Rattle.board_text.specs.declared.options.Options.{Options}
-use Rattle.board_text.specs.Reading.{isByte, numberIn}
+use Rattle.board_text.specs.Reading.{isByte}
 
--- rule 1 where no option says another
-unfoldable pub noOptions : Options
-noOptions = record { rule = 1; stage = First }
+-- rule 1 where no option says another; only a program that draws is told of images
+unfoldable pub noOptions : Bool → Options
+noOptions draws = record { draws = draws; rule = 1; ruled = false; image = false; stage = Words }
 
 abbrev pub withStage : Options → Stage → Options
-withStage o stage = record { rule = o .rule; stage = stage }
+withStage o stage = record { draws = o .draws; rule = o .rule; ruled = o .ruled; image = o .image; stage = stage }
 
 -- "--rule"
 unfoldable pub ruleOption : List ℕ
 ruleOption = 45 ∷ 45 ∷ 114 ∷ 117 ∷ 108 ∷ 101 ∷ []
 
+-- "--image"
+unfoldable pub imageOption : List ℕ
+imageOption = 45 ∷ 45 ∷ 105 ∷ 109 ∷ 97 ∷ 103 ∷ 101 ∷ []
+
 -- a word that begins with two dashes; any other is a file
 unfoldable pub isOption : List ℕ → Bool
 isOption word = eqb (getD word 0 0) 45 && eqb (getD word 1 0) 45
 
--- the rule is given, and there is no other option
-unfoldable pub stageBehind : List ℕ → Stage
-stageBehind word = elim (isOption word) [ true ↦ Wrong | false ↦ File ]
+unfoldable pub kindOf : List ℕ → Kind
+kindOf word =
+    elim (sameNumbers word ruleOption) [
+      | true ↦ Rule
+      | false ↦ elim (sameNumbers word imageOption) [ true ↦ Image | false ↦ elim (isOption word) [ true ↦ Unknown | false ↦ FileName ] ]
+    ]
 
-unfoldable pub stageFirst : List ℕ → Stage
-stageFirst word = elim (sameNumbers word ruleOption) [ true ↦ Awaits | false ↦ stageBehind word ]
+-- the second of `--rule` and `--image` is not understood
+unfoldable pub withKind : Options → Kind → Options
+withKind o Rule = elim (o .ruled || o .image) [ true ↦ withStage o Wrong | false ↦ withStage o Awaits ]
+withKind o Image =
+    elim (o .ruled || o .image || not (o .draws)) [
+      | true ↦ withStage o Wrong
+      | false ↦ record { draws = o .draws; rule = o .rule; ruled = o .ruled; image = true; stage = Words }
+    ]
+withKind o Unknown = withStage o Wrong
+withKind o FileName = withStage o File
 
 -- the word behind `--rule`
 unfoldable pub withRule : Options → Number → Options
-withRule o (Of n) = elim (isByte n) [ true ↦ record { rule = n; stage = Given } | false ↦ withStage o Wrong ]
+withRule o (Of n) =
+    elim (isByte n) [
+      | true ↦ record { draws = o .draws; rule = n; ruled = true; image = o .image; stage = Words }
+      | false ↦ withStage o Wrong
+    ]
 withRule o Nothing = withStage o Wrong
 
 unfoldable pub optionAt : Stage → Options → List ℕ → Options
-optionAt First o word = withStage o (stageFirst word)
+optionAt Words o word = withKind o (kindOf word)
 optionAt Awaits o word = withRule o (numberIn word)
-optionAt Given o word = withStage o (stageBehind word)
 optionAt File o word = o
 optionAt Wrong o word = o
 
@@ -53,16 +75,14 @@ withOption o word = optionAt (o .stage) o word
 
 -- an option may follow, or the number of one
 unfoldable pub goesOn : Stage → Bool
-goesOn First = true
+goesOn Words = true
 goesOn Awaits = true
-goesOn Given = true
 goesOn File = false
 goesOn Wrong = false
 
 unfoldable pub isFile : Stage → Bool
-isFile First = false
+isFile Words = false
 isFile Awaits = false
-isFile Given = false
 isFile File = true
 isFile Wrong = false
 

@@ -4,11 +4,12 @@ ghost use Rattle.protocol.specs.Delivery.{deliver as deliverBy};
 ghost use Rattle.protocol.specs.Run.{run as runBy};
 ghost use Rattle.network.specs.Abstract.{networkOf};
 ghost use Rattle.board_text.specs.Reading.{callIn};
-ghost use Rattle.board_text.specs.Calling.{BeginsAs, afterCall};
+ghost use Rattle.board_text.specs.Calling.{BeginsAs, LoadsAs, afterCall};
 
 mod calls;
 mod drawing;
 pub mod options;
+pub mod quiet;
 
 use calls::Call;
 use calls::read_call;
@@ -19,7 +20,7 @@ use options::BAD_RULE;
 use options::put_bad_rule;
 use words::printing::Out;
 
-// The number with which the start refuses the rule or the sheet, or 0, and the network that it gives.
+// The number with which the rule, the sheet or the image is refused, or 0, and the network that it gives.
 pub struct Begun {
     pub number: u8,
     pub network: Network,
@@ -54,7 +55,12 @@ fn put_start(o: Out, number: u8, r: Network) -> Out {
     if number != 0 {
         return o.line(b"sheet refused ", number as u64);
     }
-    put_board(put_rule(o.put(b"start"), r.rule).put(b"\n"), r)
+    put_first(o.put(b"start"), r)
+}
+
+// The first line behind its word, and the board.
+fn put_first(o: Out, r: Network) -> Out {
+    put_board(put_rule(o, r.rule).put(b"\n"), r)
 }
 
 // Rule 2 is named, rule 1 is not.
@@ -63,6 +69,28 @@ fn put_rule(o: Out, rule: u8) -> Out {
         return o.put(b", rule 2");
     }
     o
+}
+
+// The network of an image, and the board where it is not refused.
+pub fn begin_image(o: Out, image: &[u8]) -> Begun
+    ensures { λ b. ⌜ LoadsAs (now (image .entry)) (b .number) (b .network) ⌝ }
+{
+    let loaded = image_reader::load(image);
+    let network = loaded.network;
+    let number = loaded.number;
+    let out = put_loaded(o, number, network);
+    Begun {
+        number: number,
+        network: network,
+        out: out,
+    }
+}
+
+fn put_loaded(o: Out, number: u8, r: Network) -> Out {
+    if number != 0 {
+        return o.line(b"image refused ", number as u64);
+    }
+    put_first(o.put(b"image"), r)
 }
 
 // ---- calls

@@ -1,41 +1,75 @@
 // Reading the words of the command line in front of the calls, one by one: options, and behind them the file.
 ghost use mathlib.Core.Path.{_≡_};
-ghost use Rattle.board_text.specs.Options.{noOptions, isOption, stageBehind, stageFirst, withRule, withOption, goesOn, opensFile};
-use crate::calls::Number;
-use crate::calls::read_number;
+ghost use Rattle.board_text.specs.Options.{
+  noOptions,
+  withStage,
+  isOption,
+  kindOf,
+  withKind,
+  withRule,
+  withOption,
+  goesOn,
+  opensFile,
+};
 use network::is_rule;
+use numerals::Number;
+use numerals::read_number;
 use words::printing::Out;
 
-// What the word read last was.
+// How far the words are read.
 pub enum Stage {
-    // None is read yet.
-    First,
-    // `--rule`: its number is the next.
+    // All so far are options that are understood.
+    Words,
+    // The last was `--rule`: its number is the next.
     Awaits,
-    // The number of `--rule`.
-    Given,
-    // No option: the file.
+    // The last was no option: the file.
     File,
-    // Not understood.
+    // The last is not understood.
     Wrong,
 }
 
-// The rule, 1 where no option gives it, and how far the words are read.
+// The rule, 1 where no option gives it; whether one gave it; whether the file is an image, which a program that draws may be told.
 pub struct Options {
+    pub draws: bool,
     pub rule: u8,
+    pub ruled: bool,
+    pub image: bool,
     pub stage: Stage,
 }
 
-pub fn no_options() -> Options
-    ensures { λ o. ⌜ o ≡ noOptions ⌝ }
+// What a word is, where no number is awaited.
+pub enum Kind {
+    Rule,
+    Image,
+    Unknown,
+    File,
+}
+
+pub fn no_options(draws: bool) -> Options
+    ensures { λ o. ⌜ o ≡ noOptions draws ⌝ }
 {
     Options {
+        draws: draws,
         rule: 1,
-        stage: Stage::First,
+        ruled: false,
+        image: false,
+        stage: Stage::Words,
     }
 }
 
 // ---- one word more
+
+fn at_stage(o: Options, stage: Stage) -> Options
+    ensures { λ r. ⌜ r ≡ withStage o stage ⌝ }
+{
+    Options {
+        draws: o.draws,
+        rule: o.rule,
+        ruled: o.ruled,
+        image: o.image,
+        stage: stage,
+    }
+}
 
 // A word that begins with two dashes. A file with such a name is given as `./--name`.
 fn is_option(word: &[u8]) -> bool
@@ -47,43 +81,67 @@ fn is_option(word: &[u8]) -> bool
     (word[0] == b'-') & (word[1] == b'-')
 }
 
-// The word behind the options.
-fn behind(word: &[u8]) -> Stage
-    ensures { λ s. ⌜ s ≡ stageBehind (now (word .entry)) ⌝ }
+fn kind_of(word: &[u8]) -> Kind
+    ensures { λ k. ⌜ k ≡ kindOf (now (word .entry)) ⌝ }
 {
+    if check::same(word, b"--rule") {
+        return Kind::Rule;
+    }
+    if check::same(word, b"--image") {
+        return Kind::Image;
+    }
     if is_option(word) {
-        Stage::Wrong
+        Kind::Unknown
     } else {
-        Stage::File
+        Kind::File
     }
 }
 
-fn first(word: &[u8]) -> Stage
-    ensures { λ s. ⌜ s ≡ stageFirst (now (word .entry)) ⌝ }
+// The second of `--rule` and `--image` is not understood: an image holds its rule.
+fn with_kind(o: Options, kind: Kind) -> Options
+    ensures { λ r. ⌜ r ≡ withKind o kind ⌝ }
 {
-    if check::same(word, b"--rule") {
-        return Stage::Awaits;
+    let taken = o.ruled | o.image;
+    match kind {
+        Kind::Rule => {
+            if taken {
+                return at_stage(o, Stage::Wrong);
+            }
+            at_stage(o, Stage::Awaits)
+        }
+        Kind::Image => {
+            if taken | !o.draws {
+                return at_stage(o, Stage::Wrong);
+            }
+            Options {
+                draws: o.draws,
+                rule: o.rule,
+                ruled: o.ruled,
+                image: true,
+                stage: Stage::Words,
+            }
+        }
+        Kind::Unknown => at_stage(o, Stage::Wrong),
+        Kind::File => at_stage(o, Stage::File),
     }
-    behind(word)
 }
 
 // The word behind `--rule`.
 fn with_rule(o: Options, n: Number) -> Options
     ensures { λ r. ⌜ r ≡ withRule o n ⌝ }
 {
-    let wrong = Options {
-        rule: o.rule,
-        stage: Stage::Wrong,
-    };
     let Number::Of(rule) = n else {
-        return wrong;
+        return at_stage(o, Stage::Wrong);
     };
     if 255 < rule {
-        return wrong;
+        return at_stage(o, Stage::Wrong);
     }
     Options {
+        draws: o.draws,
         rule: rule as u8,
-        stage: Stage::Given,
+        ruled: true,
+        image: o.image,
+        stage: Stage::Words,
     }
 }
 
@@ -93,15 +151,8 @@ pub fn option(o: Options, word: &[u8]) -> Options
 {
     let stage = o.stage;
     match stage {
-        Stage::First => Options {
-            rule: o.rule,
-            stage: first(word),
-        },
+        Stage::Words => with_kind(o, kind_of(word)),
         Stage::Awaits => with_rule(o, read_number(word)),
-        Stage::Given => Options {
-            rule: o.rule,
-            stage: behind(word),
-        },
         Stage::File => o,
         Stage::Wrong => o,
     }
@@ -115,9 +166,8 @@ pub fn goes_on(o: Options) -> bool
 {
     let stage = o.stage;
     match stage {
-        Stage::First => true,
+        Stage::Words => true,
         Stage::Awaits => true,
-        Stage::Given => true,
         Stage::File => false,
         Stage::Wrong => false,
     }
@@ -150,16 +200,15 @@ fn put_ruled(out: Out, rule: u8) -> Out {
     if !is_rule(rule) {
         return put_bad_rule(out);
     }
-    out.put(b"no file given: board [--rule N] SHEET [CALL ..]\n")
+    out.put(b"no file given: board [--rule N] SHEET [CALL ..], or board --image IMAGE [CALL ..]\n")
 }
 
 // The one line where no file is opened, with the word read last.
 pub fn put_unopened(out: Out, o: Options, word: &[u8]) -> Out {
     let stage = o.stage;
     match stage {
-        Stage::First => put_ruled(out, o.rule),
+        Stage::Words => put_ruled(out, o.rule),
         Stage::Awaits => put_wrong(out, b"--rule"),
-        Stage::Given => put_ruled(out, o.rule),
         Stage::File => put_ruled(out, o.rule),
         Stage::Wrong => put_wrong(out, word),
     }

@@ -17,6 +17,7 @@ use Rattle.agent_rules.specs.Message.{Assignment, known, nobody, Message, Info,
 use Rattle.agent_rules.specs.Counts.{Sort, noCounts, top, eachCount}
 use Rattle.agent_rules.specs.Agent.{Agent, noNogoods, unusedAgent}
 use Rattle.agent_rules.specs.Shape.{maxNamed}
+use Rattle.agent_rules.specs.Plain.{PlainLhs, PlainReason, PlainAgent, PlainMessage}
 use Rattle.agent_rules.proofs.Assignments.{unknown-zero}
 use Rattle.agent_rules.proofs.Counts.{each-count}
 use Rattle.protocol.specs.Network.{Network}
@@ -41,7 +42,6 @@ use Rattle.protocol.specs.Shape.{
   oneRequest,
   channelInShape,
 }
-use Rattle.image_format.specs.Plain.{PlainLhs, PlainReason, PlainAgent, PlainMessage}
 use Rattle.image_format.proofs.Agents.{OnlyAgents, Held}
 use Rattle.image_format.proofs.Messages.{HeldMessage, HeldLine}
 

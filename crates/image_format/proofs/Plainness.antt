@@ -14,6 +14,7 @@ use Rattle.problem.specs.Problem.{maxAgents, maxDomain}
 use Rattle.agent_rules.specs.Message.{nobody}
 use Rattle.agent_rules.specs.Agent.{Agent, noNogoods, unusedAgent}
 use Rattle.agent_rules.specs.Shape.{maxNamed}
+use Rattle.agent_rules.specs.Plain.{PlainLhs, PlainReason, PlainAgent, PlainMessage}
 use Rattle.packed.specs.Packed.{members}
 use Rattle.protocol.specs.Lines.{isChannel, channelAt}
 use Rattle.protocol.specs.Shape.{capacity}
@@ -37,7 +38,7 @@ use Rattle.image_format.specs.Reading.{
   problemIn,
   parse,
 }
-use Rattle.image_format.specs.Plain.{PlainLhs, PlainReason, PlainAgent, PlainMessage, Plain}
+use Rattle.image_format.specs.Plain.{Plain}
 use Rattle.image_format.proofs.Agents.{mask-only, placed}
 use Rattle.image_format.proofs.Parsing.{Parts, agent-bytes}
 
@@ -73,7 +74,7 @@ agent-plain a =
       reasons = reasons-plain _;
     }
 
-unused-plain : PlainAgent unusedAgent
+pub unused-plain : PlainAgent unusedAgent
 unfolding unusedAgent nobody noNogoods
 unused-plain =
     record { listens = λ k e. refl; informs = λ k e. refl; view = λ k e. refl; nogoods = λ v e. refl; reasons = λ v. tt }

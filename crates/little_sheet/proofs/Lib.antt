@@ -1,3 +1,4 @@
+mod Counted
 pub mod Counts
 pub mod Pairs
 pub mod Records

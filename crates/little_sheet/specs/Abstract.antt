@@ -5,14 +5,9 @@ use mathlib.Core.List.{List}
 use lib.ListN.{length, getD}
 use Rattle.problem.specs.Row.{Row as Row′}
 use Rattle.little_rules.specs.Little.{Choice as Choice′}
-use Rattle.base.specs.Lent.{Written as Written′}
-use Rattle.little_sheet.specs.declared.Written.{Written}
 use Rattle.little_sheet.specs.declared.choice.Counts.{Counts}
 use Rattle.little_sheet.specs.declared.choice.Choice.{Choice}
 use Rattle.little_sheet.specs.declared.rows.Row.{Row}
-
-unfoldable pub writtenOf : Written → List ℕ → Written′
-writtenOf w buffer = record { number = w .number; length = w .length; buffer = buffer }
 
 unfoldable pub rowOf : Row → Row′
 rowOf r = record { lower = r .lower; higher = r .higher; low = r .low; high = r .high }

@@ -1,24 +1,22 @@
 // The little sheets: one, by its ordinal, into a lent buffer.
 ghost use mathlib.Core.Path.{_≡_};
+ghost use Prim.Native.Nat.{_≤_};
+ghost use lib.ListN.{length, take};
 ghost use Rattle.little_rules.specs.Putting.{putLittle};
-ghost use Rattle.little_sheet.specs.Abstract.{writtenOf};
+ghost use Rattle.lent.specs.Abstract.{writtenOf};
 
 mod choice;
 mod rows;
 mod writing;
 
 use choice::chosen;
+use lent::Written;
 use writing::put_header;
 use writing::put_records;
 
-// The answer: number 0 and the length written, or a refusal's number and 0.
-pub struct Written {
-    pub number: u8,
-    pub length: usize,
-}
-
 pub fn little(ordinal: u64, out: &mut [u8]) -> Written
     ensures { λ r. ⌜ writtenOf r (now (out .exit)) ≡ putLittle ordinal (now (out .entry)) ⌝ }
+    ensures { λ r. ⌜ (r .length ≤ length (now (out .exit))) × (r .length ≡ length (take (r .length) (now (out .exit)))) ⌝ }
 {
     if 4995 < ordinal {
         return Written {

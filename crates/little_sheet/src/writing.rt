@@ -11,18 +11,7 @@ ghost use Rattle.little_sheet.specs.Rows.{placeAt, rowsFrom, nextIndex};
 use crate::choice::Counts;
 use crate::rows::next_banned;
 use crate::rows::row_at;
-
-// s, in the buffer from `at` on.
-fn put(out: &mut [u8], at: usize, s: &[u8])
-    requires { ⌜ at + length (now s) ≤ length (now out) ⌝ }
-    ensures { λ _. ⌜ now (out .exit) ≡ take at (now (out .entry)) ++ now (s .entry) ++ drop (at + length (now (s .entry))) (now (out .entry)) ⌝ }
-{
-    let mut i: usize = 0;
-    while i < s.len() {
-        out[at + i] = s[i];
-        i += 1;
-    }
-}
+use lent::put;
 
 pub fn put_header(out: &mut [u8], c: Counts, records: usize)
     requires { ⌜ (records ≤ 12) × (24 ≤ length (now out)) ⌝ }

@@ -2,24 +2,19 @@
 // Each sheet must be refused with the number that a second reading gives, or accepted. On those accepted the run's word and random lists of deliveries are
 // held to an exhaustive search: at rest the slots obey all bans, and at the verdict no choice of slots does. Every failure is printed with its rule and
 // sheet; at the end stands how many of each kind were tried, under both rules together.
-mod choices;
-mod drafts;
-mod draws;
-mod rails;
-mod reading;
 mod tallies;
 
-use choices::settles;
-use choices::solvable;
-use drafts::drawn;
-use draws::next;
-use draws::pick;
 use network::Network;
-use rails::at_rest;
-use rails::listed;
-use rails::taken;
-use reading::fault;
-use reading::of_gaps;
+use oracle::choices::settles;
+use oracle::choices::solvable;
+use oracle::reading::fault;
+use oracle::reading::of_gaps;
+use oracle::taken::taken;
+use random_rails::drafts::drawn;
+use random_rails::draws::next;
+use random_rails::draws::pick;
+use random_rails::rails::at_rest;
+use random_rails::rails::listed;
 use run::Ending;
 use tallies::AT_REST;
 use tallies::AT_VERDICT;

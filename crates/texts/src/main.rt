@@ -3,11 +3,13 @@
 //   dock 100000            what `dock` prints of the sheet, with so many rounds allowed
 //   board                  what `board` prints of the sheet
 //   board 2                the same by rule 2
-//   option --rule          what `board` prints when it has read one word more of its command line, up to the file, for which the sheet stands
+//   option --rule          what `board` prints when it has read one word more of its command line, up to the file, for which the sheet stands,
+//                          or behind `--image` an image, built byte by byte
 //   end                    what it prints where there are no more words
 //   word 3-2               what `board` prints of a word of its command line behind the sheet, on the network that the line before left
 use board_text::Stepped;
 use board_text::begin;
+use board_text::begin_image;
 use board_text::call;
 use board_text::options::Options;
 use board_text::options::goes_on;
@@ -53,6 +55,21 @@ fn begun(s: Stepped, rule: u8, bytes: &[u8], n: usize) -> Stepped {
     }
     let o = s.out;
     let b = begin(o, rule, &bytes[..n]);
+    let network = b.network;
+    let out = b.out;
+    Stepped {
+        network: network,
+        out: out,
+    }
+}
+
+// What `board` prints of the first n bytes as an image, and the network.
+fn loaded(s: Stepped, bytes: &[u8], n: usize) -> Stepped {
+    if bytes.len() < n {
+        return s;
+    }
+    let o = s.out;
+    let b = begin_image(o, &bytes[..n]);
     let network = b.network;
     let out = b.out;
     Stepped {
@@ -121,10 +138,19 @@ struct Desk {
     stepped: Stepped,
 }
 
-// What the words in front of the calls come to. The sheet under hand stands for the file.
+// The sheet under hand stands for the file, be it a sheet or an image.
+fn opened(s: Stepped, sheet: Sheet, o: Options) -> Stepped {
+    if o.image {
+        let bytes = sheet.bytes;
+        return loaded(s, &bytes, sheet.length);
+    }
+    boarded(s, sheet, o.rule)
+}
+
+// What the words in front of the calls come to.
 fn put_words(s: Stepped, sheet: Sheet, o: Options, word: &[u8]) -> Stepped {
     if opens(o) {
-        return boarded(s, sheet, o.rule);
+        return opened(s, sheet, o);
     }
     let out = s.out;
     let network = s.network;
@@ -181,7 +207,7 @@ fn ended(d: Desk) -> Desk {
 
 // A case begins with no options.
 fn options_at(o: Options, kind: usize) -> Options {
-    if kind == CASE { no_options() } else { o }
+    if kind == CASE { no_options(true) } else { o }
 }
 
 // A line that is no word in front of the calls.
@@ -211,7 +237,7 @@ fn followed(d: Desk, line: &[u8]) -> Desk {
 fn play(text: &[u8]) {
     let mut d = Desk {
         sheet: blank(),
-        options: no_options(),
+        options: no_options(true),
         stepped: Stepped {
             network: network::empty(),
             out: Out::new(),

@@ -118,7 +118,7 @@ sent-is-received-and-waiting-of = balance-of
 
 -- ---- sheets: what holds of every problem in range holds of every accepted sheet
 
-every-sheet : (C : ℕ → Problem → Type 0) → EveryProblem C → EverySheet C
+pub every-sheet : (C : ℕ → Problem → Type 0) → EveryProblem C → EverySheet C
 every-sheet C proved rule is-rule sheet p e = proved rule is-rule p (decoded sheet p e)
 
 pub sheet-sound : EverySheet SoundAtRest

@@ -3,22 +3,12 @@ ghost use mathlib.Core.Path.{_≡_};
 ghost use mathlib.Core.Bool.{true, false};
 use crate::text::append_number;
 use crate::word_for;
-use libc::STDERR_FILENO;
-use libc::STDOUT_FILENO;
 use run::Ending;
+use tool::written;
 
 // Standard output, and whether something could not be written there.
 pub struct Out {
     pub failed: bool,
-}
-
-// All of s on standard output, or one line on standard error that says that it cannot be written.
-fn written(s: &[u8]) -> bool {
-    if io::write_all(STDOUT_FILENO, s) {
-        return true;
-    }
-    io::write_all(STDERR_FILENO, b"cannot write\n");
-    false
 }
 
 impl Out {

@@ -1,8 +1,8 @@
 -- Two numbers that are bytes are a delivery. Assumes nothing.
 use mathlib.Core.Path.{_≡_, sym}
 use borrow.Enum.Known.{lives-at}
-use Rattle.board_text.specs.declared.calls.Number.the-variants.{Nothing}
-use Rattle.board_text.proofs.calls.Number as Number
+use Rattle.numerals.specs.declared.Number.the-variants.{Nothing}
+use Rattle.numerals.proofs.Number as Number
 use Rattle.board_text.proofs.Words.{no-sender, no-receiver, sender-high, receiver-high, both-bytes}
 use borrow.Author.Needs.{needs}
 use Rattle.board_text.proofs.calls.delivery.Statement.{statement}

@@ -7,9 +7,10 @@ use native.Mathlib.Omega.{arith}
 use lib.ListN.{take, drop}
 use lib.Seq.{length-take-le}
 use borrow.Enum.Known.{lives-at}
-use Rattle.board_text.specs.declared.calls.Number.the-variants.{Nothing}
-use Rattle.board_text.specs.Reading.{numberIn, dashIn, deliverFor, runFor}
-use Rattle.board_text.proofs.calls.Number as Number
+use Rattle.numerals.specs.declared.Number.the-variants.{Nothing}
+use Rattle.numerals.specs.Reading.{numberIn}
+use Rattle.board_text.specs.Reading.{dashIn, deliverFor, runFor}
+use Rattle.numerals.proofs.Number as Number
 use Rattle.board_text.proofs.Words.{call-empty, call-run, call-deliver, rest-of, call-dashless}
 use borrow.Author.Needs.{needs}
 use Rattle.board_text.proofs.calls.read_call.Statement.{statement}

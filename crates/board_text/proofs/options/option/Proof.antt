@@ -4,9 +4,9 @@ use mathlib.Core.List.{List}
 use Prim.Native.Nat.{ℕ}
 use borrow.Enum.Known.{lives-at}
 use Rattle.board_text.specs.declared.options.Stage.{Stage as Stages}
-use Rattle.board_text.specs.declared.options.Stage.the-variants.{First, Awaits, Given, File, Wrong}
+use Rattle.board_text.specs.declared.options.Stage.the-variants.{Words, Awaits, File, Wrong}
 use Rattle.board_text.specs.declared.options.Options.{Options}
-use Rattle.board_text.specs.Options.{withStage, withRule, optionAt, withOption}
+use Rattle.board_text.specs.Options.{withKind, withRule, optionAt, withOption}
 use Rattle.board_text.proofs.options.Stage as Stage
 use borrow.Author.Needs.{needs}
 use Rattle.board_text.proofs.options.option.Statement.{statement}
@@ -15,8 +15,11 @@ use Rattle.board_text.proofs.options.option.Tie as tie
 enum-told : tie.Need-enum-told
 enum-told c = search needs
 
-first-requires : tie.Need-first-requires
-first-requires c κs = search needs
+kind-of-requires : tie.Need-kind-of-requires
+kind-of-requires c κs = search needs
+
+with-kind-requires : tie.Need-with-kind-requires
+with-kind-requires c κs = search needs
 
 enum-told-2 : tie.Need-enum-told-2
 enum-told-2 c = search needs
@@ -30,14 +33,8 @@ with-rule-requires c κs = search needs
 enum-told-3 : tie.Need-enum-told-3
 enum-told-3 c = search needs
 
-behind-requires : tie.Need-behind-requires
-behind-requires c κs = search needs
-
 enum-told-4 : tie.Need-enum-told-4
 enum-told-4 c = search needs
-
-enum-told-5 : tie.Need-enum-told-5
-enum-told-5 c = search needs
 
 at : (o : Options) (word : List ℕ) {s : Stages} → o .stage ≡ s → optionAt s o word ≡ withOption o word
 unfolding withOption
@@ -46,53 +43,36 @@ at o word e = ap (λ (s : Stages). optionAt s o word) (sym e)
 returns : tie.Need-returns
 unfolding optionAt
 returns c =
-    let k = c .before .before in
-    let e : k .before .before .args .o .stage ≡ First = lives-at Stage.enum _ 0 (k .match .keys1) .1 in
-    ap (withStage (k .before .before .args .o)) (c .first .ensures) ∙ at _ _ e
+    let e : c .before .before .before .before .before .args .o .stage ≡ Words = lives-at Stage.enum _ 0 (c .before .before .before .match .keys1) .1 in
+    c .with-kind .ensures ∙ ap (withKind _) (c .before .kind-of .ensures) ∙ at _ _ e
 
 returns-2 : tie.Need-returns-2
 unfolding optionAt
 returns-2 c =
-    let k = c .before .before .before in
-    let e : k .before .before .args .o .stage ≡ Awaits = lives-at Stage.enum _ 1 (k .match .keys2) .1 in
+    let e : c .before .before .before .before .before .args .o .stage ≡ Awaits = lives-at Stage.enum _ 1 (c .before .before .before .match .keys2) .1 in
     c .with-rule .ensures ∙ ap (withRule _) (c .before .read-number .ensures) ∙ at _ _ e
 
 returns-3 : tie.Need-returns-3
 unfolding optionAt
-returns-3 c =
-    let k = c .before .before in
-    let e : k .before .before .args .o .stage ≡ Given = lives-at Stage.enum _ 2 (k .match .keys3) .1 in
-    ap (withStage (k .before .before .args .o)) (c .behind .ensures) ∙ at _ _ e
+returns-3 c = let e : c .before .before .before .args .o .stage ≡ File = lives-at Stage.enum _ 2 (c .before .match .keys3) .1 in at _ _ e
 
 returns-4 : tie.Need-returns-4
 unfolding optionAt
-returns-4 c =
-    let k = c .before in
-    let e : k .before .before .args .o .stage ≡ File = lives-at Stage.enum _ 3 (k .match .keys4) .1 in
-    at _ _ e
-
-returns-5 : tie.Need-returns-5
-unfolding optionAt
-returns-5 c =
-    let k = c .before in
-    let e : k .before .before .args .o .stage ≡ Wrong = lives-at Stage.enum _ 4 (k .match .keys5) .1 in
-    at _ _ e
+returns-4 c = let e : c .before .before .before .args .o .stage ≡ Wrong = lives-at Stage.enum _ 3 (c .before .match .keys4) .1 in at _ _ e
 
 pub option-spec : {M : Type 1} → statement M
 option-spec =
     tie.close
     (tie.spec
     enum-told
-    first-requires
+    kind-of-requires
+    with-kind-requires
     enum-told-2
     read-number-requires
     with-rule-requires
     enum-told-3
-    behind-requires
     enum-told-4
-    enum-told-5
     returns
     returns-2
     returns-3
-    returns-4
-    returns-5)
+    returns-4)

@@ -11,27 +11,19 @@ use Rattle.little_sheet.proofs.Records.{header-bytes, first-small}
 use borrow.Author.Needs.{needs}
 use Rattle.little_sheet.proofs.writing.put_header.Statement.{statement}
 use Rattle.little_sheet.proofs.writing.put_header.Tie as tie
-use Rattle.little_sheet.proofs.writing.put_header.Reads as reads
-use Rattle.little_sheet.proofs.writing.put_header.Lts as lts
-use Rattle.little_sheet.proofs.writing.put.Reads as put-reads
 
--- src/writing.rt:33:13
 cast-m : tie.Need-cast-m
 cast-m c = search needs
 
--- src/writing.rt:37:17
 slice-aggregate-put : tie.Need-slice-aggregate-put
 slice-aggregate-put c = search needs
 
--- src/writing.rt:37:5
 put-requires : tie.Need-put-requires
 put-requires c κs = search needs
 
--- src/writing.rt:27:1
 same-length : tie.Need-same-length
 same-length c = search needs
 
--- src/writing.rt:27:1
 returns : tie.Need-returns
 returns c =
     let a = c .before .before .before .before .before .before .before .args in

@@ -10,48 +10,34 @@ use Rattle.little_sheet.proofs.Records.{next-on, next-none, row-bytes, 
 use borrow.Author.Needs.{needs}
 use Rattle.little_sheet.proofs.writing.put_record.Statement.{statement}
 use Rattle.little_sheet.proofs.writing.put_record.Tie as tie
-use Rattle.little_sheet.proofs.writing.put_record.Reads as reads
-use Rattle.little_sheet.proofs.writing.put_record.Lts as lts
-use Rattle.little_sheet.proofs.rows.row_at.Reads as row-at-reads
-use Rattle.little_sheet.proofs.writing.put.Reads as put-reads
 
--- src/writing.rt:46:9
 row-at-requires : tie.Need-row-at-requires
 row-at-requires c κs = search needs
 
--- src/writing.rt:47:19
 add-if1 : tie.Need-add-if1
 add-if1 c = search needs
 
--- src/writing.rt:47:37
 cast-next : tie.Need-cast-next
 cast-next c = search needs
 
--- src/writing.rt:47:37
 add-next : tie.Need-add-next
 add-next c = search needs
 
--- src/writing.rt:49:19
 mul-put : tie.Need-mul-put
 mul-put c = search needs
 
--- src/writing.rt:49:14
 add-put : tie.Need-add-put
 add-put c = search needs
 
--- src/writing.rt:49:26
 slice-aggregate-put : tie.Need-slice-aggregate-put
 slice-aggregate-put c = search needs
 
--- src/writing.rt:49:5
 put-requires : tie.Need-put-requires
 put-requires c κs = search needs
 
--- src/writing.rt:41:1
 same-length : tie.Need-same-length
 same-length c = search needs
 
--- src/writing.rt:41:1
 returns : tie.Need-returns
 unfolding rowOf
 returns c =

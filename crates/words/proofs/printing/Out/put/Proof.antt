@@ -5,7 +5,6 @@ use native.Mathlib.Omega.{arith}
 use borrow.Author.Needs.{needs}
 use Rattle.words.proofs.printing.Out.put.Statement.{statement}
 use Rattle.words.proofs.printing.Out.put.Tie as tie
-use Rattle.words.proofs.printing.written.Reads as written-reads
 
 returns : tie.Need-returns
 returns c = search needs

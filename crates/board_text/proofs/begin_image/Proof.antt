@@ -1,0 +1,27 @@
+-- The reader's contract, for the whole input. Assumes nothing.
+use mathlib.Core.Path.{_≡_, sym, ap, _∙_}
+use Rattle.image_format.specs.Reading.{Loaded, load}
+use Rattle.image_reader.proofs.Cut.{load-cut}
+use borrow.Author.Needs.{needs}
+use Rattle.board_text.proofs.begin_image.Statement.{statement}
+use Rattle.board_text.proofs.begin_image.Tie as tie
+
+load-requires : tie.Need-load-requires
+load-requires c κs = search needs
+
+put-loaded-requires : tie.Need-put-loaded-requires
+put-loaded-requires c κs = search needs
+
+returns : tie.Need-returns
+returns c =
+    let e = c .before .before .load .ensures .0 in
+    record {
+      numbered = e .0;
+      loaded = e .1;
+      whole = λ input h.
+          let s : load _ ≡ load input = ap load (sym h) ∙ load-cut input in
+          (e .0 ∙ ap (λ (x : Loaded). x .number) s, e .1 ∙ ap (λ (x : Loaded). x .network) s);
+    }
+
+pub begin-image-spec : {M : Type 1} → statement M
+begin-image-spec = tie.close (tie.spec load-requires put-loaded-requires returns)

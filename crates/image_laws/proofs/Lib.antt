@@ -1,0 +1,5 @@
+mod Lines
+mod Start
+mod Delivery
+mod Keeping
+pub mod Theorems

@@ -1,0 +1,1 @@
+// Networks across a write and a read; no code.

@@ -1,0 +1,7 @@
+mod Puts
+mod Firsts
+mod Records
+mod BanTable
+mod Numbered
+mod Chains
+mod Stored
