@@ -20,8 +20,8 @@ fn call_at(s: Stepped, i: usize) -> Stepped {
     let mut word = [0u8; 131072];
     let n = os::arg(i, &mut word);
     let out = s.out;
-    let network = s.network;
-    call(out, network, &word[..n])
+    let d = s.dispatcher;
+    call(out, d, &word[..n])
 }
 
 // The calls from argument `first` on, as long as what they print can be written.
@@ -52,10 +52,10 @@ fn play(o: Options, bytes: &[u8], first: usize) {
     if b.number != 0 {
         return;
     }
-    let network = b.network;
+    let d = b.dispatcher;
     let out = b.out;
     let s = Stepped {
-        network: network,
+        dispatcher: d,
         out: out,
     };
     calls(s, first);

@@ -1,3 +1,4 @@
 mod Spelling
 mod Words
+mod Above
 pub mod Capped

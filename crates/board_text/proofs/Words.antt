@@ -1,5 +1,5 @@
 -- A word taken apart: at the first dash, or behind its first letter.
-use mathlib.Core.Path.{_≡_, refl, ap, _∙_}
+use mathlib.Core.Path.{_≡_, refl}
 use mathlib.Core.Logic.{_≢_}
 use mathlib.Core.List.{List, [], _∷_}
 use Prim.Native.Nat.{ℕ, suc, _+_, _-_, _≤_, _<_}
@@ -10,10 +10,11 @@ use lib.Seq.{drop-cons, drop-length, take-all}
 use borrow.Author.Tests.{eq-eqb, ne-eqb, le-leb, lt-leb}
 use Rattle.numerals.specs.declared.Number.{Number}
 use Rattle.numerals.specs.declared.Number.the-variants.{Of, Nothing}
-use Rattle.board_text.specs.declared.calls.Call.the-variants.{Deliver, Unknown}
 use Rattle.numerals.specs.Reading.{numberIn}
-use Rattle.board_text.specs.Reading.{dashIn, isByte, deliverFor, runFor, callIn}
 use Rattle.numerals.proofs.Numbers.{no-digits}
+use Rattle.board_text.specs.declared.calls.Ends.the-variants.{Between, Missing}
+use Rattle.board_text.specs.declared.calls.Call.the-variants.{Unknown}
+use Rattle.board_text.specs.Reading.{dashIn, isByte, endsFor, endsIn, deliverFor, pickFor, runFor, callIn}
 
 -- ---- the first dash
 
@@ -47,34 +48,39 @@ dash-nowhere s i P l =
 
 -- ---- both ends of a line
 
-pub no-sender : (n : Number) → deliverFor Nothing n ≡ Unknown
-unfolding deliverFor
+pub no-sender : (n : Number) → endsFor Nothing n ≡ Missing
+unfolding endsFor
 no-sender (Of b) = refl
 no-sender Nothing = refl
 
-pub no-receiver : (n : Number) → deliverFor n Nothing ≡ Unknown
-unfolding deliverFor
+pub no-receiver : (n : Number) → endsFor n Nothing ≡ Missing
+unfolding endsFor
 no-receiver (Of a) = refl
 no-receiver Nothing = refl
 
 module _ (a b : ℕ) where
-  pub sender-high : 255 < a → deliverFor (Of a) (Of b) ≡ Unknown
-  unfolding deliverFor isByte
-  sender-high h = rw (lt-leb a 255 h, deliverFor)
+  pub sender-high : 255 < a → endsFor (Of a) (Of b) ≡ Missing
+  unfolding endsFor isByte
+  sender-high h = rw (lt-leb a 255 h, endsFor)
 
-  pub receiver-high : a ≤ 255 → 255 < b → deliverFor (Of a) (Of b) ≡ Unknown
-  unfolding deliverFor isByte
-  receiver-high l h = rw (le-leb a 255 l, lt-leb b 255 h, deliverFor)
+  pub receiver-high : a ≤ 255 → 255 < b → endsFor (Of a) (Of b) ≡ Missing
+  unfolding endsFor isByte
+  receiver-high l h = rw (le-leb a 255 l, lt-leb b 255 h, endsFor)
 
-  pub both-bytes : a ≤ 255 → b ≤ 255 → deliverFor (Of a) (Of b) ≡ Deliver a b
-  unfolding deliverFor isByte
-  both-bytes l h = rw (le-leb a 255 l, le-leb b 255 h, deliverFor)
+  pub both-bytes : a ≤ 255 → b ≤ 255 → endsFor (Of a) (Of b) ≡ Between a b
+  unfolding endsFor isByte
+  both-bytes l h = rw (le-leb a 255 l, le-leb b 255 h, endsFor)
+
+pub dashless : (s : List ℕ) → dashIn s ≡ length s → endsIn s ≡ Missing
+unfolding endsIn
+dashless s e =
+    rw (no-digits (drop (suc (dashIn s)) s) (rw e (simp length-drop (omega arith)))) (no-receiver (numberIn (take (dashIn s) s)))
 
 -- ---- a word
 
 -- a part to the end
-pub rest-of : (s : List ℕ) (a : ℕ) → numberIn (take (length s - a) (drop a s)) ≡ numberIn (drop a s)
-rest-of s a = ap numberIn (take-all (length s - a) (drop a s) (simp length-drop (omega arith)))
+pub rest-of : (s : List ℕ) (a : ℕ) → take (length s - a) (drop a s) ≡ drop a s
+rest-of s a = take-all (length s - a) (drop a s) (simp length-drop (omega arith))
 
 pub call-empty : (s : List ℕ) → length s ≡ 0 → callIn s ≡ Unknown
 unfolding callIn
@@ -86,13 +92,12 @@ unfolding callIn
 call-run [] l e = absurd (omega arith)
 call-run (b ∷ s) l e = rw (eq-eqb b 114 e, callIn)
 
-pub call-deliver : (s : List ℕ) → 0 < length s → getD s 0 0 ≢ 114
-    → callIn s ≡ deliverFor (numberIn (take (dashIn s) s)) (numberIn (drop (suc (dashIn s)) s))
+pub call-pick : (s : List ℕ) → 0 < length s → getD s 0 0 ≢ 114 → getD s 0 0 ≡ 119 → callIn s ≡ pickFor (endsIn (drop 1 s))
 unfolding callIn
-call-deliver [] l n = absurd (omega arith)
-call-deliver (b ∷ s) l n = rw (ne-eqb b 114 n, callIn)
+call-pick [] l n e = absurd (omega arith)
+call-pick (b ∷ s) l n e = rw (ne-eqb b 114 n, callIn, eq-eqb b 119 e)
 
-pub call-dashless : (s : List ℕ) → 0 < length s → getD s 0 0 ≢ 114 → dashIn s ≡ length s → callIn s ≡ Unknown
-call-dashless s l n e =
-    call-deliver s l n
-    ∙ rw (no-digits (drop (suc (dashIn s)) s) (rw e (simp length-drop (omega arith)))) (no-receiver (numberIn (take (dashIn s) s)))
+pub call-deliver : (s : List ℕ) → 0 < length s → getD s 0 0 ≢ 114 → getD s 0 0 ≢ 119 → callIn s ≡ deliverFor (endsIn s)
+unfolding callIn
+call-deliver [] l n m = absurd (omega arith)
+call-deliver (b ∷ s) l n m = rw (ne-eqb b 114 n, callIn, ne-eqb b 119 m)

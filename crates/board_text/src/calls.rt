@@ -2,14 +2,21 @@
 ghost use mathlib.Core.Path.{_≡_};
 ghost use Prim.Native.Nat.{_≤_};
 ghost use lib.ListN.{length};
-ghost use Rattle.board_text.specs.Reading.{dashIn, deliverFor, callIn};
+ghost use Rattle.board_text.specs.Reading.{dashIn, endsFor, endsIn, callIn};
 use numerals::Number;
 use numerals::read_number;
 
-// `A-B`: a delivery from A to B; `rN`: a run with N rounds; or a word that is neither.
+// Both ends of a line, 0 to 255, or what is none.
+pub enum Ends {
+    Between(u8, u8),
+    Missing,
+}
+
+// `A-B`: a delivery from A to B; `rN`: a run with N rounds; `wA-B`: a pick with the wish A to B; or a word that is none of these.
 pub enum Call {
     Deliver(u8, u8),
     Run(u64),
+    Pick(u8, u8),
     Unknown,
 }
 
@@ -27,23 +34,35 @@ fn dash_at(s: &[u8]) -> usize
     i
 }
 
-// Both ends of a line, 0 to 255.
-fn delivery(from: Number, to: Number) -> Call
-    ensures { λ c. ⌜ c ≡ deliverFor from to ⌝ }
+fn both_ends(from: Number, to: Number) -> Ends
+    ensures { λ e. ⌜ e ≡ endsFor from to ⌝ }
 {
     let Number::Of(a) = from else {
-        return Call::Unknown;
+        return Ends::Missing;
     };
     let Number::Of(b) = to else {
-        return Call::Unknown;
+        return Ends::Missing;
     };
     if 255 < a {
-        return Call::Unknown;
+        return Ends::Missing;
     }
     if 255 < b {
-        return Call::Unknown;
+        return Ends::Missing;
     }
-    Call::Deliver(a as u8, b as u8)
+    Ends::Between(a as u8, b as u8)
+}
+
+// The numbers on both sides of the first dash.
+fn read_ends(s: &[u8]) -> Ends
+    ensures { λ e. ⌜ e ≡ endsIn (now (s .entry)) ⌝ }
+{
+    let dash = dash_at(s);
+    if dash == s.len() {
+        return Ends::Missing;
+    }
+    let from = read_number(&s[..dash]);
+    let to = read_number(&s[dash + 1..]);
+    both_ends(from, to)
 }
 
 pub fn read_call(word: &[u8]) -> Call
@@ -58,13 +77,16 @@ pub fn read_call(word: &[u8]) -> Call
         };
         return Call::Run(rounds);
     }
-    let dash = dash_at(word);
-    if dash == word.len() {
-        return Call::Unknown;
+    if word[0] == b'w' {
+        let Ends::Between(a, b) = read_ends(&word[1..]) else {
+            return Call::Unknown;
+        };
+        return Call::Pick(a, b);
     }
-    let from = read_number(&word[..dash]);
-    let to = read_number(&word[dash + 1..]);
-    delivery(from, to)
+    let Ends::Between(a, b) = read_ends(word) else {
+        return Call::Unknown;
+    };
+    Call::Deliver(a, b)
 }
 
 // Where the digits of `rN` begin, leading zeros left out; the last digit stays.

@@ -2,9 +2,11 @@
 ghost use mathlib.Core.Path.{_≡_};
 ghost use Rattle.protocol.specs.Delivery.{deliver as deliverBy};
 ghost use Rattle.protocol.specs.Run.{run as runBy};
+ghost use Rattle.dispatch_rules.specs.Dispatch.{pick as pickBy};
 ghost use Rattle.network.specs.Abstract.{networkOf};
+ghost use Rattle.dispatch.specs.Abstract.{line, dispatcherOf};
 ghost use Rattle.board_text.specs.Reading.{callIn};
-ghost use Rattle.board_text.specs.Calling.{BeginsAs, LoadsAs, afterCall};
+ghost use Rattle.board_text.specs.Calling.{BeginsAs, LoadsAs, withNetwork, afterCall};
 
 mod calls;
 mod drawing;
@@ -14,28 +16,29 @@ pub mod quiet;
 use calls::Call;
 use calls::read_call;
 use calls::significant;
+use dispatch::Dispatcher;
 use drawing::put_board;
 use network::Network;
 use options::BAD_RULE;
 use options::put_bad_rule;
 use words::printing::Out;
 
-// The number with which the rule, the sheet or the image is refused, or 0, and the network that it gives.
+// The number with which the rule, the sheet or the image is refused, or 0, and the dispatcher above the network that it gives.
 pub struct Begun {
     pub number: u8,
-    pub network: Network,
+    pub dispatcher: Dispatcher,
     pub out: Out,
 }
 
-// The network that a call leaves.
+// The dispatcher that a call leaves, with its network.
 pub struct Stepped {
-    pub network: Network,
+    pub dispatcher: Dispatcher,
     pub out: Out,
 }
 
 // The start of a sheet by a rule, and the board where it is not refused.
 pub fn begin(o: Out, rule: u8, sheet: &[u8]) -> Begun
-    ensures { λ b. ⌜ BeginsAs rule (now (sheet .entry)) (b .number) (b .network) ⌝ }
+    ensures { λ b. ⌜ BeginsAs rule (now (sheet .entry)) (b .number) (b .dispatcher) ⌝ }
 {
     let started = start::start(rule, sheet);
     let network = started.network;
@@ -43,7 +46,7 @@ pub fn begin(o: Out, rule: u8, sheet: &[u8]) -> Begun
     let out = put_start(o, number, network);
     Begun {
         number: number,
-        network: network,
+        dispatcher: dispatch::begin(network),
         out: out,
     }
 }
@@ -73,7 +76,7 @@ fn put_rule(o: Out, rule: u8) -> Out {
 
 // The network of an image, and the board where it is not refused.
 pub fn begin_image(o: Out, image: &[u8]) -> Begun
-    ensures { λ b. ⌜ LoadsAs (now (image .entry)) (b .number) (b .network) ⌝ }
+    ensures { λ b. ⌜ LoadsAs (now (image .entry)) (b .number) (b .dispatcher) ⌝ }
 {
     let loaded = image_reader::load(image);
     let network = loaded.network;
@@ -81,7 +84,7 @@ pub fn begin_image(o: Out, image: &[u8]) -> Begun
     let out = put_loaded(o, number, network);
     Begun {
         number: number,
-        network: network,
+        dispatcher: dispatch::begin(network),
         out: out,
     }
 }
@@ -100,39 +103,55 @@ fn put_refused(o: Out, number: u8) -> Out {
     o.line(b": refused ", number as u64)
 }
 
-// A delivery, its line, and the board where it is not refused.
-fn deliver(o: Out, r: Network, from: u8, to: u8) -> Stepped
-    ensures { λ s. ⌜ networkOf (s .network) ≡ deliverBy (networkOf r) from to .network ⌝ }
+// The dispatcher above another network, with the count and the place that it had.
+fn with_network(d: Dispatcher, r: Network) -> Dispatcher
+    ensures { λ e. ⌜ dispatcherOf e ≡ withNetwork (dispatcherOf d) (networkOf r) ⌝ }
 {
+    Dispatcher {
+        network: r,
+        picks: d.picks,
+        from: d.from,
+        to: d.to,
+    }
+}
+
+// A delivery, its line, and the board where it is not refused.
+fn deliver(o: Out, d: Dispatcher, from: u8, to: u8) -> Stepped
+    ensures { λ s. ⌜ dispatcherOf (s .dispatcher) ≡ withNetwork (dispatcherOf d) (deliverBy (networkOf (d .network)) from to .network) ⌝ }
+{
+    let r = d.network;
     let answer = run::deliver(r, from, to);
     let network = answer.network;
+    let left = with_network(d, network);
     let said = o.put(b"deliver ")
         .number(from as u64)
         .put(b" ")
         .number(to as u64);
     if answer.number != 0 {
         return Stepped {
-            network: network,
+            dispatcher: left,
             out: put_refused(said, answer.number),
         };
     }
     Stepped {
-        network: network,
+        dispatcher: left,
         out: put_board(said.put(b"\n"), network),
     }
 }
 
 // A run, its line, and the board where it is not refused. Its rounds are given as digits, of any length.
-fn run(o: Out, r: Network, digits: &[u8], rounds: u64) -> Stepped
-    ensures { λ s. ⌜ networkOf (s .network) ≡ runBy rounds (networkOf r) .network ⌝ }
+fn run(o: Out, d: Dispatcher, digits: &[u8], rounds: u64) -> Stepped
+    ensures { λ s. ⌜ dispatcherOf (s .dispatcher) ≡ withNetwork (dispatcherOf d) (runBy rounds (networkOf (d .network)) .network) ⌝ }
 {
+    let r = d.network;
     let answer = run::run(r, rounds);
     let network = answer.network;
     let ending = answer.ending;
+    let left = with_network(d, network);
     let said = o.put(b"run ").put(digits);
     if answer.number != 0 {
         return Stepped {
-            network: network,
+            dispatcher: left,
             out: put_refused(said, answer.number),
         };
     }
@@ -141,8 +160,35 @@ fn run(o: Out, r: Network, digits: &[u8], rounds: u64) -> Stepped
         .put(b", ")
         .number(answer.rounds);
     Stepped {
-        network: network,
+        dispatcher: left,
         out: put_board(ended.put(b" rounds\n"), network),
+    }
+}
+
+// A pick, its line with the one that it served, and the board where it is not refused.
+fn pick(o: Out, d: Dispatcher, from: u8, to: u8) -> Stepped
+    ensures { λ s. ⌜ dispatcherOf (s .dispatcher) ≡ pickBy (dispatcherOf d) (line from to) .state ⌝ }
+{
+    let answer = dispatch::pick(d, from, to);
+    let left = answer.state;
+    let network = left.network;
+    let said = o.put(b"pick ")
+        .number(from as u64)
+        .put(b" ")
+        .number(to as u64);
+    if answer.number != 0 {
+        return Stepped {
+            dispatcher: left,
+            out: put_refused(said, answer.number),
+        };
+    }
+    let served = said.put(b": delivered ")
+        .number(answer.from as u64)
+        .put(b" ")
+        .number(answer.to as u64);
+    Stepped {
+        dispatcher: left,
+        out: put_board(served.put(b"\n"), network),
     }
 }
 
@@ -152,17 +198,18 @@ fn put_unknown(o: Out, word: &[u8]) -> Out {
 }
 
 // A word of the command line: its call, or that there is none.
-pub fn call(o: Out, r: Network, word: &[u8]) -> Stepped
-    ensures { λ s. ⌜ networkOf (s .network) ≡ afterCall (callIn (now (word .entry))) (networkOf r) ⌝ }
+pub fn call(o: Out, d: Dispatcher, word: &[u8]) -> Stepped
+    ensures { λ s. ⌜ dispatcherOf (s .dispatcher) ≡ afterCall (callIn (now (word .entry))) (dispatcherOf d) ⌝ }
 {
     match read_call(word) {
-        Call::Deliver(from, to) => deliver(o, r, from, to),
+        Call::Deliver(from, to) => deliver(o, d, from, to),
         Call::Run(rounds) => {
             let first = significant(word);
-            run(o, r, &word[first..], rounds)
+            run(o, d, &word[first..], rounds)
         }
+        Call::Pick(from, to) => pick(o, d, from, to),
         Call::Unknown => Stepped {
-            network: r,
+            dispatcher: d,
             out: put_unknown(o, word),
         },
     }

@@ -44,7 +44,7 @@ both-parts p (l ∷ ls) =
     (λ e. rw (e, behind, upTo))
     (λ e. rw (e, behind, upTo) (ap (λ (r : List Line). l ∷ r) (both-parts p ls)))
 
-behind-at : (l : Line) (before after : List Line) → All (λ m. isLine (l .from) (l .to) m ≡ false) before
+pub behind-at : (l : Line) (before after : List Line) → All (λ m. isLine (l .from) (l .to) m ≡ false) before
     → behind l (before ++ (l ∷ after)) ≡ after
 unfolding behind
 behind-at l [] after h = rw (this-itself l, behind)
@@ -57,7 +57,7 @@ upTo-at l [] after h = rw (this-itself l, upTo)
 upTo-at l (m ∷ before) after h = rw (h .0, upTo) (ap (λ (r : List Line). m ∷ r) (upTo-at l before after (h .1)))
 
 -- the line does not stand before itself
-new : (l : Line) (before after : List Line) → Once (before ++ (l ∷ after)) → All (λ m. isLine (l .from) (l .to) m ≡ false) before
+pub new : (l : Line) (before after : List Line) → Once (before ++ (l ∷ after)) → All (λ m. isLine (l .from) (l .to) m ≡ false) before
 unfolding countIf
 new l before after h =
     count-none (isLine (l .from) (l .to)) before

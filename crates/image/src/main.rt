@@ -8,6 +8,7 @@ use board_text::options::opens;
 use board_text::options::option;
 use board_text::quiet::Followed;
 use board_text::quiet::follow;
+use dispatch::Dispatcher;
 use network::Network;
 use network::is_rule;
 use tool::LONGEST_ARGUMENT;
@@ -33,10 +34,10 @@ fn write_image(r: Network) {
 // ---- calls
 
 // The call that argument i says, or one line that it is none.
-fn call_at(r: Network, i: usize) -> Followed {
+fn call_at(d: Dispatcher, i: usize) -> Followed {
     let mut word = [0u8; LONGEST_ARGUMENT];
     let n = os::arg(i, &mut word);
-    let f = follow(r, &word[..n]);
+    let f = follow(d, &word[..n]);
     if !f.understood {
         say(b"call not understood: ", &word[..n]);
     }
@@ -44,8 +45,8 @@ fn call_at(r: Network, i: usize) -> Followed {
 }
 
 // The calls from argument `first` on, and the image of what they leave; nothing where one of them is none.
-fn play(r: Network, first: usize) {
-    let mut s = r;
+fn play(d: Dispatcher, first: usize) {
+    let mut s = d;
     let end = os::arg_count();
     let mut i = first;
     while i < end {
@@ -53,10 +54,11 @@ fn play(r: Network, first: usize) {
         if !f.understood {
             return;
         }
-        s = f.network;
+        s = f.dispatcher;
         i += 1;
     }
-    write_image(s);
+    let left = s.network;
+    write_image(left);
 }
 
 // One byte beyond the longest sheet tells that the file is too long.
@@ -74,7 +76,7 @@ fn open_and_play(rule: u8, name: &[u8], first: usize) {
         return;
     }
     let network = started.network;
-    play(network, first);
+    play(dispatch::begin(network), first);
 }
 
 // ---- the words in front of the calls

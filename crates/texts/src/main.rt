@@ -6,7 +6,7 @@
 //   option --rule          what `board` prints when it has read one word more of its command line, up to the file, for which the sheet stands,
 //                          or behind `--image` an image, built byte by byte
 //   end                    what it prints where there are no more words
-//   word 3-2               what `board` prints of a word of its command line behind the sheet, on the network that the line before left
+//   word 3-2               what `board` prints of a word of its command line behind the sheet, on the network and with the dispatcher that the line before left
 use board_text::Stepped;
 use board_text::begin;
 use board_text::begin_image;
@@ -48,32 +48,32 @@ fn put_dock(o: Out, bytes: &[u8], n: usize, rounds: u64) -> Out {
     o.put(&text[..k])
 }
 
-// What `board` prints of the first n bytes by a rule, and the network.
+// What `board` prints of the first n bytes by a rule, and the dispatcher that begins there.
 fn begun(s: Stepped, rule: u8, bytes: &[u8], n: usize) -> Stepped {
     if bytes.len() < n {
         return s;
     }
     let o = s.out;
     let b = begin(o, rule, &bytes[..n]);
-    let network = b.network;
+    let d = b.dispatcher;
     let out = b.out;
     Stepped {
-        network: network,
+        dispatcher: d,
         out: out,
     }
 }
 
-// What `board` prints of the first n bytes as an image, and the network.
+// What `board` prints of the first n bytes as an image, and the dispatcher that begins there.
 fn loaded(s: Stepped, bytes: &[u8], n: usize) -> Stepped {
     if bytes.len() < n {
         return s;
     }
     let o = s.out;
     let b = begin_image(o, &bytes[..n]);
-    let network = b.network;
+    let d = b.dispatcher;
     let out = b.out;
     Stepped {
-        network: network,
+        dispatcher: d,
         out: out,
     }
 }
@@ -81,30 +81,30 @@ fn loaded(s: Stepped, bytes: &[u8], n: usize) -> Stepped {
 // The word behind `word` and a blank.
 fn called(s: Stepped, line: &[u8]) -> Stepped {
     let o = s.out;
-    let network = s.network;
+    let d = s.dispatcher;
     if line.len() < 5 {
-        return call(o, network, line);
+        return call(o, d, line);
     }
-    call(o, network, &line[5..])
+    call(o, d, &line[5..])
 }
 
 // ---- the text
 
 fn with_line(s: Stepped, line: &[u8]) -> Stepped {
     let o = s.out;
-    let network = s.network;
+    let dispatcher = s.dispatcher;
     Stepped {
-        network: network,
+        dispatcher: dispatcher,
         out: o.put(line).put(b"\n"),
     }
 }
 
 fn docked(s: Stepped, sheet: Sheet, n: Numbers) -> Stepped {
     let o = s.out;
-    let network = s.network;
+    let dispatcher = s.dispatcher;
     let bytes = sheet.bytes;
     Stepped {
-        network: network,
+        dispatcher: dispatcher,
         out: put_dock(o, &bytes, sheet.length, n.values[0]),
     }
 }
@@ -153,9 +153,9 @@ fn put_words(s: Stepped, sheet: Sheet, o: Options, word: &[u8]) -> Stepped {
         return opened(s, sheet, o);
     }
     let out = s.out;
-    let network = s.network;
+    let dispatcher = s.dispatcher;
     Stepped {
-        network: network,
+        dispatcher: dispatcher,
         out: put_unopened(out, o, word),
     }
 }
@@ -239,7 +239,7 @@ fn play(text: &[u8]) {
         sheet: blank(),
         options: no_options(true),
         stepped: Stepped {
-            network: network::empty(),
+            dispatcher: dispatch::begin(network::empty()),
             out: Out::new(),
         },
     };

@@ -1,6 +1,7 @@
--- The call that the word says is made; a word that says none leaves the network. Assumes nothing.
+-- The call that the word says is made; a word that says none leaves all. Assumes nothing.
 use mathlib.Core.Path.{_≡_, refl, sym, _∙_}
 use borrow.Enum.Known.{lives-at}
+use Rattle.dispatch.specs.Abstract.{dispatcherOf}
 use Rattle.board_text.specs.declared.calls.Call.the-variants.{Unknown}
 use Rattle.board_text.specs.Calling.{afterCall}
 use Rattle.board_text.proofs.calls.Call as Call
@@ -35,6 +36,12 @@ part-run-end c = search needs
 run-requires : tie.Need-run-requires
 run-requires c κs = search needs
 
+enum-known-from-2 : tie.Need-enum-known-from-2
+enum-known-from-2 c = search needs
+
+pick-requires : tie.Need-pick-requires
+pick-requires c κs = search needs
+
 enum-told : tie.Need-enum-told
 enum-told c = search needs
 
@@ -42,17 +49,21 @@ put-unknown-requires : tie.Need-put-unknown-requires
 put-unknown-requires c κs = search needs
 
 returns : tie.Need-returns
-unfolding afterCall
+unfolding afterCall dispatcherOf
 returns c = let e = sym (c .before .before .before .before .read-call .ensures) ∙ c .before .before .from .given .1 in rw e (c .deliver .ensures)
 
 returns-2 : tie.Need-returns-2
-unfolding afterCall
+unfolding afterCall dispatcherOf
 returns-2 c = let e = sym (c .before .before .before .before .before .before .read-call .ensures) ∙ c .before .before .before .before .rounds .given .1 in rw e (c .run .ensures)
 
 returns-3 : tie.Need-returns-3
 unfolding afterCall
-returns-3 c =
-    let u : c .before .before .before .read-call .result ≡ Unknown = lives-at Call.enum _ 2 (c .before .before .match .keys3) .1 in
+returns-3 c = let e = sym (c .before .before .before .before .read-call .ensures) ∙ c .before .before .from2 .given .1 in rw e (c .pick .ensures)
+
+returns-4 : tie.Need-returns-4
+unfolding afterCall
+returns-4 c =
+    let u : c .before .before .before .read-call .result ≡ Unknown = lives-at Call.enum _ 3 (c .before .before .match .keys4) .1 in
     let e = sym (c .before .before .before .read-call .ensures) ∙ u in
     rw e refl
 
@@ -69,8 +80,11 @@ call-spec =
     part-run-start
     part-run-end
     run-requires
+    enum-known-from-2
+    pick-requires
     enum-told
     put-unknown-requires
     returns
     returns-2
-    returns-3)
+    returns-3
+    returns-4)

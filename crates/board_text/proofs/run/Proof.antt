@@ -1,10 +1,14 @@
--- The run's contract. Assumes nothing.
+-- The run's contract, and the dispatcher's count and place stay. Assumes nothing.
+use Rattle.board_text.proofs.Above.{above-same}
 use borrow.Author.Needs.{needs}
 use Rattle.board_text.proofs.run.Statement.{statement}
 use Rattle.board_text.proofs.run.Tie as tie
 
 run-requires : tie.Need-run-requires
 run-requires c κs = search needs
+
+with-network-requires : tie.Need-with-network-requires
+with-network-requires c κs = search needs
 
 slice-aggregate-put : tie.Need-slice-aggregate-put
 slice-aggregate-put c = search needs
@@ -19,7 +23,7 @@ put-refused-requires : tie.Need-put-refused-requires
 put-refused-requires c κs = search needs
 
 returns : tie.Need-returns
-returns c = search needs
+returns c = above-same _ _ _ _ (c .before .before .before .before .before .before .with-network .ensures) (c .before .before .before .before .before .before .before .before .run .ensures .network)
 
 slice-aggregate-put-2 : tie.Need-slice-aggregate-put-2
 slice-aggregate-put-2 c = search needs
@@ -49,13 +53,14 @@ put-board-requires : tie.Need-put-board-requires
 put-board-requires c κs = search needs
 
 returns-2 : tie.Need-returns-2
-returns-2 c = c .before .before .before .before .before .before .before .before .before .before .before .before .before .before .before .run .ensures .network
+returns-2 c = above-same _ _ _ _ (c .before .before .before .before .before .before .before .before .before .before .before .before .before .before .with-network .ensures) (c .before .before .before .before .before .before .before .before .before .before .before .before .before .before .before .before .run .ensures .network)
 
 pub run-spec : {M : Type 1} → statement M
 run-spec =
     tie.close
     (tie.spec
     run-requires
+    with-network-requires
     slice-aggregate-put
     put-requires
     put-requires-2

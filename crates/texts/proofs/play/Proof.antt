@@ -20,6 +20,9 @@ no-options-requires c κs = search needs
 empty-requires : tie.Need-empty-requires Inv-loop μ-loop
 empty-requires c κs = search needs
 
+begin-requires : tie.Need-begin-requires Inv-loop μ-loop
+begin-requires c κs = search needs
+
 new-requires : tie.Need-new-requires Inv-loop μ-loop
 new-requires c κs = search needs
 
@@ -65,6 +68,7 @@ play-spec =
     blank-requires
     no-options-requires
     empty-requires
+    begin-requires
     new-requires
     loop-holds
     returns

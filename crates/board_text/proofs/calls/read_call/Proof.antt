@@ -1,17 +1,15 @@
--- A word that begins with `r` is a run or nothing; any other is taken apart at its first dash. Assumes nothing.
-use mathlib.Core.Path.{_≡_, sym, ap, ap₂, _∙_}
-use Prim.Native.Nat.{ℕ, suc, _+_}
-use native.Mathlib.Numerals.{add-one}
+-- A word that begins with `r` is a run or nothing, one that begins with `w` a pick or nothing; any other is a delivery or nothing. Assumes nothing.
+use mathlib.Core.Path.{_≡_, sym, ap, _∙_}
 use denote.Ref.{now}
 use native.Mathlib.Omega.{arith}
-use lib.ListN.{take, drop}
-use lib.Seq.{length-take-le}
 use borrow.Enum.Known.{lives-at}
 use Rattle.numerals.specs.declared.Number.the-variants.{Nothing}
 use Rattle.numerals.specs.Reading.{numberIn}
-use Rattle.board_text.specs.Reading.{dashIn, deliverFor, runFor}
 use Rattle.numerals.proofs.Number as Number
-use Rattle.board_text.proofs.Words.{call-empty, call-run, call-deliver, rest-of, call-dashless}
+use Rattle.board_text.specs.declared.calls.Ends.the-variants.{Missing}
+use Rattle.board_text.specs.Reading.{endsIn, deliverFor, pickFor, runFor}
+use Rattle.board_text.proofs.calls.Ends as Ends
+use Rattle.board_text.proofs.Words.{rest-of, call-empty, call-run, call-pick, call-deliver}
 use borrow.Author.Needs.{needs}
 use Rattle.board_text.proofs.calls.read_call.Statement.{statement}
 use Rattle.board_text.proofs.calls.read_call.Tie as tie
@@ -46,57 +44,74 @@ returns-2 c =
     let n = c .before .before in
     let word = now (n .before .before .before .before .before .before .args .word) in
     let e : n .read-number .result ≡ Nothing = lives-at Number.enum _ 1 (c .before .match .keys2) .1 in
-    sym (call-run word (omega arith) (n .before .before .if2 .taken) ∙ ap runFor (sym (rest-of word 1) ∙ sym (n .read-number .ensures) ∙ e))
+    sym (call-run word (omega arith) (n .before .before .if2 .taken) ∙ ap runFor (ap numberIn (sym (rest-of word 1)) ∙ sym (n .read-number .ensures) ∙ e))
 
 returns-3 : tie.Need-returns-3
 unfolding runFor
 returns-3 c =
     let n = c .before .before .before in
     let word = now (n .before .before .before .before .before .before .args .word) in
-    sym (call-run word (omega arith) (n .before .before .if2 .taken) ∙ ap runFor (sym (rest-of word 1) ∙ sym (n .read-number .ensures) ∙ c .before .rounds .given .1))
+    sym (call-run word (omega arith) (n .before .before .if2 .taken) ∙ ap runFor (ap numberIn (sym (rest-of word 1)) ∙ sym (n .read-number .ensures) ∙ c .before .rounds .given .1))
 
-dash-at-requires : tie.Need-dash-at-requires
-dash-at-requires c κs = search needs
+shared-slice-read-if3 : tie.Need-shared-slice-read-if3
+shared-slice-read-if3 c = search needs
+
+sub-read-ends : tie.Need-sub-read-ends
+sub-read-ends c = search needs
+
+part-read-ends-start : tie.Need-part-read-ends-start
+part-read-ends-start c = search needs
+
+part-read-ends-end : tie.Need-part-read-ends-end
+part-read-ends-end c = search needs
+
+read-ends-requires : tie.Need-read-ends-requires
+read-ends-requires c κs = search needs
+
+enum-known-a : tie.Need-enum-known-a
+enum-known-a c = search needs
+
+enum-told-2 : tie.Need-enum-told-2
+enum-told-2 c = search needs
 
 returns-4 : tie.Need-returns-4
+unfolding pickFor
 returns-4 c =
-    let d = c .before in
-    sym (call-dashless _ (omega arith) (d .before .if2 .left) (sym (d .dash-at .ensures .0) ∙ c .if3 .taken))
-
-slice-aggregate-read-number : tie.Need-slice-aggregate-read-number
-slice-aggregate-read-number c = sym (length-take-le _ _ (c .before .before .dash-at .ensures .1))
-
-read-number-requires-2 : tie.Need-read-number-requires-2
-read-number-requires-2 c κs = search needs
-
-add-read-number : tie.Need-add-read-number
-add-read-number c = search needs
-
-sub-read-number-2 : tie.Need-sub-read-number-2
-sub-read-number-2 c = search needs
-
-part-read-number-start-2 : tie.Need-part-read-number-start-2
-part-read-number-start-2 c = search needs
-
-part-read-number-end-2 : tie.Need-part-read-number-end-2
-part-read-number-end-2 c = search needs
-
-read-number-requires-3 : tie.Need-read-number-requires-3
-read-number-requires-3 c κs = search needs
-
-delivery-requires : tie.Need-delivery-requires
-delivery-requires c κs = search needs
+    let n = c .before .before in
+    let word = now (n .before .before .before .before .before .before .before .before .args .word) in
+    let e : n .read-ends .result ≡ Missing = lives-at Ends.enum _ 1 (c .before .match2 .keys2) .1 in
+    sym (call-pick word (omega arith) (n .before .before .before .before .if2 .left) (n .before .before .if3 .taken)
+    ∙ ap pickFor (ap endsIn (sym (rest-of word 1)) ∙ sym (n .read-ends .ensures) ∙ e))
 
 returns-5 : tie.Need-returns-5
+unfolding pickFor
 returns-5 c =
-    let d = c .before .before .before .before .before .before in
-    let word = now (d .before .before .before .before .before .args .word) in
-    let at = d .dash-at .ensures .0 in
-    let from : c .before .before .before .read-number2 .result ≡ numberIn (take (dashIn word) word) =
-    c .before .before .before .read-number2 .ensures ∙ ap (λ (k : ℕ). numberIn (take k word)) at in
-    let to : c .before .read-number3 .result ≡ numberIn (drop (suc (dashIn word)) word) =
-    c .before .read-number3 .ensures ∙ rest-of word (d .dash-at .result + 1) ∙ ap (λ (k : ℕ). numberIn (drop k word)) (add-one (d .dash-at .result) ∙ ap suc at) in
-    c .delivery .ensures ∙ ap₂ deliverFor from to ∙ sym (call-deliver word (omega arith) (d .before .if2 .left))
+    let n = c .before .before .before in
+    let word = now (n .before .before .before .before .before .before .before .before .args .word) in
+    sym (call-pick word (omega arith) (n .before .before .before .before .if2 .left) (n .before .before .if3 .taken)
+    ∙ ap pickFor (ap endsIn (sym (rest-of word 1)) ∙ sym (n .read-ends .ensures) ∙ c .before .a .given .1))
+
+read-ends-requires-2 : tie.Need-read-ends-requires-2
+read-ends-requires-2 c κs = search needs
+
+enum-known-a-2 : tie.Need-enum-known-a-2
+enum-known-a-2 c = search needs
+
+enum-told-3 : tie.Need-enum-told-3
+enum-told-3 c = search needs
+
+returns-6 : tie.Need-returns-6
+unfolding deliverFor
+returns-6 c =
+    let n = c .before .before in
+    let e : n .read-ends2 .result ≡ Missing = lives-at Ends.enum _ 1 (c .before .match3 .keys2) .1 in
+    sym (call-deliver _ (omega arith) (n .before .before .before .if2 .left) (n .before .if3 .left) ∙ ap deliverFor (sym (n .read-ends2 .ensures) ∙ e))
+
+returns-7 : tie.Need-returns-7
+unfolding deliverFor
+returns-7 c =
+    let n = c .before .before .before in
+    sym (call-deliver _ (omega arith) (n .before .before .before .if2 .left) (n .before .if3 .left) ∙ ap deliverFor (sym (n .read-ends2 .ensures) ∙ c .before .a2 .given .1))
 
 pub read-call-spec : {M : Type 1} → statement M
 read-call-spec =
@@ -112,14 +127,17 @@ read-call-spec =
     enum-told
     returns-2
     returns-3
-    dash-at-requires
+    shared-slice-read-if3
+    sub-read-ends
+    part-read-ends-start
+    part-read-ends-end
+    read-ends-requires
+    enum-known-a
+    enum-told-2
     returns-4
-    slice-aggregate-read-number
-    read-number-requires-2
-    add-read-number
-    sub-read-number-2
-    part-read-number-start-2
-    part-read-number-end-2
-    read-number-requires-3
-    delivery-requires
-    returns-5)
+    returns-5
+    read-ends-requires-2
+    enum-known-a-2
+    enum-told-3
+    returns-6
+    returns-7)

@@ -1,12 +1,12 @@
--- Two numbers that are bytes are a delivery. Assumes nothing.
+-- Two numbers that are bytes are the ends of a line. Assumes nothing.
 use mathlib.Core.Path.{_≡_, sym}
 use borrow.Enum.Known.{lives-at}
 use Rattle.numerals.specs.declared.Number.the-variants.{Nothing}
 use Rattle.numerals.proofs.Number as Number
 use Rattle.board_text.proofs.Words.{no-sender, no-receiver, sender-high, receiver-high, both-bytes}
 use borrow.Author.Needs.{needs}
-use Rattle.board_text.proofs.calls.delivery.Statement.{statement}
-use Rattle.board_text.proofs.calls.delivery.Tie as tie
+use Rattle.board_text.proofs.calls.both_ends.Statement.{statement}
+use Rattle.board_text.proofs.calls.both_ends.Tie as tie
 
 enum-known-from : tie.Need-enum-known-from
 enum-known-from c = search needs
@@ -50,8 +50,8 @@ returns-5 c =
     rw (c .before .before .before .before .before .before .from .given .1, c .before .before .before .to .given .1)
     (sym (both-bytes _ _ (c .before .if1 .left) (c .if2 .left)))
 
-pub delivery-spec : {M : Type 1} → statement M
-delivery-spec =
+pub both-ends-spec : {M : Type 1} → statement M
+both-ends-spec =
     tie.close
     (tie.spec
     enum-known-from

@@ -1,0 +1,6 @@
+mod Ahead
+mod Searching
+mod Delivering
+mod Standing
+mod Turning
+mod Picking

@@ -1,0 +1,17 @@
+// Random numbers, the same ones in each run.
+ghost use Prim.Native.Nat.{_-_, _≤_};
+
+// Lehmer's generator: the state after this one.
+pub fn next(state: u64) -> u64 {
+    state % 2147483647 * 48271 % 2147483647
+}
+
+// A number below `below`, and 0 where there is none.
+pub fn draw(state: u64, below: u8) -> u8
+    ensures { λ r. ⌜ r ≤ below - 1 ⌝ }
+{
+    if below == 0 {
+        return 0;
+    }
+    (state % below as u64) as u8
+}
