@@ -52,13 +52,32 @@ pub const DIFFERS: usize = 22;
 
 pub const LAST: usize = 23;
 
+// Streams of sheets.
+pub const ADD: usize = 24;
+
+pub const ALL: usize = 25;
+
+pub const RAW: usize = 26;
+
+pub const SEASON: usize = 27;
+
 // The kind of a line whose word begins with s and then this letter.
 fn kind_by_second(b: u8) -> usize {
     match b {
         b'l' => SLOTS,
         b't' => START,
         b'a' => SAME,
+        b'e' => SEASON,
         _ => UNKNOWN,
+    }
+}
+
+// The kind of a line whose word begins with r and then this letter.
+fn kind_by_r(b: u8) -> usize {
+    match b {
+        b'u' => RUN,
+        b'a' => RAW,
+        _ => REFUSED,
     }
 }
 
@@ -74,13 +93,14 @@ fn kind_by_d(b: u8) -> usize {
 // The kind of a line whose word begins with the letters a and b.
 fn kind_by(a: u8, b: u8) -> usize {
     match a {
+        b'a' => if b == b'd' { ADD } else { ALL },
         b'c' => CASE,
         b's' => kind_by_second(b),
         b'b' => if b == b'o' { BOARD } else { BAN },
         b'e' => if b == b'n' { END } else { EACH },
         b'h' => HEX,
         b'z' => ZEROS,
-        b'r' => if b == b'u' { RUN } else { REFUSED },
+        b'r' => kind_by_r(b),
         b'k' => KEEP,
         b't' => TAKEN,
         b'd' => kind_by_d(b),

@@ -1,0 +1,4 @@
+pub mod Season
+pub mod Stream
+pub mod Claims
+pub mod Cases

@@ -1,0 +1,1 @@
+// Definitions and theorems alone: there are no functions here.
