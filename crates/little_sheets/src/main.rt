@@ -7,6 +7,8 @@ mod tallies;
 use keys::key;
 use little_sheet::little;
 use network::Network;
+use oracle::buffers::MARK;
+use oracle::buffers::untouched;
 use oracle::choices::settles;
 use oracle::choices::solvable;
 use oracle::reading::fault;
@@ -22,21 +24,6 @@ use tallies::judged;
 use tallies::report;
 use tallies::with_one;
 use tallies::with_rounds;
-
-// What stands in a buffer before a sheet is written.
-const MARK: u8 = 170;
-
-// From byte `from` on the buffer is as it was.
-fn untouched(bytes: &[u8], from: usize) -> bool {
-    let mut i = from;
-    while i < bytes.len() {
-        if bytes[i] != MARK {
-            return false;
-        }
-        i += 1;
-    }
-    true
-}
 
 // ---- the run
 

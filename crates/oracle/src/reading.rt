@@ -170,6 +170,26 @@ fn bans(s: &[u8], r: usize, c: Choice) -> bool {
     low == byte(s, at + 2) && high == byte(s, at + 3)
 }
 
+// Record r is one of scanners i and j.
+fn is_of(s: &[u8], r: usize, i: usize, j: usize) -> bool {
+    let at = record_at(r);
+    byte(s, at) == i && byte(s, at + 1) == j
+}
+
+// Some record of the chain, of scanners i and j, bans these slots.
+pub fn forbids(s: &[u8], i: usize, j: usize, c: Choice) -> bool {
+    let mut left = word(s, 4);
+    let mut r = word(s, 2);
+    while 0 < left && 0 < r {
+        if is_of(s, r, i, j) && bans(s, r, c) {
+            return true;
+        }
+        r = word(s, record_at(r) + 4);
+        left -= 1;
+    }
+    false
+}
+
 // No record of the chain bans these slots.
 pub fn obeys(s: &[u8], c: Choice) -> bool {
     let mut left = word(s, 4);

@@ -5,19 +5,11 @@ ghost use Prim.Native.Nat.{_+_, _≤_, _<_};
 ghost use lib.Dec.{eqb};
 ghost use lib.Signed.{leZ};
 ghost use Rattle.base.specs.Finite.{within};
-ghost use Rattle.problem.specs.Problem.{wordAt};
 ghost use Rattle.problem.specs.Row.{signed, between, gap};
 ghost use Rattle.sheet.specs.Parts.{Pairs, rowPairs, Good, Short, tableWith};
 use crate::header::domain;
+use crate::index::word_at;
 use crate::record::signed;
-
-// The word of lower agent i and higher agent j.
-fn word_at(i: usize, j: usize) -> usize
-    requires { ⌜ (1 ≤ i) × (i < j) × (j ≤ 12) ⌝ }
-    ensures { λ k. ⌜ (k ≡ wordAt i j) × (k < 66) ⌝ }
-{
-    (j - 1) * (j - 2) / 2 + (i - 1)
-}
 
 // The lower's value v with the higher's value w.
 fn one_pair(v: usize, w: usize) -> u64

@@ -6,6 +6,7 @@ ghost use Rattle.sheet.specs.Abstract.{outcome, outcomeOf, Sized};
 
 mod bans;
 mod header;
+pub mod index;
 mod record;
 mod walk;
 

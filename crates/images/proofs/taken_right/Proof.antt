@@ -1,4 +1,4 @@
--- The image is the first bytes; with those behind it, it is still within bounds, as no image is longer than the buffer.
+-- The image is the first bytes. It is no longer than the buffer, so that its length and sixteen fit.
 use mathlib.Core.Path.{sym}
 use native.Mathlib.Omega.{arith}
 use lib.Seq.{length-take-le}

@@ -3,8 +3,8 @@
 use native.Mathlib.Omega.{arith}
 use Rattle.sheet.proofs.Table.{word-index, products}
 use borrow.Author.Needs.{needs}
-use Rattle.sheet.proofs.bans.word_at.Statement.{statement}
-use Rattle.sheet.proofs.bans.word_at.Tie as tie
+use Rattle.sheet.proofs.index.word_at.Statement.{statement}
+use Rattle.sheet.proofs.index.word_at.Tie as tie
 
 sub-result : tie.Need-sub-result
 sub-result c = search needs

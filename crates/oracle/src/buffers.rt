@@ -1,0 +1,16 @@
+// A buffer that is lent to a writer, and whether it is as it was.
+
+// What stands in it before something is written.
+pub const MARK: u8 = 170;
+
+// From byte `from` on the buffer is as it was.
+pub fn untouched(bytes: &[u8], from: usize) -> bool {
+    let mut i = from;
+    while i < bytes.len() {
+        if bytes[i] != MARK {
+            return false;
+        }
+        i += 1;
+    }
+    true
+}

@@ -1,0 +1,4 @@
+pub mod Bans
+pub mod Gaps
+pub mod Turning
+pub mod Cases

@@ -1,0 +1,1 @@
+// Definitions of turning one edition of the sheet into the other; no code.

@@ -1,0 +1,9 @@
+pub mod Pairs
+pub mod Saying
+pub mod Bans
+pub mod Places
+pub mod Runs
+pub mod Sayable
+pub mod Gaps
+pub mod Decoding
+pub mod Theorems

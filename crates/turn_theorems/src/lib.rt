@@ -1,0 +1,1 @@
+// Theorems about turning one edition of the sheet into the other; no code.

@@ -1,0 +1,6 @@
+mod Runs
+mod Filling
+mod Marks
+mod Words
+mod Sheets
+mod Answers

@@ -1,0 +1,92 @@
+// Writing a sheet: the header, a record, the records, the whole.
+ghost use mathlib.Core.Path.{_≡_};
+ghost use mathlib.Core.Bool.{cond};
+ghost use mathlib.Core.List.{_++_};
+ghost use Prim.Native.Nat.{suc, _+_, _*_, _≤_, _<_};
+ghost use lib.ListN.{length, take, drop};
+ghost use lib.Dec.{ltb};
+ghost use Rattle.base.specs.Lent.{put};
+ghost use Rattle.problem.specs.Writing.{headerBytes, rowBytes, chained, written};
+ghost use Rattle.sheet.specs.Abstract.{problemOf};
+ghost use Rattle.lent.specs.Abstract.{writtenOf};
+ghost use Rattle.turning.specs.Rows.{rowIn, rowsIn, nextIndex};
+use lent::Written;
+use lent::put;
+use sheet::Problem;
+
+fn put_header(out: &mut [u8], edition: u8, p: Problem, records: usize)
+    requires { ⌜ (records ≤ 4224) × (24 ≤ length (now out)) × (length (p .domains) ≡ 12) ⌝ }
+    ensures { λ _. ⌜ now (out .exit)
+        ≡ headerBytes edition (p .count) (cond (ltb 0 records) 1 0) records (p .domains) ++ drop 24 (now (out .entry)) ⌝ }
+{
+    let first = if 0 < records { 1 } else { 0 };
+    let front = [
+        p.count,
+        edition,
+        first,
+        0,
+        (records % 256) as u8,
+        (records / 256) as u8,
+        0,
+        0,
+    ];
+    let slots = p.domains;
+    let zeros = [0u8; 4];
+    put(out, 0, &front);
+    put(out, 8, &slots);
+    put(out, 20, &zeros);
+}
+
+// The row that x packs as record r + 1 of so many; the last ends the chain.
+fn put_record(out: &mut [u8], r: usize, records: usize, x: u32)
+    requires { ⌜ (r < records) × (records ≤ 4224) × (24 + 8 * records ≤ length (now out)) ⌝ }
+    ensures { λ _. ⌜ now (out .exit)
+        ≡ take (24 + 8 * r) (now (out .entry)) ++ rowBytes (rowIn x) (nextIndex r records) ++ drop (24 + 8 * suc r) (now (out .entry)) ⌝ }
+{
+    let next = if r + 1 < records { r + 2 } else { 0 };
+    let bytes = [
+        (x % 256) as u8,
+        (x / 256 % 256) as u8,
+        (x / 256 / 256 % 256) as u8,
+        (x / 256 / 256 / 256 % 256) as u8,
+        (next % 256) as u8,
+        (next / 256 % 256) as u8,
+        0,
+        0,
+    ];
+    put(out, 24 + 8 * r, &bytes);
+}
+
+// The first so many rows, behind the header.
+fn put_records(out: &mut [u8], rows: &[u32], records: usize)
+    requires { ⌜ (records ≤ 4224) × (records ≤ length (now rows)) × (24 + 8 * records ≤ length (now out)) ⌝ }
+    ensures { λ _. ⌜ now (out .exit)
+        ≡ take 24 (now (out .entry)) ++ chained 0 (rowsIn (now (rows .entry)) records) ++ drop (24 + 8 * records) (now (out .entry)) ⌝ }
+{
+    let mut r: usize = 0;
+    while r < records {
+        put_record(out, r, records, rows[r]);
+        r += 1;
+    }
+}
+
+// The sheet of this edition with p's n and slot counts and the first so many rows, where there is room.
+pub fn put_sheet(out: &mut [u8], edition: u8, p: Problem, rows: &[u32], records: usize) -> Written
+    requires { ⌜ (records ≤ 4224) × (records ≤ length (now rows)) × (length (p .domains) ≡ 12) ⌝ }
+    ensures { λ w. ⌜ writtenOf w (now (out .exit))
+        ≡ put (written edition (problemOf p) (rowsIn (now (rows .entry)) records)) (now (out .entry)) ⌝ }
+{
+    let length = 24 + 8 * records;
+    if out.len() < length {
+        return Written {
+            number: 12,
+            length: 0,
+        };
+    }
+    put_header(out, edition, p, records);
+    put_records(out, rows, records);
+    Written {
+        number: 0,
+        length: length,
+    }
+}
