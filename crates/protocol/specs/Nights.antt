@@ -1,4 +1,4 @@
--- The worked nights of docs/RULES.md that are marked P, and eleven more: scripts of calls and of what must be seen between them.
+-- The worked nights of docs/RULES.md that are marked P, eleven more and three of the start's rule: scripts of calls and of what must be seen between them.
 use Prim.Native.Nat.{ℕ, zero, suc}
 use mathlib.Core.Path.{_≡_}
 use mathlib.Core.Bool.{Bool, true, false, _&&_}
@@ -243,62 +243,6 @@ nights =
     Tries (tried 1 2 10 ++ gather 8 1 (λ k. tried 2 1 0))
     ∷ Runs 1 Open 0 ∷ Waiting 1 2 (replicate 8 (Info 1)) ∷ Waiting 2 1 [] ∷ [])
     ∷ Forged (crowded 2) (Runs 4 Plan 3 ∷ Values (2 ∷ 1 ∷ []) ∷ [])
-    ∷ []
-
--- ---- nights under the quiet rule
-
--- agent 2, refused by 3, backs up and takes its only value again: under rule 2 agent 4, which knows it, is not told
-unfoldable pub sheetSilent : List ℕ
-sheetSilent = sheet (2 ∷ 1 ∷ 2 ∷ 1 ∷ []) (ban 1 1 3 1 ∷ ban 2 1 3 2 ∷ ban 2 1 4 1 ∷ [])
-
--- under rule 1 agent 2 tells 3 its value a second time, and 3 refuses once more
-unfoldable pub sheetSooner : List ℕ
-sheetSooner = sheet (2 ∷ 1 ∷ 2 ∷ []) (ban 1 1 2 1 ∷ ban 1 1 3 1 ∷ ban 2 1 3 2 ∷ [])
-
--- with the refuser forgotten while agent 2 backs up, it would rest on 2 at 1 with 3 at 1
-unfoldable pub sheetForgotten : List ℕ
-sheetForgotten = sheet (2 ∷ 1 ∷ 2 ∷ []) (ban 1 1 3 2 ∷ ban 2 1 3 1 ∷ [])
-
-unfoldable pub quietNights : List Night
-quietNights =
-    -- P1, P2, P3 and P5 end as under rule 1
-    Quietly sheet1 (Runs 100000 Plan 0 ∷ Values (1 ∷ []) ∷ [])
-    ∷ Quietly sheet2 (Runs 100000 None 2 ∷ Delivers 1 2 7 ∷ [])
-    ∷ Quietly sheet3 (Runs 100000 Plan 1 ∷ Values (1 ∷ 2 ∷ []) ∷ Delivers 1 2 8 ∷ [])
-    ∷ Quietly sheet5 (Runs 100000 Plan 3 ∷ Values (2 ∷ 1 ∷ []) ∷ [])
-    -- P9, with the same messages
-    ∷ Quietly sheet9 (
-    Waiting 1 3 (Info 1 ∷ []) ∷ Waiting 2 3 (Info 1 ∷ [])
-    ∷ Runs 1 Open 1 ∷ Waiting 2 3 []
-    ∷ Runs 1 Open 1 ∷ Waiting 2 1 (AddLink ∷ Back empty 1 ∷ []) ∷ Waiting 2 3 (Info 1 ∷ [])
-    ∷ Runs 1 Open 1 ∷ Waiting 2 3 []
-    ∷ Runs 1 Open 1 ∷ Waiting 2 3 (Info 1 ∷ [])
-    ∷ Runs 1 Plan 1 ∷ Values (2 ∷ 1 ∷ 1 ∷ [])
-    ∷ Counted 1 (4 ∷ 0 ∷ 0 ∷ []) (0 ∷ 1 ∷ 1 ∷ [])
-    ∷ Counted 2 (3 ∷ 1 ∷ 1 ∷ []) (2 ∷ 2 ∷ 0 ∷ [])
-    ∷ Counted 3 (0 ∷ 2 ∷ 0 ∷ []) (5 ∷ 0 ∷ 0 ∷ []) ∷ [])
-    -- the slot is new, and the refuser is told it once
-    ∷ Quietly sheet5 (Delivers 1 2 0 ∷ Delivers 2 1 0 ∷ Waiting 1 2 (Info 2 ∷ []) ∷ [])
-    -- the slot is the old one: the refuser is told, the other is not; under rule 1 both are
-    ∷ Quietly sheetSilent (
-    Delivers 1 3 0 ∷ Delivers 2 3 0 ∷ Delivers 2 4 0 ∷ Delivers 3 2 0
-    ∷ Waiting 2 3 (Info 1 ∷ []) ∷ Waiting 2 4 [] ∷ [])
-    ∷ Played sheetSilent (
-    Delivers 1 3 0 ∷ Delivers 2 3 0 ∷ Delivers 2 4 0 ∷ Delivers 3 2 0
-    ∷ Waiting 2 3 (Info 1 ∷ []) ∷ Waiting 2 4 (Info 1 ∷ []) ∷ [])
-    -- the same word and slots, sooner and with fewer messages: 11 under rule 1, 8 under rule 2
-    ∷ Played sheetSooner (
-    Runs 100000 Plan 4 ∷ Values (2 ∷ 1 ∷ 1 ∷ [])
-    ∷ Counted 1 (4 ∷ 0 ∷ 0 ∷ []) (0 ∷ 1 ∷ 0 ∷ [])
-    ∷ Counted 2 (4 ∷ 1 ∷ 0 ∷ []) (2 ∷ 2 ∷ 0 ∷ [])
-    ∷ Counted 3 (0 ∷ 2 ∷ 0 ∷ []) (6 ∷ 0 ∷ 0 ∷ []) ∷ [])
-    ∷ Quietly sheetSooner (
-    Runs 100000 Plan 3 ∷ Values (2 ∷ 1 ∷ 1 ∷ [])
-    ∷ Counted 1 (4 ∷ 0 ∷ 0 ∷ []) (0 ∷ 1 ∷ 0 ∷ [])
-    ∷ Counted 2 (2 ∷ 1 ∷ 0 ∷ []) (2 ∷ 1 ∷ 0 ∷ [])
-    ∷ Counted 3 (0 ∷ 1 ∷ 0 ∷ []) (4 ∷ 0 ∷ 0 ∷ []) ∷ [])
-    -- the refuser stays the one whose refusal is worked, whoever is refused in turn
-    ∷ Quietly sheetForgotten (Runs 100000 Plan 5 ∷ Values (2 ∷ 1 ∷ 2 ∷ []) ∷ [])
     -- "a rule other than 1 or 2 is refused with 11, before the sheet is looked at": of no bytes at all
     ∷ Turned 0 sheet1 11
     ∷ Turned 3 [] 11

@@ -1,0 +1,1 @@
+// The worked nights under the quiet rule; no code.
