@@ -17,7 +17,7 @@ use Rattle.problem.specs.Sheet.{headerLength, recordLength}
 use Rattle.problem.specs.Writing.{twoBytes, headerBytes, rowBytes, indexAfter, chained, written}
 use Rattle.problem.proofs.Writing.{chained-length, writes-length}
 use Rattle.lent.proofs.Over.{over, over-nothing, over-over}
-use Rattle.turning.specs.Rows.{rowIn, rowsIn, nextIndex}
+use Rattle.sheet_writer.specs.Rows.{rowIn, rowsIn, nextIndex}
 
 -- ---- the header
 
