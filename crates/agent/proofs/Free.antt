@@ -10,7 +10,7 @@ use lib.Bits.{bitAnd, bitOr, and-le-l, or-lt}
 use lib.Pow.{shr-lt}
 use Rattle.base.specs.Bits.{bit}
 use Rattle.base.specs.Finite.{isSome, lowest, fromOne}
-use Rattle.base.proofs.Bits.{bit-or, bit-and}
+use Rattle.base.proofs.Bits.{bit-or, bit-and, bit-not}
 use Rattle.base.proofs.Peeling.{bit-shr}
 use Rattle.base.proofs.Tests.{test, opt, both}
 use Rattle.base.proofs.Search.{lowest-some, lowest-range}
@@ -27,7 +27,7 @@ use Rattle.agent.specs.Parts.{nogoodsOf, leftFree}
 use Rattle.agent.specs.declared.Own.{Own}
 use Rattle.agent.specs.declared.Bars.{Bars}
 use Rattle.agent.proofs.Barrings.{first-barring}
-use Rattle.packed.proofs.Bitwise.{bit-not, bit-ones}
+use Rattle.packed.proofs.Bitwise.{bit-ones}
 use Rattle.packed.proofs.Masks.{mask-is}
 use Rattle.agent.proofs.Records.{nogood-stored, nogood-none}
 

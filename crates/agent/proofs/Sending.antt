@@ -19,6 +19,7 @@ use Rattle.agent_rules.specs.Message.{known, Message as Message′, Info as Inf
 use Rattle.agent_rules.specs.Agent.{Bans, Step as Step′}
 use Rattle.agent_rules.specs.Choosing.{refusing}
 use Rattle.agent_rules.specs.Shape.{maxNamed, EachNamed, EachIn}
+use Rattle.agent_rules.proofs.Assignments.{unknown-zero}
 use Rattle.packed.specs.Packed.{digit, assignment, members}
 use Rattle.agent.specs.Abstract.{assigned}
 use Rattle.agent.specs.Posting.{postIf, postsTo, linksTo, newsTo, backOf, backsFrom, postsLeft, Ready, stepOf}
@@ -26,7 +27,6 @@ use Rattle.agent.specs.Entries.{OwnFits, Above, Below, Barring, isOther,
 use Rattle.agent.specs.declared.Own.{Own}
 use Rattle.agent.specs.declared.Posts.{Posts}
 use Rattle.agent.specs.declared.Step.{Step}
-use Rattle.packed.proofs.Known.{known-false}
 use Rattle.packed.proofs.Wordwise.{short}
 use Rattle.agent.proofs.Named.{highest-named, named-some}
 
@@ -43,7 +43,7 @@ unfolding assignment fromOne maxNamed
 refuses own x k h few above e =
     record {
       some = named-some x k e;
-      short = short 12 16 x h (λ k l u. test (known (digit x k)) (λ t. absurd (omega (arith, above (suc k) (omega arith) u t))) (λ t. known-false (digit x k) t));
+      short = short 12 16 x h (λ k l u. test (known (digit x k)) (λ t. absurd (omega (arith, above (suc k) (omega arith) u t))) (λ t. unknown-zero (digit x k) t));
       above = above;
     }
 

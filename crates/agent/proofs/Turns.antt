@@ -18,6 +18,7 @@ use Rattle.agent_rules.specs.Message.{Assignment, known, Post as Post′}
 use Rattle.agent_rules.specs.Agent.{Bans, Nogoods, Agent as Agent′, withLast}
 use Rattle.agent_rules.specs.Choosing.{choice, tells, chosen, union, refusing, forget, after, settle, checkView}
 use Rattle.agent_rules.specs.Shape.{maxNamed}
+use Rattle.agent_rules.proofs.Assignments.{known-zero}
 use Rattle.packed.specs.Packed.{assignment, members, numberOf, maskFrom}
 use Rattle.agent.specs.Abstract.{byteOf, assigned, noneCounted, countsOf, agentOf, selfOf}
 use Rattle.agent.specs.Posting.{linksTo, newsTo, backOf, backsFrom, postsLeft, stepOf}
@@ -69,10 +70,6 @@ withValue s v last = record { value = v; last = last; stored = s .stored; listen
 abbrev withStored : State → ℕ → State
 withStored s stored =
     record { value = s .value; last = s .last; stored = stored; listens = s .listens; informs = s .informs; view = s .view; bars = s .bars }
-
-unknown-none : known 0 ≡ false
-unfolding known
-unknown-none = refl
 
 value-none : valueOf 0 ≡ none
 unfolding valueOf
@@ -165,7 +162,7 @@ module _ (own : Own) (fits : OwnFits own) (refuser : ℕ) (s₀ : State) (nogood
         StepsAs own bans (stepWith (ended (withStored s stored) w 0 links count) new backs)
         (after (linksTo links) (checkView (selfOf own) bans refuser (agentIn s₀ nogoods₀))))
         z
-        (rw (ap known z ∙ unknown-none)
+        (rw (ap known z ∙ known-zero)
         (ends 0 (s .last) true [] (none-in (λ k. (own .number < k) × (k ≤ maxAgents))) (news-none v)
         (goes
         ∙ turn-failed (own .number - count - 1) (selfOf own) bans refuser (agentIn s nogoods) (linksTo links ++ backsFrom 0 count backs) (nogoodsOf stored new)

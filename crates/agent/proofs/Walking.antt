@@ -12,12 +12,13 @@ use Rattle.base.proofs.Search.{at-same, at-other}
 use Rattle.problem.specs.Problem.{maxDomain}
 use Rattle.agent_rules.specs.Message.{Assignment, known, nobody}
 use Rattle.agent_rules.specs.Shape.{maxNamed}
+use Rattle.agent_rules.proofs.Assignments.{unknown-zero}
 use Rattle.agent.specs.Abstract.{byteOf, bansIn}
 use Rattle.agent.specs.Entries.{Able, ViewFits, Barring}
 use Rattle.agent.specs.Parts.{barredAt}
 use Rattle.agent.specs.declared.Bars.{Bars}
 use Rattle.agent.specs.declared.Own.{Own}
-use Rattle.packed.proofs.Known.{known-true, known-false}
+use Rattle.packed.proofs.Known.{known-true}
 use Rattle.agent.proofs.Barrings.{seen, barred-at-bits, nothing-barred}
 
 -- the view less the agents that are left
@@ -33,7 +34,7 @@ unfolding less
 walk-begins words view =
     record {
       left = λ k e. refl;
-      barring = nothing-barred (bansIn words) (less view view) (λ k l h. test (known (view k)) (λ t. rw t) (λ t. rw t (known-false (view k) t)));
+      barring = nothing-barred (bansIn words) (less view view) (λ k l h. test (known (view k)) (λ t. rw t) (λ t. rw t (unknown-zero (view k) t)));
     }
 
 pub walk-ends : (words : List ℕ) (view : Assignment) (b : Bars) → Walked words view b nobody → Barring (bansIn words) view b

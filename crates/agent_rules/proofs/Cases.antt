@@ -2,8 +2,8 @@
 use mathlib.Core.Path.{_≡_, refl}
 use mathlib.Core.Bool.{true}
 use Rattle.base.specs.Finite.{at, fromOne, lowest, highest, allTo, gather, isSome}
+use Rattle.base.specs.Same.{sameBool}
 use Rattle.problem.specs.Problem.{maxAgents, maxDomain}
-use Rattle.problem.specs.Cases.{sameBool}
 use Rattle.agent_rules.specs.Message.{known, nobody}
 use Rattle.agent_rules.specs.Counts.{noCounts, ofSort, number, messageIn, messagesIn, top, raised, counting}
 use Rattle.agent_rules.specs.Agent.{noNogoods, unusedAgent, above, agrees}

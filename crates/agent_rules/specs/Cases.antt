@@ -7,8 +7,8 @@ use mathlib.Core.List.{List, [], _∷_}
 use lib.ListN.{getD}
 use lib.Dec.{eqb}
 use Rattle.base.specs.Finite.{fromOne, allTo}
+use Rattle.base.specs.Same.{sameBool}
 use Rattle.problem.specs.Problem.{maxAgents, maxDomain}
-use Rattle.problem.specs.Cases.{sameBool}
 use Rattle.agent_rules.specs.Message.{Assignment, Message, Info, Back, AddLink, Post}
 use Rattle.agent_rules.specs.Counts.{Sort, Infos, Backs, AddLinks, Counts}
 use Rattle.agent_rules.specs.Agent.{Self, Bans, Nogoods, Agent, Step, withLast, withCounts}

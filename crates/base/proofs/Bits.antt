@@ -2,7 +2,7 @@
 -- All by halving: bit k + 1 of x is bit k of x / 2.
 use mathlib.Core.Path.{_≡_, refl, sym, ap, _∙_}
 use mathlib.Core.Logic.{_≢_}
-use mathlib.Core.Bool.{Bool, true, false, false≢true, cond, _&&_, _||_, or-true, or-false}
+use mathlib.Core.Bool.{Bool, true, false, false≢true, not, cond, _&&_, _||_, or-true, or-false}
 use Prim.Native.Nat.{ℕ, zero, suc, _+_, _-_, _*_, _/_, _%_, _^_, _≤_, _<_}
 use native.Mathlib.Nat.{pow-suc, pow-succ', div-div-eq-div-mul, div-one, not-suc-le-zero, mul-div-cancel}
 use native.Mathlib.Omega.{arith}
@@ -131,6 +131,20 @@ and-bits (suc (suc a)) b h k = absurd (omega arith)
 pub bit-and : (x y k : ℕ) → bit (bitAnd x y) k ≡ bit x k && bit y k
 unfolding bit
 bit-and x y k = rw (and-shr x y k, and-mod (x / 2 ^ k) (y / 2 ^ k) 1) (and-bits (x / 2 ^ k % 2) (y / 2 ^ k % 2) (omega arith) (omega arith))
+
+-- all bits below 2 ^ n turned round
+pub bit-not : (n x k : ℕ) → x < 2 ^ n → k < n → bit (2 ^ n - 1 - x) k ≡ not (bit x k)
+bit-not zero x k h l = absurd (not-suc-le-zero l)
+bit-not (suc n) x zero h l =
+    let g : x < 2 ^ n * 2 = rw pow-suc at h in
+    rw (bit-zero (2 ^ suc n - 1 - x), bit-zero x, pow-suc 2 n)
+    (test (eqb (x % 2) 1)
+    (λ e. rw e (ne-eqb ((2 ^ n * 2 - 1 - x) % 2) 1 (λ z. omega (arith, eqb-true (x % 2) 1 e))))
+    (λ e. rw e (eq-eqb ((2 ^ n * 2 - 1 - x) % 2) 1 (omega (arith, eqb-false (x % 2) 1 e)))))
+bit-not (suc n) x (suc k) h l =
+    let g : x < 2 ^ n * 2 = rw pow-suc at h in
+    let d : (2 ^ n * 2 - 1 - x) / 2 ≡ 2 ^ n - 1 - x / 2 = omega arith in
+    rw (bit-suc (2 ^ suc n - 1 - x) k, bit-suc x k, pow-suc 2 n, d) (bit-not n (x / 2) k (omega arith) (omega arith))
 
 -- bit j of the n bits of x from a on
 pub bit-field : (x a n j : ℕ) → j < n → bit (x / 2 ^ a % 2 ^ n) j ≡ bit x (a + j)

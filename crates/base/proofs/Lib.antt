@@ -1,4 +1,5 @@
 pub mod Tests
+pub mod Same
 pub mod Search
 pub mod Lists
 pub mod Counting

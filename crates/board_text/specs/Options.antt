@@ -5,7 +5,7 @@ use mathlib.Core.Bool.{Bool, true, false, not, _&&_, _||_}
 use mathlib.Core.List.{List, [], _∷_}
 use lib.Dec.{eqb}
 use lib.ListN.{getD}
-use Rattle.problem.specs.Cases.{sameNumbers}
+use Rattle.base.specs.Same.{sameNumbers}
 use Rattle.protocol.specs.Network.{isRule}
 use Rattle.numerals.specs.declared.Number.{Number}
 use Rattle.numerals.specs.declared.Number.the-variants.{Of, Nothing}

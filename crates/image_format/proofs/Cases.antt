@@ -5,6 +5,7 @@ use mathlib.Core.Bool.{true}
 use lib.Dec.{eqb}
 use Rattle.base.specs.Finite.{at, fromOne, within, lowest, highest, allTo, every, any, gather, sum, isSome, each}
 use Rattle.base.specs.Bits.{bit, withBit}
+use Rattle.base.specs.Same.{sameNumbers}
 use Rattle.problem.specs.Problem.{maxAgents, maxDomain, maxPairs, domain, owns, pairsBefore, wordAt, bitAt, isPair, banned, linked, noBans, countInRange, domainInRange, wordOwned, bansOwned, sized, inRange, emptyProblem, withTable, withBits, withBans}
 use Rattle.problem.specs.Sheet.{faultNumber, headerLength, recordLength, maxRecords, byteAt, wordFrom, agentsIn, firstIn, recordsIn, domainsIn, withoutBans, headerGood, recordStart, nextOf, recordGood, walk, decode, rowAt, rowOf, editionIn}
 use Rattle.agent_rules.specs.Message.{known, nobody, sentTo}
@@ -20,7 +21,7 @@ use Rattle.protocol.specs.Run.{isLine, isEmpty, idle, visits, beginRound, stopp
 use Rattle.protocol.specs.Nights.{sheet9}
 use Rattle.problem.specs.Row.{agentsGood, valuesGood, signed, between, gapsGood, fieldsGood, rowGood, gap, hits, withRow}
 use Rattle.packed.specs.Packed.{members, maskFrom}
-use Rattle.image_format.specs.Bytes.{bytesOf, numberIn, stretch, sameBytes}
+use Rattle.image_format.specs.Bytes.{bytesOf, numberIn, stretch}
 use Rattle.image_format.specs.Image.{slots, byteFor, firstForm, headerBytes as headerBytes′, banBytes, maskBytes, reasonBytes, countBytes, agentBytes, allLines, numberAfter, headsFrom, noSlots, messageBytes, chainFrom, messagesFrom, image}
 use Rattle.image_format.specs.Reading.{headerLength as headerLength′, bansLength, agentLength, headsLength, messageLength, agentsStart, headsStart, messagesStart, slotsIn, reasonIn, countsIn, reasonsIn, agentIn, banPlace, banIn, bansIn, problemIn, messageIn as messageIn′, nextIn, chainIn, lineIn, linesIn, lineCount, channelIn, agentsIn as agentsIn′, parse, badImage, isImage, load}
 use Rattle.protocol.specs.Lines.{isChannel, channelAt}
@@ -32,7 +33,7 @@ unfolding at within lowest highest allTo every any gather isSome each bit withBi
 written-nine = refl
 
 read-nine : load image9 .number ≡ 0
-unfolding fromOne within allTo every gather isSome bit maxAgents maxDomain maxPairs domain owns pairsBefore wordAt bitAt isPair linked noBans countInRange domainInRange wordOwned bansOwned sized inRange emptyProblem known nobody noCounts eachSort eachCount top noNogoods unusedAgent maxNamed emptyNetwork isRule capacity eachNamed eachIn holdsValue lastFits listensUpward informsDownward linkedListen informedListen viewListened nogoodFits nogoodsFit countsFit unused agentInShape lhsFits messageFits hasRoom oneRequest channelInShape inShape maskFrom bytesOf slots byteFor firstForm headerBytes′ banBytes maskBytes reasonBytes countBytes agentBytes allLines numberAfter headsFrom noSlots messageBytes chainFrom messagesFrom image zeros small header9 bans9 first9 second9 third9 heads9 messages9 image9 headerLength′ bansLength agentLength headsLength messageLength agentsStart headsStart messagesStart slotsIn reasonIn countsIn reasonsIn agentIn banPlace banIn bansIn problemIn messageIn′ nextIn chainIn lineIn linesIn lineCount channelIn agentsIn′ parse badImage isImage load numberIn stretch sameBytes isChannel channelAt members sum number ofSort
+unfolding fromOne within allTo every gather isSome bit maxAgents maxDomain maxPairs domain owns pairsBefore wordAt bitAt isPair linked noBans countInRange domainInRange wordOwned bansOwned sized inRange emptyProblem known nobody noCounts eachSort eachCount top noNogoods unusedAgent maxNamed emptyNetwork isRule capacity eachNamed eachIn holdsValue lastFits listensUpward informsDownward linkedListen informedListen viewListened nogoodFits nogoodsFit countsFit unused agentInShape lhsFits messageFits hasRoom oneRequest channelInShape inShape maskFrom bytesOf slots byteFor firstForm headerBytes′ banBytes maskBytes reasonBytes countBytes agentBytes allLines numberAfter headsFrom noSlots messageBytes chainFrom messagesFrom image zeros small header9 bans9 first9 second9 third9 heads9 messages9 image9 headerLength′ bansLength agentLength headsLength messageLength agentsStart headsStart messagesStart slotsIn reasonIn countsIn reasonsIn agentIn banPlace banIn bansIn problemIn messageIn′ nextIn chainIn lineIn linesIn lineCount channelIn agentsIn′ parse badImage isImage load numberIn stretch sameNumbers isChannel channelAt members sum number ofSort
 read-nine = refl
 
 -- what is read has the image that P9's rail has
@@ -40,5 +41,5 @@ pub same-nine : image (load image9 .network) ≡ image network9
 same-nine = reads-only-images image9 .taken read-nine .0 ∙ sym written-nine
 
 pub none-read : every (λ s. eqb (load s .number) 13) noImages9 ≡ true
-unfolding fromOne within allTo every gather isSome bit maxAgents maxDomain maxPairs domain owns pairsBefore wordAt bitAt isPair linked noBans countInRange domainInRange wordOwned bansOwned sized inRange emptyProblem known nobody noCounts eachSort eachCount top noNogoods unusedAgent maxNamed emptyNetwork isRule capacity eachNamed eachIn holdsValue lastFits listensUpward informsDownward linkedListen informedListen viewListened nogoodFits nogoodsFit countsFit unused agentInShape lhsFits messageFits hasRoom oneRequest channelInShape inShape maskFrom bytesOf slots byteFor firstForm headerBytes′ banBytes maskBytes reasonBytes countBytes agentBytes allLines numberAfter headsFrom noSlots messageBytes chainFrom messagesFrom image zeros small header9 bans9 first9 second9 third9 heads9 messages9 image9 headerLength′ bansLength agentLength headsLength messageLength agentsStart headsStart messagesStart slotsIn reasonIn countsIn reasonsIn agentIn banPlace banIn bansIn problemIn messageIn′ nextIn chainIn lineIn linesIn lineCount channelIn agentsIn′ parse badImage isImage load numberIn stretch sameBytes isChannel channelAt members sum turned9 noImages9 number ofSort
+unfolding fromOne within allTo every gather isSome bit maxAgents maxDomain maxPairs domain owns pairsBefore wordAt bitAt isPair linked noBans countInRange domainInRange wordOwned bansOwned sized inRange emptyProblem known nobody noCounts eachSort eachCount top noNogoods unusedAgent maxNamed emptyNetwork isRule capacity eachNamed eachIn holdsValue lastFits listensUpward informsDownward linkedListen informedListen viewListened nogoodFits nogoodsFit countsFit unused agentInShape lhsFits messageFits hasRoom oneRequest channelInShape inShape maskFrom bytesOf slots byteFor firstForm headerBytes′ banBytes maskBytes reasonBytes countBytes agentBytes allLines numberAfter headsFrom noSlots messageBytes chainFrom messagesFrom image zeros small header9 bans9 first9 second9 third9 heads9 messages9 image9 headerLength′ bansLength agentLength headsLength messageLength agentsStart headsStart messagesStart slotsIn reasonIn countsIn reasonsIn agentIn banPlace banIn bansIn problemIn messageIn′ nextIn chainIn lineIn linesIn lineCount channelIn agentsIn′ parse badImage isImage load numberIn stretch sameNumbers isChannel channelAt members sum turned9 noImages9 number ofSort
 none-read = refl

@@ -5,15 +5,15 @@ use mathlib.Core.Path.{_≡_, sym, ap, _∙_}
 use mathlib.Core.Bool.{true}
 use mathlib.Core.List.{List}
 use native.Mathlib.Omega.{arith}
+use Rattle.base.specs.Same.{sameNumbers}
 use Rattle.base.proofs.Tests.{test, both, to-both}
+use Rattle.base.proofs.Same.{numbers-itself, same-numbers}
 use Rattle.protocol.specs.Network.{Network, emptyNetwork}
 use Rattle.protocol.specs.Shape.{inShape}
-use Rattle.image_format.specs.Bytes.{sameBytes}
 use Rattle.image_format.specs.Image.{image}
 use Rattle.image_format.specs.Reading.{parse, badImage, isImage, load}
 use Rattle.image_format.specs.Plain.{Plain}
 use Rattle.image_format.specs.Claims.{ReadsBack, OneRail, ReadsOnlyImages}
-use Rattle.image_format.proofs.Bytes.{same-itself, same-true}
 use Rattle.image_format.proofs.Parsing.{parts}
 use Rattle.image_format.proofs.Plainness.{parse-plain}
 pub use Rattle.image_format.proofs.Lengths.{image-length}
@@ -21,7 +21,7 @@ pub use Rattle.image_format.proofs.Parsing.{parse-image}
 
 is-image : (w : Network) → Plain w → inShape w ≡ true → isImage (image w) ≡ true
 unfolding isImage
-is-image w plain e = rw (parse-image w plain e) (to-both (inShape w) _ e (same-itself (image w)))
+is-image w plain e = rw (parse-image w plain e) (to-both (inShape w) _ e (numbers-itself (image w)))
 
 pub reads-back : ReadsBack
 unfolding load
@@ -38,8 +38,8 @@ module _ (s : List ℕ) where
   given : isImage s ≡ true → (image (parse s) ≡ s) × (inShape (parse s) ≡ true) × Plain (parse s)
   unfolding isImage
   given e =
-      let b = both (inShape (parse s)) (sameBytes (image (parse s)) s) e in
-      let same = same-true (image (parse s)) s (b .1) in
+      let b = both (inShape (parse s)) (sameNumbers (image (parse s)) s) e in
+      let same = same-numbers (image (parse s)) s (b .1) in
       (same, b .0, parse-plain s same (parts (parse s) (b .0)))
 
   accepted : load s .number ≡ 0 → (image (load s .network) ≡ s) × (inShape (load s .network) ≡ true) × Plain (load s .network)

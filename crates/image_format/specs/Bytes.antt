@@ -1,8 +1,6 @@
 -- Numbers as bytes, low byte first, and back; a stretch of a list.
 use Prim.Native.Nat.{ℕ, zero, suc, _+_, _*_, _/_, _%_}
-use mathlib.Core.Bool.{Bool, true, false, _&&_}
 use mathlib.Core.List.{List, [], _∷_}
-use lib.Dec.{eqb}
 use lib.ListN.{take, drop}
 
 -- "Low byte first": k bytes of a number
@@ -17,9 +15,3 @@ numberIn (b ∷ bs) = b + 256 * numberIn bs
 -- so many bytes from a place on
 unfoldable pub stretch : ℕ → ℕ → List ℕ → List ℕ
 stretch from count s = take count (drop from s)
-
-unfoldable pub sameBytes : List ℕ → List ℕ → Bool
-sameBytes [] [] = true
-sameBytes [] (y ∷ ys) = false
-sameBytes (x ∷ xs) [] = false
-sameBytes (x ∷ xs) (y ∷ ys) = eqb x y && sameBytes xs ys

@@ -6,6 +6,7 @@ use mathlib.Core.List.{List, [], _∷_}
 use lib.ListN.{length, getD, take, drop}
 use lib.Dec.{eqb}
 use Rattle.base.specs.Finite.{within, gather, sum}
+use Rattle.base.specs.Same.{sameNumbers}
 use Rattle.problem.specs.Problem.{Problem, maxAgents, maxDomain}
 use Rattle.agent_rules.specs.Message.{Assignment, Message, Info, Back, AddLink}
 use Rattle.agent_rules.specs.Counts.{Sort, Infos, Backs, AddLinks}
@@ -14,7 +15,7 @@ use Rattle.packed.specs.Packed.{members}
 use Rattle.protocol.specs.Lines.{isChannel, channelAt}
 use Rattle.protocol.specs.Network.{Network, emptyNetwork}
 use Rattle.protocol.specs.Shape.{capacity, inShape}
-use Rattle.image_format.specs.Bytes.{numberIn, stretch, sameBytes}
+use Rattle.image_format.specs.Bytes.{numberIn, stretch}
 use Rattle.image_format.specs.Image.{image}
 
 -- ---- where the parts stand
@@ -155,7 +156,7 @@ pub record Loaded : Type 0 where
 
 -- the bytes are the image of a network in shape
 unfoldable pub isImage : List ℕ → Bool
-isImage s = inShape (parse s) && sameBytes (image (parse s)) s
+isImage s = inShape (parse s) && sameNumbers (image (parse s)) s
 
 -- "The reader takes bytes exactly if they are the image of a rail in shape, and gives that rail; otherwise 13 and the empty rail."
 unfoldable pub load : List ℕ → Loaded

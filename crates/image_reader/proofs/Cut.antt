@@ -1,30 +1,29 @@
 -- Input beyond the longest image: it is refused, and so are its first 33,817 bytes, if it has as many.
-use Prim.Native.Nat.{ℕ, suc, _≤_, _<_}
+use Prim.Native.Nat.{ℕ, suc, _<_}
 use mathlib.Core.Path.{_≡_, sym, ap, _∙_}
-use mathlib.Core.Bool.{true, false, _&&_}
 use mathlib.Core.List.{List}
 use native.Mathlib.Omega.{arith}
 use lib.Dec.{leb}
 use lib.ListN.{length, take}
 use lib.Seq.{length-take-le, take-all}
 use borrow.Author.Tests.{leb-true, leb-false}
+use Rattle.base.specs.Same.{sameNumbers}
 use Rattle.base.proofs.Tests.{test}
+use Rattle.base.proofs.Same.{same-numbers}
 use Rattle.problem.specs.Sheet.{headerLength, recordLength, maxRecords, longestSheet}
 use Rattle.protocol.specs.Network.{emptyNetwork}
 use Rattle.protocol.specs.Shape.{inShape}
-use Rattle.image_format.specs.Bytes.{sameBytes}
 use Rattle.image_format.specs.Image.{image}
 use Rattle.image_format.specs.Reading.{parse, badImage, isImage, load}
-use Rattle.image_format.proofs.Bytes.{same-true}
 use Rattle.image_reader.proofs.Written.{image-fits}
 
 too-long : (s : List ℕ) → 19744 < length s → load s ≡ record { number = badImage; network = emptyNetwork }
 unfolding isImage load
 too-long s long =
     test (inShape (parse s))
-    (λ shape. test (sameBytes (image (parse s)) s)
+    (λ shape. test (sameNumbers (image (parse s)) s)
     (λ same.
-    let e : length (image (parse s)) ≡ length s = ap length (same-true (image (parse s)) s same) in
+    let e : length (image (parse s)) ≡ length s = ap length (same-numbers (image (parse s)) s same) in
     absurd (omega (arith, image-fits (parse s) shape)))
     (λ other. rw (shape, other, load)))
     (λ broken. rw (broken, load))

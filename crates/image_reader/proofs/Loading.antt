@@ -6,15 +6,15 @@ use mathlib.Core.Bool.{true, false, _&&_, false≢true}
 use mathlib.Core.List.{List}
 use native.Mathlib.Omega.{arith}
 use lib.ListN.{length, getD}
+use Rattle.base.specs.Same.{sameNumbers}
 use Rattle.base.proofs.Tests.{both, to-both}
+use Rattle.base.proofs.Same.{numbers-itself, same-numbers}
 use Rattle.problem.specs.Problem.{maxAgents}
 use Rattle.protocol.specs.Network.{Network, emptyNetwork}
 use Rattle.protocol.specs.Shape.{inShape}
-use Rattle.image_format.specs.Bytes.{sameBytes}
 use Rattle.image_format.specs.Image.{image}
 use Rattle.image_format.specs.Plain.{Plain}
 use Rattle.image_format.specs.Reading.{headerLength, bansLength, agentLength, headsLength, agentsStart, headsStart, messagesStart, problemIn, parse, badImage, load}
-use Rattle.image_format.proofs.Bytes.{same-itself, same-true}
 use Rattle.image_format.proofs.Parsing.{parts}
 use Rattle.image_format.proofs.Theorems.{image-length, parse-image, reads-back, reads-only-images}
 use Rattle.image_reader.specs.Narrow.{narrow}
@@ -43,15 +43,15 @@ module _ (s : List ℕ) where
   -- ---- what is read
 
   module _ (w : Network) (is : w ≡ narrow (parse s)) where
-    pub not-taken : inShape w && sameBytes (image w) s ≡ false → Refused
+    pub not-taken : inShape w && sameNumbers (image w) s ≡ false → Refused
     not-taken f = reads-only-images s .refused (λ v plain shape e. false≢true (sym f ∙ passes v plain shape e))
       where
-        passes : (v : Network) → Plain v → inShape v ≡ true → image v ≡ s → inShape w && sameBytes (image w) s ≡ true
+        passes : (v : Network) → Plain v → inShape v ≡ true → image v ≡ s → inShape w && sameNumbers (image w) s ≡ true
         passes v plain shape e =
             let same : w ≡ v = is ∙ ap narrow (read-as v plain shape e) ∙ shaped-kept v plain shape in
-            rw (same, e) (to-both (inShape v) _ shape (same-itself s))
+            rw (same, e) (to-both (inShape v) _ shape (numbers-itself s))
 
-    pub taken : Plain w → inShape w && sameBytes (image w) s ≡ true → load s ≡ record { number = 0; network = w }
+    pub taken : Plain w → inShape w && sameNumbers (image w) s ≡ true → load s ≡ record { number = 0; network = w }
     taken plain t =
-        let b = both (inShape w) (sameBytes (image w) s) t in
-        ap load (sym (same-true (image w) s (b .1))) ∙ reads-back w plain (b .0)
+        let b = both (inShape w) (sameNumbers (image w) s) t in
+        ap load (sym (same-numbers (image w) s (b .1))) ∙ reads-back w plain (b .0)

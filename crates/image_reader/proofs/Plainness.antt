@@ -13,8 +13,7 @@ use Rattle.base.specs.Lists.{All}
 use Rattle.base.proofs.Bits.{bit-above}
 use Rattle.base.proofs.Tests.{test, above-within}
 use Rattle.problem.specs.Problem.{maxAgents, maxDomain}
-use Rattle.agent_rules.specs.Message.{nobody}
-use Rattle.agent_rules.specs.Agent.{noNogoods, unusedAgent}
+use Rattle.agent_rules.specs.Agent.{unusedAgent}
 use Rattle.agent_rules.specs.Shape.{maxNamed}
 use Rattle.packed.specs.Packed.{assignment, members}
 use Rattle.packed.proofs.Digits.{assignment-above}
@@ -27,6 +26,7 @@ use Rattle.network.specs.declared.Network.{Network}
 use Rattle.network.specs.Abstract.{isChannel, placeOf, noPlace, ring, channelOf, agentsOf, networkOf}
 use Rattle.agent_rules.specs.Plain.{PlainLhs, PlainReason, PlainAgent, PlainMessage}
 use Rattle.image_format.specs.Plain.{Plain}
+use Rattle.image_format.proofs.Plainness.{unused-plain}
 use Rattle.image_reader.proofs.Owned.{AgentFits, MessageFits, NetworkFits}
 
 -- ---- words and masks
@@ -64,11 +64,6 @@ module _ (a : Agent) (f : AgentFits a) where
         nogoods = no-reason;
         reasons = reason-plain;
       }
-
-unused-plain : PlainAgent unusedAgent
-unfolding unusedAgent nobody noNogoods
-unused-plain =
-    record { listens = λ k e. refl; informs = λ k e. refl; view = λ k e. refl; nogoods = λ v e. refl; reasons = λ v. tt }
 
 -- ---- a message
 

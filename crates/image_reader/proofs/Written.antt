@@ -13,6 +13,7 @@ use borrow.Author.Tests.{leb-true, le-leb}
 use Rattle.base.specs.Finite.{gather, within}
 use Rattle.base.specs.Lent.{Written as Written′, untouched, put}
 use Rattle.base.specs.Lists.{All}
+use Rattle.base.specs.Same.{sameNumbers}
 use Rattle.base.proofs.Lists.{gather-all}
 use Rattle.base.proofs.Tests.{test, both, to-within}
 use Rattle.problem.specs.Problem.{maxAgents}
@@ -20,7 +21,6 @@ use Rattle.agent_rules.specs.Message.{Message}
 use Rattle.protocol.specs.Network.{Network}
 use Rattle.protocol.specs.Delivery.{rejectionNumber}
 use Rattle.protocol.specs.Shape.{capacity, hasRoom, oneRequest, channelInShape, inShape}
-use Rattle.image_format.specs.Bytes.{sameBytes}
 use Rattle.image_format.specs.Image.{headerBytes, banBytes, agentBytes, allLines, headsFrom, messagesFrom, image}
 use Rattle.image_format.specs.Reading.{headerLength, bansLength, agentLength, messageLength, lineCount}
 use Rattle.image_format.specs.Writing.{store}
@@ -89,7 +89,7 @@ module _ (w : Network) (buffer new : List ℕ) (answer : Written) (long : length
   unfolding store untouched rejectionNumber
   unwritten t = rw (t, store)
 
-  pub not-written : answer .number ≢ 0 → (s : List ℕ) → inShape w && sameBytes (image w) s ≡ false
+  pub not-written : answer .number ≢ 0 → (s : List ℕ) → inShape w && sameNumbers (image w) s ≡ false
   not-written n s =
       test (inShape w)
       (λ t. absurd (n (number-is ∙ ap (λ (x : Written′). x .number) (written t))))

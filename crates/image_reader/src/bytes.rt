@@ -2,7 +2,8 @@
 ghost use mathlib.Core.Path.{_≡_};
 ghost use Prim.Native.Nat.{_<_};
 ghost use lib.ListN.{getD};
-ghost use Rattle.image_format.specs.Bytes.{numberIn, stretch, sameBytes};
+ghost use Rattle.base.specs.Same.{sameNumbers};
+ghost use Rattle.image_format.specs.Bytes.{numberIn, stretch};
 
 pub fn byte(s: &[u8], k: usize) -> u8
     ensures { λ r. ⌜ r ≡ getD (now (s .entry)) k 0 ⌝ }
@@ -36,7 +37,7 @@ pub fn eight_bytes(s: &[u8], k: usize) -> u64
 
 // The same bytes, and as many.
 pub fn same(a: &[u8], b: &[u8]) -> bool
-    ensures { λ r. ⌜ r ≡ sameBytes (now (a .entry)) (now (b .entry)) ⌝ }
+    ensures { λ r. ⌜ r ≡ sameNumbers (now (a .entry)) (now (b .entry)) ⌝ }
 {
     if a.len() != b.len() {
         return false;

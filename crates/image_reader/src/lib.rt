@@ -3,11 +3,11 @@ ghost use mathlib.Core.Path.{_≡_};
 ghost use mathlib.Core.Bool.{_&&_};
 ghost use Prim.Native.Nat.{_≤_};
 ghost use lib.ListN.{length, getD};
+ghost use Rattle.base.specs.Same.{sameNumbers};
 ghost use Rattle.protocol.specs.Network.{emptyNetwork};
 ghost use Rattle.protocol.specs.Shape.{inShape};
 ghost use Rattle.network.specs.Abstract.{networkOf};
 ghost use Rattle.network.specs.Empty.{emptyRecord};
-ghost use Rattle.image_format.specs.Bytes.{sameBytes};
 ghost use Rattle.image_format.specs.Image.{image};
 ghost use Rattle.image_format.specs.Reading.{parse, badImage, load as loadBy};
 ghost use Rattle.image_reader.specs.Narrow.{narrow};
@@ -61,7 +61,7 @@ fn candidate(s: &[u8]) -> Network
 
 // The network is in shape, and s is its image. No image is longer than the buffer.
 fn is_image(r: Network, s: &[u8]) -> bool
-    ensures { λ b. ⌜ b ≡ (inShape (networkOf r) && sameBytes (image (networkOf r)) (now (s .entry))) ⌝ }
+    ensures { λ b. ⌜ b ≡ (inShape (networkOf r) && sameNumbers (image (networkOf r)) (now (s .entry))) ⌝ }
 {
     let mut buffer = [0u8; 19744];
     let w = store(r, &mut buffer);

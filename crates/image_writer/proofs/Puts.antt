@@ -2,13 +2,14 @@
 -- What is put first ends where the next begins, so the second does not touch it.
 use Prim.Native.Nat.{ℕ, suc, _+_, _≤_, _<_}
 use mathlib.Core.Path.{_≡_, refl, sym, ap, _∙_}
-use mathlib.Core.List.{List, [], _∷_, _++_, append-nil, append-assoc}
-use native.Mathlib.Nat.{add-zero}
+use mathlib.Core.List.{List, [], _∷_, _++_, append-assoc}
 use native.Mathlib.Numerals.{add-one}
 use native.Mathlib.Omega.{arith}
-use lib.ListN.{length, take, drop, set, length-append, take-append-drop}
-use lib.Seq.{length-take-le, take-at, drop-at, drop-drop, set-split}
-use Rattle.image_writer.specs.Puts.{over, Puts}
+use lib.ListN.{length, take, drop, set, length-append}
+use lib.Seq.{length-take-le, set-split}
+use Rattle.lent.specs.Abstract.{over}
+use Rattle.lent.proofs.Over.{over-nothing, over-over}
+use Rattle.image_writer.specs.Puts.{Puts}
 
 -- ---- over
 
@@ -17,38 +18,17 @@ module _ (at : ℕ) (xs old : List ℕ) (low : at ≤ length old) where
   front-length = length-append (take at old) xs ∙ rw (length-take-le at old low)
 
   over-reached : at + length xs ≤ length (over at xs old)
-  unfolding over
   over-reached = rw (length-append (take at old ++ xs) (drop (at + length xs) old)) (omega (arith, front-length))
-
-  -- bytes put behind others
-  over-over : (ys : List ℕ) → over (at + length xs) ys (over at xs old) ≡ over at (xs ++ ys) old
-  unfolding over
-  over-over ys =
-      let n = at + length xs in
-      let front = take at old ++ xs in
-      let far : at + length (xs ++ ys) ≡ n + length ys = omega (arith, length-append xs ys) in
-      let rest : drop (n + length ys) (front ++ drop n old) ≡ drop (n + length ys) old =
-      sym (drop-drop (length ys) n (front ++ drop n old))
-      ∙ ap (drop (length ys)) (drop-at front (drop n old) n front-length)
-      ∙ drop-drop (length ys) n old in
-      rw (far, rest, take-at front (drop n old) n front-length)
-      (ap (λ (l : List ℕ). l ++ drop (n + length ys) old) (append-assoc (take at old) xs ys))
-
-over-nothing : (at : ℕ) (l : List ℕ) → over at [] l ≡ l
-unfolding over
-over-nothing at l = rw (add-zero, append-nil) (take-append-drop at l)
 
 -- ---- putting
 
 pub puts-byte : (old : List ℕ) (at b : ℕ) → at < length old → Puts old at 1 (b ∷ []) (set old at b) (at + 1)
-unfolding over
 puts-byte old at b h =
     record { reached = omega arith; long = refl; buffer = set-split old at b h ∙ rw (add-one at) (sym (append-assoc (take at old) (b ∷ []) (drop (suc at) old))); behind = refl }
 
 -- bytes copied
 pub puts-copied : {old new : List ℕ} (at count : ℕ) (s : List ℕ) → at ≤ length old → length s ≡ count
     → new ≡ take at old ++ s ++ drop (at + length s) old → Puts old at count s new (at + count)
-unfolding over
 puts-copied at count s h e f = record { reached = h; long = e; buffer = f; behind = refl }
 
 -- one stretch, and another behind it
@@ -58,7 +38,7 @@ puts-then {old} {mid} {new} {xs} {ys} {at} {n} p q =
     record {
       reached = p .reached;
       long = omega (arith, length-append xs ys, p .long, q .long);
-      buffer = q .buffer ∙ rw (e, p .buffer) (over-over at xs old (p .reached) ys);
+      buffer = q .buffer ∙ rw (p .buffer) (over-over at n xs ys old (p .reached) e);
       behind = omega (arith, p .behind, q .behind);
     }
 
@@ -87,7 +67,7 @@ less-left {old} {all} {now} {new} {xs} {ys} {at} {place} {next} l p =
     record {
       reached = rw (e, p .buffer) (over-reached place xs now (l .reached));
       end = omega (arith, l .end, length-append xs ys);
-      same = rw (e, p .buffer) (over-over place xs now (l .reached) ys) ∙ l .same;
+      same = rw (p .buffer) (over-over place next xs ys now (l .reached) e) ∙ l .same;
     }
 
 pub none-left : {old all now : List ℕ} {at place : ℕ} → Left old at all now place [] → at ≤ length old → (count : ℕ) → length all ≡ count

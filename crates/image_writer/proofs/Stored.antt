@@ -16,7 +16,6 @@ use Rattle.problem.specs.Problem.{maxAgents, domain}
 use Rattle.protocol.specs.Network.{Network as Network′}
 use Rattle.protocol.specs.Shape.{inShape}
 use Rattle.protocol.specs.Delivery.{BadShape, rejectionNumber}
-use Rattle.shape_laws.proofs.ShapeClauses.{shaped}
 use Rattle.network.specs.declared.Network.{Network}
 use Rattle.network.specs.Abstract.{problemOf, networkOf}
 use Rattle.image_format.specs.Image.{slots, firstForm, byteFor, headerBytes, banBytes, agentBytes, allLines, headsFrom, messagesFrom, image}
@@ -24,7 +23,7 @@ use Rattle.image_format.specs.Reading.{headerLength, bansLength, agentLength}
 use Rattle.image_format.specs.Writing.{store}
 use Rattle.image_format.proofs.Lengths.{header-length, bans-length, agents-length}
 use Rattle.lent.proofs.Within.{Within, put-within, untouched-within}
-use Rattle.image_writer.specs.Puts.{over, Puts}
+use Rattle.image_writer.specs.Puts.{Puts}
 use Rattle.image_writer.proofs.Chains.{heads-long}
 
 -- ---- the tests
@@ -40,7 +39,7 @@ module _ (w : Network′) (buffer : List ℕ) where
 
   pub stores : (count next : ℕ) (new : List ℕ) → inShape w ≡ true → length (image w) ≤ length buffer → Puts buffer 0 count (image w) new next
       → store w buffer ≡ record { number = 0; length = next; buffer = new }
-  unfolding store put over
+  unfolding store put
   stores count next new e h p =
       let n : next ≡ length (image w) = omega (arith, p .behind, p .long) in
       rw (e, store, le-leb (length (image w)) (length buffer) h, put, n, p .buffer) (rw zero-add)
@@ -66,11 +65,6 @@ image-long w =
       agents-length (w .problem .count) (w .agents),
       heads-long w,
     )
-
--- n is at most 12
-pub few-agents : (r : Network) → inShape (networkOf r) ≡ true → r .count ≤ 12
-unfolding networkOf problemOf maxAgents
-few-agents r e = shaped (networkOf r) e .range .high
 
 -- ---- the header
 

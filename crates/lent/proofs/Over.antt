@@ -7,10 +7,7 @@ use native.Mathlib.Nat.{add-zero}
 use native.Mathlib.Omega.{arith}
 use lib.ListN.{length, take, drop, length-append, take-append-drop}
 use lib.Seq.{length-take-le, take-at, drop-at, drop-drop}
-
--- these bytes in the buffer from `at` on; the others stay
-abbrev pub over : ℕ → List ℕ → List ℕ → List ℕ
-over at bytes old = take at old ++ bytes ++ drop (at + length bytes) old
+use Rattle.lent.specs.Abstract.{over}
 
 pub over-nothing : (at : ℕ) (old : List ℕ) → over at [] old ≡ old
 over-nothing at old = rw (add-zero, append-nil) (take-append-drop at old)

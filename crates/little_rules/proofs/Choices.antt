@@ -3,34 +3,18 @@
 use Prim.Native.Nat.{ℕ, _+_, _-_, _≤_, _<_}
 use mathlib.Core.Path.{_≡_, refl, sym, ap, _∙_}
 use mathlib.Core.Logic.{_≢_, inl, inr}
-use mathlib.Core.Bool.{true, false, false≢true}
+use mathlib.Core.Bool.{false≢true}
 use mathlib.Core.List.{List, [], _∷_}
 use native.Mathlib.Omega.{arith}
-use lib.Dec.{eqb, ltb}
-use borrow.Author.Tests.{eqb-true, eq-eqb, ltb-true, ltb-false, lt-ltb, le-ltb}
-use Rattle.base.proofs.Tests.{test, both, to-both}
+use lib.Dec.{ltb}
+use borrow.Author.Tests.{ltb-true, ltb-false, lt-ltb, le-ltb}
+use Rattle.base.specs.Same.{sameNumbers}
+use Rattle.base.proofs.Tests.{test}
 use Rattle.base.proofs.Lists.{Any, any-all, any-tail}
-use Rattle.problem.specs.Cases.{sameNumbers}
+use Rattle.base.proofs.Same.{same-numbers, numbers-same, other-numbers}
 use Rattle.little_rules.specs.Little.{Choice, setsOf, choiceFrom, ordinalFrom}
 use Rattle.little_rules.specs.Claims.{total}
 use Rattle.little_rules.proofs.Unlike.{Unlike}
-
--- ---- the test of two lists
-
-same-numbers : (xs ys : List ℕ) → sameNumbers xs ys ≡ true → xs ≡ ys
-unfolding sameNumbers
-same-numbers [] [] e = refl
-same-numbers [] (y ∷ ys) e = absurd (false≢true e)
-same-numbers (x ∷ xs) [] e = absurd (false≢true e)
-same-numbers (x ∷ xs) (y ∷ ys) e = let h = both (eqb x y) _ e in rw (eqb-true x y (h .0), same-numbers xs ys (h .1))
-
-numbers-itself : (xs : List ℕ) → sameNumbers xs xs ≡ true
-unfolding sameNumbers
-numbers-itself [] = refl
-numbers-itself (x ∷ xs) = to-both _ _ (eq-eqb x x refl) (numbers-itself xs)
-
-other-numbers : (xs ys : List ℕ) → xs ≢ ys → sameNumbers xs ys ≡ false
-other-numbers xs ys n = test (sameNumbers xs ys) (λ e. absurd (n (same-numbers xs ys e))) (λ e. e)
 
 -- ---- choices
 
@@ -50,7 +34,7 @@ module _ (ds : List ℕ) (l : List (List ℕ)) where
 
   ordinal-here : (c : Choice) → c .counts ≡ ds → ordinalFrom (ds ∷ l) c ≡ c .bans
   unfolding ordinalFrom
-  ordinal-here c q = let e : sameNumbers (c .counts) ds ≡ true = rw q (numbers-itself ds) in rw (e, ordinalFrom)
+  ordinal-here c q = rw (numbers-same (c .counts) ds q, ordinalFrom)
 
   ordinal-later : (c : Choice) → c .counts ≢ ds → ordinalFrom (ds ∷ l) c ≡ setsOf ds + ordinalFrom l c
   unfolding ordinalFrom
@@ -91,7 +75,7 @@ choice-back (ds ∷ l) c h =
     test (sameNumbers (c .counts) ds)
     (λ e. found (same-numbers (c .counts) ds e))
     (λ e.
-    let other : c .counts ≢ ds = λ q. false≢true (sym e ∙ rw q (numbers-itself ds)) in
+    let other : c .counts ≢ ds = λ q. false≢true (sym e ∙ numbers-same (c .counts) ds q) in
     later other (choice-back l c (record { counts = any-tail _ ds l (λ q. other (sym q)) (h .counts); bans = h .bans })))
   where
     found : c .counts ≡ ds → Back (ds ∷ l) c

@@ -1,12 +1,11 @@
 -- Worked cases of the little sheets, each written out byte for byte from docs/RULES.md, 'All the little sheets' and 'The sheet'.
 use Prim.Native.Nat.{ℕ, _-_, _^_}
-use mathlib.Core.Bool.{Bool, _&&_}
+use mathlib.Core.Bool.{Bool}
 use mathlib.Core.List.{List, [], _∷_, _++_}
 use lib.ListN.{replicate}
-use lib.Dec.{eqb}
-use Rattle.problem.specs.Cases.{sameNumbers}
 use Rattle.little_rules.specs.Little.{littleSheet}
 use Rattle.base.specs.Lent.{Written}
+use Rattle.base.specs.Same.{sameNumbers, sameWritten}
 use Rattle.little_rules.specs.Putting.{putLittle}
 
 -- ---- sheets
@@ -145,9 +144,6 @@ pub record Put : Type 0 where
   pub at : ℕ  -- the ordinal
   pub lent : List ℕ
   pub answer : Written
-
-unfoldable pub sameWritten : Written → Written → Bool
-sameWritten a b = eqb (a .number) (b .number) && eqb (a .length) (b .length) && sameNumbers (a .buffer) (b .buffer)
 
 unfoldable pub putHolds : Put → Bool
 putHolds c = sameWritten (putLittle (c .at) (c .lent)) (c .answer)

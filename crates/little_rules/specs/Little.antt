@@ -5,10 +5,10 @@ use mathlib.Core.List.{List, [], _∷_, _++_, map}
 use lib.ListN.{length, take, replicate}
 use lib.Dec.{eqb, ltb}
 use Rattle.base.specs.Finite.{gather}
+use Rattle.base.specs.Same.{sameNumbers}
 use Rattle.problem.specs.Problem.{Problem, maxAgents, domain, banned, noBans}
 use Rattle.problem.specs.Row.{Row}
 use Rattle.problem.specs.Writing.{written}
-use Rattle.problem.specs.Cases.{sameNumbers}
 
 -- "4,996 in all"
 unfoldable pub littleCount : ℕ

@@ -5,7 +5,7 @@ use mathlib.Core.Path.{_≡_, refl, sym, ap, subst, _∙_}
 use mathlib.Core.Bool.{Bool, true, _&&_}
 use mathlib.Core.List.{List, [], _∷_}
 use native.Mathlib.Omega.{arith}
-use lib.ListN.{length, getD, drop, replicate}
+use lib.ListN.{length, getD, drop}
 use lib.Seq.{drop-cons}
 use lib.Dec.{eqb, leb}
 use borrow.Author.Tests.{eqb-true, leb-true}
@@ -17,7 +17,7 @@ use Rattle.problem.specs.Problem.{maxAgents, domain}
 use Rattle.little_rules.specs.Little.{mostAgents, mostValues, countsOf, sizes, bare, pairsOf, places, setsOf, choiceFrom}
 use Rattle.little_rules.proofs.Sizes.{all-at}
 use Rattle.little_rules.proofs.Choices.{choice-here, choice-later}
-use Rattle.little_sheet.specs.Abstract.{Holds}
+use Rattle.little_sheet.specs.Abstract.{Holds, bareOf}
 use Rattle.little_sheet.specs.Rows.{placeAt, slotsOf, ownedBy, rowsFrom}
 use Rattle.little_sheet.specs.declared.choice.Counts.{Counts}
 
@@ -110,9 +110,9 @@ pub sizes-rows : All (λ ds. places (bare ds) ≡ rowsFrom (made ds) 0) sizes
 unfolding gather maxAgents domain mostAgents mostValues countsOf sizes bare pairsOf places placeAt slotsOf ownedBy rowsFrom made
 sizes-rows = (refl, (refl, (refl, (refl, (refl, (refl, (refl, (refl, (refl, (refl, (refl, (refl, (refl, (refl, tt))))))))))))))
 
-pub sizes-domains : All (λ ds. bare ds .domains ≡ getD ds 0 0 ∷ getD ds 1 0 ∷ getD ds 2 0 ∷ replicate 9 0) sizes
-unfolding gather maxAgents mostAgents mostValues countsOf sizes bare
-sizes-domains = (refl, (refl, (refl, (refl, (refl, (refl, (refl, (refl, (refl, (refl, (refl, (refl, (refl, (refl, tt))))))))))))))
+pub sizes-bare : All (λ ds. bare ds ≡ bareOf (made ds)) sizes
+unfolding gather maxAgents mostAgents mostValues countsOf sizes bare bareOf made
+sizes-bare = (refl, (refl, (refl, (refl, (refl, (refl, (refl, (refl, (refl, (refl, (refl, (refl, (refl, (refl, tt))))))))))))))
 
 -- at place k
 module _ (k : ℕ) (h : k < 14) (c : Counts) (holds-c : Holds c (getD sizes k [])) where

@@ -1,5 +1,4 @@
 mod Counted
-pub mod Counts
-pub mod Pairs
-pub mod Records
-pub mod Sheets
+mod Counts
+mod Pairs
+mod Sheets

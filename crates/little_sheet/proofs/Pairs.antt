@@ -1,92 +1,66 @@
--- The owned pairs from k on, pair by pair; what is chosen of them, and how many.
+-- The pairs put down so far, and what is chosen of those from k on: together the pairs of the set of bans.
 -- The bits of the set are taken from the lowest, one for each owned pair.
-use Prim.Native.Nat.{ℕ, suc, _-_, _*_, _/_, _%_, _^_, _≤_, _<_}
-use mathlib.Core.Path.{_≡_, refl, ap, _∙_}
-use mathlib.Core.Logic.{_≢_}
-use mathlib.Core.Bool.{true, false, cond}
-use mathlib.Core.List.{List, [], _∷_, _++_}
-use native.Mathlib.Nat.{pow-suc}
+use Prim.Native.Nat.{ℕ, suc, _+_, _-_, _/_, _%_, _≤_, _<_}
+use mathlib.Core.Path.{_≡_, refl, sym, ap, _∙_}
+use mathlib.Core.Bool.{Bool, true, false, cond}
+use mathlib.Core.List.{List, [], _∷_, _++_, append-nil, append-assoc}
 use native.Mathlib.Omega.{arith}
-use lib.Count.{ones, ones-step}
 use lib.Dec.{eqb}
 use lib.ListN.{length}
-use borrow.Author.Tests.{eqb-true, eqb-false, eq-eqb, ne-eqb}
 use Rattle.base.specs.Finite.{gather}
-use Rattle.base.proofs.Tests.{test, eq-test}
 use Rattle.problem.specs.Row.{Row}
 use Rattle.little_rules.specs.Little.{chosen}
-use Rattle.little_sheet.specs.Rows.{placeAt, ownedBy, rowsFrom}
+use Rattle.sheet_writer.specs.Rows.{rowsIn, Filled}
+use Rattle.little_sheet.specs.Rows.{placeAt, ownedBy, rowsFrom, banAt}
 use Rattle.little_sheet.specs.declared.choice.Counts.{Counts}
-
--- ---- the owned pairs
-
-rows-next : (c : Counts) (k : ℕ) → k < 12 → rowsFrom c k ≡ cond (ownedBy c k) (placeAt k ∷ []) [] ++ rowsFrom c (suc k)
-unfolding gather rowsFrom
-rows-next c k h = let e : 12 - k ≡ suc (12 - suc k) = omega arith in rw e
-
-rows-owned : (c : Counts) (k : ℕ) → k < 12 → ownedBy c k ≡ true → rowsFrom c k ≡ placeAt k ∷ rowsFrom c (suc k)
-rows-owned c k h e = rows-next c k h ∙ rw e
-
-rows-skipped : (c : Counts) (k : ℕ) → k < 12 → ownedBy c k ≡ false → rowsFrom c k ≡ rowsFrom c (suc k)
-rows-skipped c k h e = rows-next c k h ∙ rw e
-
-rows-over : (c : Counts) → rowsFrom c 12 ≡ []
-unfolding gather rowsFrom
-rows-over c = refl
-
--- ---- what is chosen
-
-module _ (x : ℕ) (a : Row) (l : List Row) where
-  chosen-odd : x % 2 ≡ 1 → chosen x (a ∷ l) ≡ a ∷ chosen (x / 2) l
-  unfolding chosen
-  chosen-odd e = rw (eq-eqb (x % 2) 1 e)
-
-  chosen-even : x % 2 ≢ 1 → chosen x (a ∷ l) ≡ chosen (x / 2) l
-  unfolding chosen
-  chosen-even n = rw (ne-eqb (x % 2) 1 n)
-
-  half-fits : x < 2 ^ length (a ∷ l) → x / 2 < 2 ^ length l
-  half-fits h = let d : 2 ^ length (a ∷ l) ≡ 2 ^ length l * 2 = pow-suc 2 (length l) in omega arith
-
-pub chosen-ones : (x : ℕ) (l : List Row) → x < 2 ^ length l → length (chosen x l) ≡ ones x
-unfolding chosen ones
-chosen-ones x [] h = let z : x ≡ 0 = omega arith in rw z
-chosen-ones x (a ∷ l) h =
-    test (eqb (x % 2) 1)
-    (λ e. ap length (chosen-odd x a l (eqb-true _ _ e)) ∙ omega (arith, eqb-true (x % 2) 1 e, ones-step x, chosen-ones (x / 2) l (half-fits x a l h)))
-    (λ e. ap length (chosen-even x a l (eqb-false _ _ e)) ∙ omega (arith, eqb-false (x % 2) 1 e, ones-step x, chosen-ones (x / 2) l (half-fits x a l h)))
 
 -- ---- one pair further
 
--- the bits left, some of them 1, fit the pairs from k on; and choose from there what x chooses of l
-pub record Left (c : Counts) (l : List Row) (k x : ℕ) : Type 0 where
-  pub some : 0 < x
-  pub fits : x < 2 ^ length (rowsFrom c k)
-  pub rows : l ≡ chosen x (rowsFrom c k)
+module _ (c : Counts) (k x : ℕ) (h : k < 12) where
+  rows-next : rowsFrom c k ≡ cond (ownedBy c k) (placeAt k ∷ []) [] ++ rowsFrom c (suc k)
+  unfolding gather rowsFrom
+  rows-next = let e : 12 - k ≡ suc (12 - suc k) = omega arith in rw e
 
-module _ (c : Counts) (l : List Row) (k x : ℕ) (left : Left c l k x) where
-  pub inside : k ≤ 12 → k < 12
-  inside h =
-      eq-test k 12
-      (λ e. let f : x < 2 ^ length (rowsFrom c 12) = rw e at (left .fits) in absurd (omega (arith, rw (rows-over c) at f, left .some)))
-      (λ n. omega (arith, n))
+  skipped : ownedBy c k ≡ false → rowsFrom c k ≡ rowsFrom c (suc k)
+  skipped e = rows-next ∙ rw e
 
-  pub pass-skipped : k < 12 → ownedBy c k ≡ false → Left c l (suc k) x
-  pass-skipped h e = let q = rows-skipped c k h e in record { some = left .some; fits = rw q at (left .fits); rows = rw q at (left .rows) }
+  owned : ownedBy c k ≡ true → rowsFrom c k ≡ placeAt k ∷ rowsFrom c (suc k)
+  owned e = rows-next ∙ rw e
 
-  pub pass-owned : k < 12 → ownedBy c k ≡ true → x % 2 ≢ 1 → Left c l (suc k) (x / 2)
-  pass-owned h e n =
-      let q = rows-owned c k h e in
-      record {
-        some = omega (arith, left .some, n);
-        fits = half-fits x (placeAt k) (rowsFrom c (suc k)) (rw q at (left .fits));
-        rows = left .rows ∙ ap (chosen x) q ∙ chosen-even x (placeAt k) (rowsFrom c (suc k)) n;
-      }
+  by-bit : ownedBy c k ≡ true → chosen x (rowsFrom c k) ≡ banAt x k ++ chosen (x / 2) (rowsFrom c (suc k))
+  unfolding chosen banAt
+  by-bit e = ap (chosen x) (owned e)
 
-  pub take-banned : k < 12 → ownedBy c k ≡ true → x % 2 ≡ 1
-      → (l ≡ placeAt k ∷ chosen (x / 2) (rowsFrom c (suc k))) × (x / 2 < 2 ^ length (rowsFrom c (suc k)))
-  take-banned h e o =
-      let q = rows-owned c k h e in (
-        left .rows ∙ ap (chosen x) q ∙ chosen-odd x (placeAt k) (rowsFrom c (suc k)) o,
-        half-fits x (placeAt k) (rowsFrom c (suc k)) (rw q at (left .fits)),
-      )
+-- ---- the loop over the pairs
+
+-- the first `count` rows, and behind them what the bits left choose from k on
+abbrev pub Going : Counts → List Row → List ℕ → ℕ → ℕ → ℕ → Type 0
+Going c all rows count k left = rowsIn rows count ++ chosen left (rowsFrom c k) ≡ all
+
+pub going-begins : (c : Counts) (bans : ℕ) (rows : List ℕ) → Going c (chosen bans (rowsFrom c 0)) rows 0 0 bans
+unfolding rowsIn
+going-begins c bans rows = refl
+
+module _ (c : Counts) (all : List Row) (rows : List ℕ) (count k left : ℕ) (h : k < 12) (g : Going c all rows count k left) where
+  pub going-skipped : ownedBy c k ≡ false → Going c all rows count (suc k) left
+  going-skipped e = ap (λ (l : List Row). rowsIn rows count ++ chosen left l) (sym (skipped c k left h e)) ∙ g
+
+  pub going-owned : ownedBy c k ≡ true → (new : List ℕ) (r : ℕ) → Filled rows count new r (banAt left k) → Going c all new r (suc k) (left / 2)
+  going-owned e new r f =
+      let rest = chosen (left / 2) (rowsFrom c (suc k)) in
+      ap (λ (l : List Row). l ++ rest) (f .rows)
+      ∙ append-assoc (rowsIn rows count) (banAt left k) rest
+      ∙ ap (λ (l : List Row). rowsIn rows count ++ l) (sym (by-bit c k left h e))
+      ∙ g
+
+pub one-more : (rows : List ℕ) (count k left : ℕ) (new : List ℕ) (r : ℕ) → Filled rows count new r (banAt left k) → r ≤ count + 1
+unfolding banAt
+one-more rows count k left new r f = omega (arith, f .count, at-most (eqb (left % 2) 1) (placeAt k))
+  where
+    at-most : (b : Bool) (row : Row) → length (cond b (row ∷ []) []) ≤ 1
+    at-most true row = omega arith
+    at-most false row = omega arith
+
+pub going-ends : (c : Counts) (all : List Row) (rows : List ℕ) (count k left : ℕ) → k ≡ 12 → Going c all rows count k left → rowsIn rows count ≡ all
+unfolding gather chosen rowsFrom
+going-ends c all rows count k left e g = sym (append-nil (rowsIn rows count)) ∙ rw e at g

@@ -1,8 +1,9 @@
 -- What the code's values mean. A primed name is the definitions'.
 use Prim.Native.Nat.{ℕ}
 use mathlib.Core.Path.{_≡_}
-use mathlib.Core.List.{List}
-use lib.ListN.{length, getD}
+use mathlib.Core.List.{List, _∷_}
+use lib.ListN.{length, getD, replicate}
+use Rattle.problem.specs.Problem.{Problem, noBans}
 use Rattle.problem.specs.Row.{Row as Row′}
 use Rattle.little_rules.specs.Little.{Choice as Choice′}
 use Rattle.little_sheet.specs.declared.choice.Counts.{Counts}
@@ -22,3 +23,8 @@ pub record Holds (c : Counts) (ds : List ℕ) : Type 0 where
 pub record Means (c : Choice) (d : Choice′) : Type 0 where
   pub counts : Holds (c .counts) (d .counts)
   pub bans : c .bans ≡ d .bans
+
+-- the problem of these slot counts, with no ban
+unfoldable pub bareOf : Counts → Problem
+bareOf c =
+    record { count = c .agents; domains = c .first ∷ c .second ∷ c .third ∷ replicate 9 0; bans = noBans }

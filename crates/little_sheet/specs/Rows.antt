@@ -1,15 +1,11 @@
 -- The twelve pairs of slots of three agents with two slots each, and those of them that are owned.
-use Prim.Native.Nat.{ℕ, suc, _+_, _-_, _/_, _%_, _^_, _<_}
-use mathlib.Core.Path.{_≡_}
+use Prim.Native.Nat.{ℕ, _+_, _-_, _/_, _%_}
 use mathlib.Core.Bool.{Bool, cond, _&&_}
 use mathlib.Core.List.{List, [], _∷_}
-use lib.ListN.{length}
 use lib.Dec.{eqb, ltb, leb}
 use Rattle.base.specs.Finite.{gather}
 use Rattle.problem.specs.Row.{Row}
-use Rattle.little_rules.specs.Little.{chosen}
 use Rattle.little_sheet.specs.declared.choice.Counts.{Counts}
-use Rattle.little_sheet.specs.declared.rows.Cursor.{Cursor}
 
 -- pair k, of 0 to 11
 unfoldable pub placeAt : ℕ → Row
@@ -25,12 +21,6 @@ ownedBy c k = leb (placeAt k .low) (slotsOf c (placeAt k .lower)) && leb (placeA
 unfoldable pub rowsFrom : Counts → ℕ → List Row
 rowsFrom c k = gather (12 - k) k (λ k. cond (ownedBy c k) (placeAt k ∷ []) [])
 
--- the first pair from k on that is banned, and the bans behind it
-pub record Next (c : Counts) (k left : ℕ) (r : Cursor) : Type 0 where
-  pub inside : r .place < 12
-  pub rows : chosen left (rowsFrom c k) ≡ placeAt (r .place) ∷ chosen (r .left) (rowsFrom c (suc (r .place)))
-  pub fits : r .left < 2 ^ length (rowsFrom c (suc (r .place)))
-
--- the index that record r + 1 of so many leads to
-unfoldable pub nextIndex : ℕ → ℕ → ℕ
-nextIndex r records = cond (ltb (suc r) records) (r + 2) 0
+-- pair k, if the lowest bit of x is 1
+unfoldable pub banAt : ℕ → ℕ → List Row
+banAt x k = cond (eqb (x % 2) 1) (placeAt k ∷ []) []

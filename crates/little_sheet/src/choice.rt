@@ -4,7 +4,9 @@ ghost use mathlib.Core.List.{[]};
 ghost use Prim.Native.Nat.{_+_, _*_, _^_, _≤_, _<_};
 ghost use lib.ListN.{getD};
 ghost use Rattle.little_rules.specs.Little.{sizes, choiceFrom};
-ghost use Rattle.little_sheet.specs.Abstract.{Holds, Means};
+ghost use Rattle.sheet.specs.Abstract.{problemOf};
+ghost use Rattle.little_sheet.specs.Abstract.{Holds, Means, bareOf};
+use sheet::Problem;
 
 // How many agents there are, and their slot counts, zero beyond them.
 pub struct Counts {
@@ -48,6 +50,17 @@ fn counts_at(k: u8) -> Counts
         first: 1 + d / 4,
         second: 1 + d / 2 % 2,
         third: 1 + d % 2,
+    }
+}
+
+// The problem of these slot counts, with no ban.
+pub fn bare(c: Counts) -> Problem
+    ensures { λ p. ⌜ problemOf p ≡ bareOf c ⌝ }
+{
+    Problem {
+        count: c.agents,
+        domains: [c.first, c.second, c.third, 0, 0, 0, 0, 0, 0, 0, 0, 0],
+        bans: [0u64; 66],
     }
 }
 

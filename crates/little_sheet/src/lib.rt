@@ -7,12 +7,12 @@ ghost use Rattle.lent.specs.Abstract.{writtenOf};
 
 mod choice;
 mod rows;
-mod writing;
 
+use choice::bare;
 use choice::chosen;
 use lent::Written;
-use writing::put_header;
-use writing::put_records;
+use rows::bans_of;
+use sheet_writer::put_sheet;
 
 pub fn little(ordinal: u64, out: &mut [u8]) -> Written
     ensures { λ r. ⌜ writtenOf r (now (out .exit)) ≡ putLittle ordinal (now (out .entry)) ⌝ }
@@ -27,18 +27,8 @@ pub fn little(ordinal: u64, out: &mut [u8]) -> Written
     let c = chosen(ordinal);
     let counts = c.counts;
     let bans = c.bans;
-    let records = u64::count_ones(bans) as usize;
-    let length = 24 + 8 * records;
-    if out.len() < length {
-        return Written {
-            number: 12,
-            length: 0,
-        };
-    }
-    put_header(out, counts, records);
-    put_records(out, counts, bans, records);
-    Written {
-        number: 0,
-        length: length,
-    }
+    let mut rows = [0u32; 12];
+    let records = bans_of(&mut rows, counts, bans);
+    let p = bare(counts);
+    put_sheet(out, 1, p, &rows, records)
 }

@@ -1,11 +1,14 @@
 // The pairs of slots that could be banned, in the order of their bits. Those of three agents with two slots each are numbered 0 to 11; fewer or
 // smaller ones have some of these, in the same order.
 ghost use mathlib.Core.Path.{_≡_};
-ghost use Prim.Native.Nat.{_≤_, _<_, _^_};
+ghost use Prim.Native.Nat.{_≤_, _<_};
 ghost use lib.ListN.{length};
+ghost use Rattle.little_rules.specs.Little.{chosen};
+ghost use Rattle.sheet_writer.specs.Rows.{rowsIn, Filled};
 ghost use Rattle.little_sheet.specs.Abstract.{rowOf};
-ghost use Rattle.little_sheet.specs.Rows.{placeAt, slotsOf, ownedBy, rowsFrom, Next};
+ghost use Rattle.little_sheet.specs.Rows.{placeAt, slotsOf, ownedBy, rowsFrom, banAt};
 use crate::choice::Counts;
+use sheet_writer::pack;
 
 // Lower and higher agent, and a value of each.
 pub struct Row {
@@ -16,7 +19,7 @@ pub struct Row {
 }
 
 // Pair k: four for each two agents.
-pub fn row_at(k: u8) -> Row
+fn row_at(k: u8) -> Row
     requires { ⌜ k < 12 ⌝ }
     ensures { λ r. ⌜ rowOf r ≡ placeAt k ⌝ }
 {
@@ -51,30 +54,33 @@ fn owned(c: Counts, k: u8) -> bool
     row.low <= slots(c, row.lower) && row.high <= slots(c, row.higher)
 }
 
-// A pair that is banned, and the set of bans among those behind it.
-pub struct Cursor {
-    pub place: u8,
-    pub left: u64,
+// Behind the first `at` rows, pair k, if the lowest bit of `left` is 1.
+fn with_ban(rows: &mut [u32], at: usize, left: u64, k: u8) -> usize
+    requires { ⌜ (k < 12) × (at < length (now rows)) ⌝ }
+    ensures { λ r. ⌜ Filled (now (rows .entry)) at (now (rows .exit)) r (banAt left k) ⌝ }
+{
+    if left % 2 != 1 {
+        return at;
+    }
+    let row = row_at(k);
+    rows[at] = pack(row.lower, row.higher, row.low, row.high);
+    at + 1
 }
 
-// The first banned pair from k on, where `left` is the set of bans from there on.
-pub fn next_banned(c: Counts, k: u8, left: u64) -> Cursor
-    requires { ⌜ (0 < left) × (left < 2 ^ length (rowsFrom c k)) × (k ≤ 12) ⌝ }
-    ensures { λ r. ⌜ Next c k left r ⌝ }
+// The pairs of a set of bans, one behind the other; and how many they are.
+pub fn bans_of(rows: &mut [u32], c: Counts, bans: u64) -> usize
+    requires { ⌜ 12 ≤ length (now rows) ⌝ }
+    ensures { λ r. ⌜ (rowsIn (now (rows .exit)) r ≡ chosen bans (rowsFrom c 0)) × (r ≤ 12) ⌝ }
 {
-    let mut place = k;
-    let mut rest = left;
-    while place < 12 {
-        if owned(c, place) {
-            if rest % 2 == 1 {
-                return Cursor {
-                    place: place,
-                    left: rest / 2,
-                };
-            }
-            rest = rest / 2;
+    let mut count: usize = 0;
+    let mut left = bans;
+    let mut k: u8 = 0;
+    while k < 12 {
+        if owned(c, k) {
+            count = with_ban(rows, count, left, k);
+            left = left / 2;
         }
-        place += 1;
+        k += 1;
     }
-    Cursor { place: 0, left: 0 }
+    count
 }

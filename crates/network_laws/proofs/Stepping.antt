@@ -19,7 +19,8 @@ use Rattle.agent.specs.declared.Own.{Own}
 use Rattle.agent.specs.Entries.{Able, ViewFits}
 use Rattle.agent.specs.Abstract.{assigned, messageOf, agentOf, selfOf as selfOf′, bansIn}
 use Rattle.protocol.specs.Network.{selfOf, bansOf, stepOn}
-use Rattle.shape_laws.proofs.ShapeClauses.{MessageShaped}
+use Rattle.protocol.specs.Shape.{inShape}
+use Rattle.shape_laws.proofs.ShapeClauses.{MessageShaped, shaped}
 use Rattle.shape_laws.proofs.DeliverShape.{Head, owned-any, record-fits, message-fits}
 use Rattle.network.specs.declared.Network.{Network}
 use Rattle.network.specs.Abstract.{problemOf, networkOf}
@@ -119,3 +120,8 @@ module _ (o : Network) (i j : ℕ) (m : Message) (others : List Message′) (z :
       rw (p, self-is o j (H .to-low), ← agent-is o d j z (H .to-low) high)
       (weaker-message (owns (networkOf o .problem)) anyValue (selfOf (networkOf o .rule) (networkOf o .problem) j) (networkOf o .agents j) i (messageOf m) owned
       (message-fits (networkOf o) i j (messageOf m) (H .from-low) (omega (arith, H .from-high, H .shape .range .high)) shaped-head))
+
+-- a network in shape has at most twelve agents
+pub few-agents : (o : Network) → inShape (networkOf o) ≡ true → o .count ≤ 12
+unfolding networkOf problemOf maxAgents
+few-agents o s = shaped (networkOf o) s .range .high

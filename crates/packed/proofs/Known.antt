@@ -2,10 +2,10 @@
 -- Tests turned into bounds and back.
 use Prim.Native.Nat.{ℕ, zero, suc, _≤_}
 use mathlib.Core.Path.{_≡_, refl}
-use mathlib.Core.Bool.{true, false, not}
+use mathlib.Core.Bool.{true, not}
 use native.Mathlib.Omega.{arith}
 use lib.Dec.{eqb, eqb·suc-zero}
-use borrow.Author.Tests.{lt-ltb, ltb-true, ltb-false}
+use borrow.Author.Tests.{lt-ltb, ltb-true}
 use Rattle.agent_rules.specs.Message.{known}
 
 pub known-suc : (v : ℕ) → known (suc v) ≡ true
@@ -19,10 +19,6 @@ known-from v h = lt-ltb 0 v h
 pub known-true : (v : ℕ) → known v ≡ true → 1 ≤ v
 unfolding known
 known-true v e = ltb-true 0 v e
-
-pub known-false : (v : ℕ) → known v ≡ false → v ≡ 0
-unfolding known
-known-false v e = omega (arith, ltb-false 0 v e)
 
 -- as the code tests it
 pub unknown : (u : ℕ) → not (known u) ≡ eqb u 0

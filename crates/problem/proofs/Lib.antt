@@ -5,6 +5,7 @@ pub mod Fields
 pub mod Walk
 pub mod Checks
 pub mod Rows
+pub mod Gaps
 pub mod Sheet
 pub mod Writing
 pub mod Same

@@ -1,10 +1,11 @@
 -- Worked cases of the sheet's checks, each worked out from docs/RULES.md, 'The sheet' and 'Nights on the rail'.
 use Prim.Native.Nat.{ℕ, pred, _-_}
-use mathlib.Core.Bool.{Bool, true, false, not, _&&_}
+use mathlib.Core.Bool.{Bool, false, not, _&&_}
 use mathlib.Core.List.{List, [], _∷_, _++_}
 use lib.ListN.{set, take, replicate}
 use lib.Dec.{eqb}
 use Rattle.base.specs.Finite.{allTo}
+use Rattle.base.specs.Same.{sameBool, sameNumbers}
 use Rattle.problem.specs.Problem.{Problem, maxDomain, banned, linked}
 use Rattle.problem.specs.Row.{Row, rowsBan}
 use Rattle.problem.specs.Sheet.{Decoded, Valid, Invalid, faultNumber, decode}
@@ -25,17 +26,6 @@ pub data Case : Type 0 where
   Reads : List ℕ → ℕ → List ℕ → List Row → Case  -- good, with this n, these slot counts and exactly these bans
   Same : List ℕ → List ℕ → Case  -- good both, and the same problem
   Unlinked : List ℕ → ℕ → ℕ → Case  -- good, and these two agents are not linked
-
-unfoldable pub sameNumbers : List ℕ → List ℕ → Bool
-sameNumbers [] [] = true
-sameNumbers [] (y ∷ ys) = false
-sameNumbers (x ∷ xs) [] = false
-sameNumbers (x ∷ xs) (y ∷ ys) = eqb x y && sameNumbers xs ys
-
-unfoldable pub sameBool : Bool → Bool → Bool
-sameBool true b = b
-sameBool false true = false
-sameBool false false = true
 
 -- of all that two of its agents could have banned, exactly these are
 unfoldable pub bansAre : List Row → Problem → Bool

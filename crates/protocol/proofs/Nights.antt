@@ -2,9 +2,10 @@
 use mathlib.Core.Path.{refl}
 use Rattle.base.specs.Finite.{at, fromOne, within, lowest, highest, allTo, every, any, gather, isSome, each}
 use Rattle.base.specs.Bits.{bit, withBit}
+use Rattle.base.specs.Same.{sameBool, sameNumbers}
 use Rattle.problem.specs.Problem.{maxAgents, maxDomain, maxPairs, domain, owns, pairsBefore, wordAt, bitAt, isPair, banned, linked, noBans, countInRange, domainInRange, wordOwned, bansOwned, sized, inRange, emptyProblem, withTable, withBits, withBans}
 use Rattle.problem.specs.Sheet.{faultNumber, headerLength, recordLength, maxRecords, byteAt, wordFrom, agentsIn, firstIn, recordsIn, domainsIn, withoutBans, headerGood, recordStart, nextOf, recordGood, walk, decode, rowAt, rowOf, editionIn}
-use Rattle.problem.specs.Cases.{sameNumbers, minus, sameBool}
+use Rattle.problem.specs.Cases.{minus}
 use Rattle.agent_rules.specs.Message.{known, nobody, sentTo}
 use Rattle.agent_rules.specs.Counts.{noCounts, eachSort, eachCount, ofSort, number, messageIn, messagesIn, top, raised, counting}
 use Rattle.agent_rules.specs.Agent.{noNogoods, unusedAgent, above, agrees}

@@ -7,10 +7,11 @@ use mathlib.Core.List.{List, [], _∷_, _++_}
 use lib.ListN.{length, replicate}
 use lib.Dec.{eqb}
 use Rattle.base.specs.Finite.{gather}
+use Rattle.base.specs.Same.{sameNumbers}
 use Rattle.problem.specs.Problem.{noBans}
 use Rattle.problem.specs.Row.{Row}
 use Rattle.problem.specs.Writing.{written}
-use Rattle.problem.specs.Cases.{ban, gaps, minus, sameNumbers}
+use Rattle.problem.specs.Cases.{ban, gaps, minus}
 use Rattle.agent_rules.specs.Message.{Assignment, Message, Info, Back, AddLink}
 use Rattle.agent_rules.specs.Agent.{Agent, withCounts}
 use Rattle.agent_rules.specs.Cases.{values, agent, sameAgent, sameMessage, counts, sameCounts}

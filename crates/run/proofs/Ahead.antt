@@ -9,13 +9,14 @@ use native.Mathlib.Numerals.{add-one}
 use lib.ListN.{length, getD, replicate, length-append, length-replicate}
 use Rattle.base.specs.Finite.{at, fromOne, lowest, gather}
 use Rattle.base.proofs.Tests.{test, eq-test, no-some}
-use Rattle.base.proofs.Lists.{All, All-append, gather-all}
+use Rattle.base.proofs.Lists.{All, All-append, gather-all, gather-length}
 use Rattle.base.proofs.Search.{lowest-range, lowest-before, at-same, at-other}
 use Rattle.base.proofs.Gathers.{gather-same, gather-none}
 use Rattle.agent_rules.specs.Message.{known, nobody}
 use Rattle.agent_rules.specs.Shape.{maxNamed}
+use Rattle.agent_rules.proofs.Assignments.{unknown-zero}
 use Rattle.packed.specs.Packed.{assignment}
-use Rattle.packed.proofs.Known.{known-true, known-false}
+use Rattle.packed.proofs.Known.{known-true}
 use Rattle.packed.proofs.Digits.{digit-lt, nobody-assigned}
 use Rattle.protocol.specs.Run.{Line, isLine}
 use Rattle.shape_laws.proofs.Lines.{other-from, other-to}
@@ -46,7 +47,7 @@ first-cell i (suc m) k f r e =
     (gather-same m (suc k) (cell f i) (cell (at f k (f k - 1)) i) (λ j l h. ap (λ (v : ℕ). replicate v (line i j)) (sym (at-other f k (f k - 1) j (λ z. absurd (omega arith))))))))
     (λ t.
     let q = rw (t, lowest) at e in
-    let z = known-false (f k) t in
+    let z = unknown-zero (f k) t in
     let b = lowest-range m (suc k) (λ j. known (f j)) r q in
     rw (at-other f r (f r - 1) k (λ s. absurd (omega arith)), z) (first-cell i m (suc k) f r q))
 
@@ -55,7 +56,7 @@ pub visit-lowest : (rest r rest′ : ℕ) → lowest maxNamed 1 (λ k. known (as
     → assignment rest′ ≡ at (assignment rest) r (assignment rest r - 1) → (j : ℕ) → 1 ≤ j → j < r → assignment rest′ j ≡ 0
 visit-lowest rest r rest′ e d j l h =
     rw (d, at-other (assignment rest) r (assignment rest r - 1) j (λ q. absurd (omega arith)))
-    (known-false (assignment rest j) (lowest-before maxNamed 1 (λ k. known (assignment rest k)) r j e l h))
+    (unknown-zero (assignment rest j) (lowest-before maxNamed 1 (λ k. known (assignment rest k)) r j e l h))
 
 -- the visits of the lowest line that has some, and the others with none there
 passed-cell : (i m k : ℕ) (f : ℕ → ℕ) (r : ℕ) → k ≤ r → r < k + m → ((j : ℕ) → k ≤ j → j < r → f j ≡ 0)
@@ -138,14 +139,9 @@ passed-less quota n left {v = v} h e l u rest′ d =
     let b = passed-fewer quota n (v .from) (v .rest) (v .to) rest′ l u (h .least e) d in
     omega arith
 
-gather-length : (c m k : ℕ) (f : ℕ → List Line) → ((j : ℕ) → length (f j) ≤ c) → length (gather m k f) ≤ m * c
-unfolding gather
-gather-length c zero k f h = omega arith
-gather-length c (suc m) k f h = rw (length-append (f k) (gather m (suc k) f)) (omega (arith, h k, gather-length c m (suc k) f h))
-
 row-short : (x i : ℕ) → length (row (assignment x) i) ≤ 240
 unfolding maxNamed assignment fromOne
-row-short x i = gather-length 15 16 1 (cell (assignment x) i) (λ j. rw (length-replicate (assignment x j) (line i j)) (omega (arith, digit-below x j)))
+row-short x i = gather-length 15 16 1 (cell (assignment x) i) (λ j _ _. rw (length-replicate (assignment x j) (line i j)) (omega (arith, digit-below x j)))
   where
     digit-below : (y j : ℕ) → assignment y j < 16
     digit-below y zero = omega arith
@@ -155,6 +151,6 @@ pub round-less : (quota : List ℕ) (n left rest w : ℕ) → 1 ≤ left → n �
 unfolding rowOf
 round-less quota n left rest w l h =
     let a = row-short rest 0 in
-    let b = gather-length 240 (n - 0) 1 (λ x. row (rowOf quota x) x) (λ x. row-short (fromOne 0 (λ k. getD quota k 0) x) x) in
+    let b = gather-length 240 (n - 0) 1 (λ x. row (rowOf quota x) x) (λ x _ _. row-short (fromOne 0 (λ k. getD quota k 0) x) x) in
     let c = length-append (row (assignment rest) 0) (rows quota (n - 0) (0 + 1)) in
     omega arith

@@ -9,14 +9,12 @@ use lib.Dec.{eqb}
 use lib.ListN.{length}
 use Rattle.base.specs.Finite.{any}
 use Rattle.base.proofs.Lists.{All}
-use Rattle.problem.specs.Problem.{maxAgents}
 use Rattle.agent.specs.declared.Bars.{Bars}
 use Rattle.protocol.specs.Shape.{inShape}
 use Rattle.protocol.specs.Run.{Line, Try, Sweep, passedBy, sweep, Round}
-use Rattle.shape_laws.proofs.ShapeClauses.{shaped}
 use Rattle.shape_laws.proofs.RunFaults.{Supplied}
 use Rattle.network.specs.declared.Network.{Network}
-use Rattle.network.specs.Abstract.{problemOf, networkOf}
+use Rattle.network.specs.Abstract.{networkOf}
 use Rattle.network_laws.specs.Held.{Clean}
 use Rattle.network_laws.proofs.Changes.{FullArrays}
 use Rattle.run.specs.Lines.{ahead}
@@ -78,8 +76,3 @@ pub record Here (once : Bool) (whole : Worked) (o₀ : Network) (number₀ : ℕ
   pub end : Sweep → Worked
   pub kind : Kind once missed met left made waited end
   pub same : whole ≡ end (sweep (sweepOf o delivered tried) (ahead quota n i rest))
-
--- a network in shape has at most twelve agents
-pub shape-few : (o : Network) → inShape (networkOf o) ≡ true → o .count ≤ 12
-unfolding networkOf problemOf maxAgents
-shape-few o s = shaped (networkOf o) s .range .high

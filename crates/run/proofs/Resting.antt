@@ -16,6 +16,7 @@ use Rattle.agent.specs.declared.Bars.{Bars}
 use Rattle.protocol.specs.Network.{Network as Network′}
 use Rattle.protocol.specs.Delivery.{rejectionNumber}
 use Rattle.protocol.specs.Run.{Line, idle, visits, Sweep, beginRound, sweep, endingNumber, endingAt, finish, oneIf, isStuck}
+use Rattle.protocol.proofs.Rounds.{one-at-most}
 use Rattle.shape_laws.proofs.RunFaults.{visits-supplied}
 use Rattle.network.specs.declared.Network.{Network}
 use Rattle.network.specs.Abstract.{networkOf}
@@ -55,11 +56,6 @@ broken-ending j k v a b number e = rw (eq-eqb number 5 e, endsBy)
 not-not : (b : Bool) → not (not b) ≡ b
 not-not true = refl
 not-not false = refl
-
-one-at-most : (b : Bool) → oneIf b ≤ 1
-unfolding oneIf
-one-at-most true = omega arith
-one-at-most false = omega arith
 
 -- the rounds made, counted on if nothing was missed
 pub one-more : (made m : ℕ) (missed : Bool) → not missed ≡ true → m ≡ made + 1 → m ≡ made + oneIf (not missed)

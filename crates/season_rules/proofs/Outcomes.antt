@@ -13,6 +13,7 @@ use Rattle.problem.proofs.Sheet.{decode-in-range}
 use Rattle.protocol.specs.Network.{Network, start, isRule, startedOn, startSheet}
 use Rattle.protocol.specs.Shape.{inShape}
 use Rattle.protocol.specs.Run.{oneIf, idle, endingAt, finish, Round, Ran, maxRounds, allowed, run}
+use Rattle.protocol.proofs.Rounds.{one-at-most}
 use Rattle.shape_laws.proofs.Shape.{start-in-shape}
 use Rattle.shape_laws.proofs.Runs.{roundOf, Ends, rests, used, stops, run-ends}
 use Rattle.season_rules.specs.Season.{seasonRule, seasonRounds, outcomeBy, outcome, place}
@@ -24,11 +25,6 @@ pub record Settled (most : ℕ) (r : Ran) : Type 0 where
   pub word : 1 ≤ place (r .ending)
   pub last : place (r .ending) ≤ 4
   pub few : r .made ≤ most
-
-one-few : (b : Bool) → oneIf b ≤ 1
-unfolding oneIf
-one-few true = omega arith
-one-few false = omega arith
 
 finished : (most : ℕ) (w : Network) (made : ℕ) (rounds : List Round) (stuck : Bool) → made ≤ most → Settled most (finish w made rounds stuck)
 unfolding finish endingAt place
@@ -44,13 +40,13 @@ finished most w made rounds stuck h =
 settled : (k : ℕ) (w : Network) → inShape w ≡ true → Settled (allowed k) (run k w)
 settled k w s =
     go (run-ends (λ made rounds _. made ≤ length rounds)
-    (λ made rounds v _ _ _ h. omega (arith, one-few (roundOf v .full), length-append rounds (roundOf v ∷ []))) k w s (omega arith))
+    (λ made rounds v _ _ _ h. omega (arith, one-at-most (roundOf v .full), length-append rounds (roundOf v ∷ []))) k w s (omega arith))
   where
     go : Ends (λ made rounds _. made ≤ length rounds) (allowed k) (run k w) → Settled (allowed k) (run k w)
     go (rests made rounds v p _ l e) = rw e (finished (allowed k) v made rounds false (omega arith))
     go (used made rounds v p l e) = rw e (finished (allowed k) v made rounds false (omega arith))
     go (stops made rounds v p _ _ _ l e) =
-        rw e (finished (allowed k) _ (made + oneIf (roundOf v .full)) _ true (omega (arith, one-few (roundOf v .full))))
+        rw e (finished (allowed k) _ (made + oneIf (roundOf v .full)) _ true (omega (arith, one-at-most (roundOf v .full))))
 
 -- ---- a sheet
 

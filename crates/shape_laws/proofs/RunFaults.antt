@@ -1,7 +1,6 @@
 -- Inside a run on a network in shape every try is accepted or rejected with NoRoom. A round tries each line at most as often as it held a message when the
 -- round began, and a channel loses a message only to a try of its own line, so every try finds one.
 use mathlib.Core.Path.{_≡_, refl, sym, _∙_}
-use mathlib.Core.Logic.{_⊎_, inl, inr}
 use mathlib.Core.List.{List, [], _∷_, _++_, append-nil, append-assoc}
 use mathlib.Core.Bool.{true, false, not, cond, false≢true}
 use Prim.Native.Nat.{ℕ, zero, suc, _+_, _≤_}
@@ -11,7 +10,7 @@ use lib.Dec.{eqb}
 use borrow.Author.Tests.{eqb-true}
 use Rattle.base.specs.Finite.{at}
 use Rattle.base.proofs.Tests.{test, to-within, or-false-both, to-both}
-use Rattle.base.proofs.Lists.{All, All-map, All-append, gather-all}
+use Rattle.base.proofs.Lists.{All, All-map, gather-all}
 use Rattle.base.proofs.Counting.{countIf}
 use Rattle.agent_rules.specs.Message.{Message, Info, Back, AddLink, sentTo}
 use Rattle.agent_rules.specs.Agent.{Step}
@@ -184,15 +183,3 @@ pub kept-by-visits : (P : List Line → Sweep → Type 0) → VisitsKeep P → (
     → P (visits w) (round w)
 unfolding round beginRound
 kept-by-visits P K w h p = kept-by-sweep P K [] (visits w) (beginRound w) h (visits-supplied w h) p
-
--- every try of a round is accepted or rejected with NoRoom
-pub run-meets : (w : Network) → inShape w ≡ true → All (λ t. (t .answer ≡ Accepted) ⊎ (t .answer ≡ Rejected NoRoom)) (round w .tried)
-unfolding beginRound tally
-run-meets w h =
-    kept-by-visits (λ _ s. All (λ t. (t .answer ≡ Accepted) ⊎ (t .answer ≡ Rejected NoRoom)) (s .tried))
-    (record { skips = λ _ _ _ _ m. m; tries = λ _ s l d _ t m. All-append _ (s .tried) _ m (meets s l d t, tt) }) w h tt
-  where
-    meets : (s : Sweep) (l : Line) (d : Delivery) → Tried (s .network) (l .from) (l .to) d
-        → (d .answer ≡ Accepted) ⊎ (d .answer ≡ Rejected NoRoom)
-    meets s l d (turned a e) = inr a
-    meets s l d (taken m others h a e) = inl a

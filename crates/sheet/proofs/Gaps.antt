@@ -1,6 +1,6 @@
 -- Signed bytes and gaps, as the machine has them.
 -- A byte from 128 on is 256 less; a gap from -7 to 7 fits a signed byte.
-use Prim.Native.Nat.{ℕ, zero, suc, _+_, _-_, _≤_, _<_}
+use Prim.Native.Nat.{ℕ, _+_, _-_, _≤_, _<_}
 use mathlib.Core.Path.{_≡_, _∙_}
 use mathlib.Core.Bool.{Bool, _&&_}
 use native.Mathlib.Omega.{arith}
@@ -12,6 +12,7 @@ use mir.Val.{SFits, toZ, ofZ}
 use mir.Facts.{toZ-pos, toZ-ofZ}
 use Rattle.base.proofs.Tests.{test}
 use Rattle.problem.specs.Row.{signed, gap}
+use Rattle.problem.proofs.Gaps.{gap-at}
 
 pub signed-low : (b : ℕ) → b < 128 → toZ w8 b ≡ signed b
 unfolding signed
@@ -39,25 +40,11 @@ pub machine-gap : (k : ℕ) → k < 15 → toZ w8 (ofZ w8 (toZ w8 k -ℤ pos 7))
 machine-gap k h = rw (small k h) (toZ-ofZ (gap-fits k h))
 
 -- it is the gap of the pairs on that diagonal
-gap-there : (k v w : ℕ) → 1 ≤ v → w + 7 ≡ k + v → gap v w ≡ pos k -ℤ pos 7
-unfolding gap
-gap-there k zero w l e = absurd (omega arith)
-gap-there k (suc v) w l e =
-    test (ltb k 7)
-    (λ t.
-    let below : w < suc v = omega (arith, ltb-true k 7 t) in
-    let same : suc v - suc w ≡ 7 - suc k = omega (arith, ltb-true k 7 t) in
-    rw (t, lt-ltb w (suc v) below, same))
-    (λ t.
-    let above : suc v ≤ w = omega (arith, ltb-false k 7 t) in
-    let same : w - suc v ≡ k - 7 = omega (arith, ltb-false k 7 t) in
-    rw (t, le-ltb w (suc v) above, same))
-
 pub on-diagonal : (f : ℤ → Bool) (k v w : ℕ) → 1 ≤ v
     → eqb (w + 7) (k + v) && f (gap v w) ≡ eqb (w + 7) (k + v) && f (pos k -ℤ pos 7)
 on-diagonal f k v w l =
     test (eqb (w + 7) (k + v))
-    (λ e. rw (e, gap-there k v w l (eqb-true (w + 7) (k + v) e)))
+    (λ e. rw (e, gap-at k v w l (eqb-true (w + 7) (k + v) e)))
     (λ e. rw e)
 
 -- a signed byte handed over

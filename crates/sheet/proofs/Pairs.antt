@@ -10,11 +10,12 @@ use lib.Bits.{bitAnd, bitOr, and-lt, or-lt}
 use borrow.Author.Tests.{ltb-true, leb-true}
 use Rattle.base.specs.Finite.{within, allTo}
 use Rattle.base.specs.Bits.{bit}
+use Rattle.base.specs.Same.{sameBool}
 use Rattle.base.proofs.Tests.{both}
 use Rattle.base.proofs.Search.{allTo-at}
 use Rattle.base.proofs.Bits.{bit-of-zero, bit-or, bit-and, bit-pow, bit-ext}
+use Rattle.base.proofs.Same.{same-bool}
 use Rattle.problem.specs.Problem.{maxDomain, bitAt, withBits}
-use Rattle.problem.specs.Cases.{sameBool}
 use Rattle.problem.proofs.Bits.{Value, same-bit, bits, bits-below}
 use Rattle.sheet.specs.Parts.{Pairs}
 
@@ -59,20 +60,13 @@ single v w lv hv lw hw =
 unfoldable tested : ℕ → (ℕ → ℕ → Bool) → Bool
 tested x h = ltb x (2 ^ 64) && allTo 8 (λ v. allTo 8 (λ w. sameBool (bit x (bitAt v w)) (h v w)))
 
-agree : (a b : Bool) → sameBool a b ≡ true → a ≡ b
-unfolding sameBool
-agree true true h = refl
-agree true false h = sym h
-agree false true h = h
-agree false false h = refl
-
 pairs : (x : ℕ) (h : ℕ → ℕ → Bool) → tested x h ≡ true → Pairs x h
 unfolding tested
 pairs x h t =
     let p = both (ltb x (2 ^ 64)) _ t in
     record {
       short = ltb-true _ _ (p .0);
-      bits = λ v w a b c d. agree _ _ (allTo-at 8 _ (allTo-at 8 _ (p .1) v a b) w c d);
+      bits = λ v w a b c d. same-bool _ _ (allTo-at 8 _ (allTo-at 8 _ (p .1) v a b) w c d);
     }
 
 -- the pairs of gap k - 7: the main diagonal, moved up or down

@@ -2,11 +2,11 @@
 use mathlib.Core.Path.{refl}
 use Rattle.base.specs.Finite.{at, fromOne, within, lowest, highest, allTo, every, any, gather, isSome, each}
 use Rattle.base.specs.Bits.{bit, withBit}
+use Rattle.base.specs.Same.{sameBool}
 use Rattle.problem.specs.Problem.{maxAgents, maxDomain, maxPairs, domain, owns, pairsBefore, wordAt, bitAt, isPair, banned, linked, noBans, countInRange, domainInRange, wordOwned, bansOwned, sized, inRange, withTable, withBits, withBans}
 use Rattle.problem.specs.Sheet.{headerLength, recordLength, maxRecords, byteAt, wordFrom, agentsIn, firstIn, recordsIn, domainsIn, withoutBans, headerGood, recordStart, nextOf, recordGood, walk, decode, rowAt, rowOf, editionIn}
 use Rattle.problem.specs.Row.{agentsGood, valuesGood, signed, between, gapsGood, fieldsGood, rowGood, gap, hits, withRow}
 use Rattle.problem.specs.Writing.{twoBytes, headerBytes, rowBytes, indexAfter, chained, written}
-use Rattle.problem.specs.Cases.{sameBool}
 use Rattle.agent_rules.specs.Message.{known, nobody, sentTo}
 use Rattle.agent_rules.specs.Counts.{noCounts, eachSort, eachCount, ofSort, number, messageIn, messagesIn, top, raised, counting}
 use Rattle.agent_rules.specs.Agent.{noNogoods, unusedAgent, above, agrees}

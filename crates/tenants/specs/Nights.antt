@@ -6,8 +6,9 @@ use mathlib.Core.Bool.{Bool, true, false, _&&_}
 use mathlib.Core.List.{List, [], _∷_, _++_}
 use lib.Dec.{eqb}
 use Rattle.base.specs.Finite.{at, allTo, gather}
+use Rattle.base.specs.Same.{sameBool}
 use Rattle.problem.specs.Problem.{maxAgents, maxDomain, domain, banned}
-use Rattle.problem.specs.Cases.{ban, sameBool}
+use Rattle.problem.specs.Cases.{ban}
 use Rattle.agent_rules.specs.Message.{Info, Back, Post}
 use Rattle.agent_rules.specs.Agent.{Agent, unusedAgent, withCounts}
 use Rattle.agent_rules.specs.Cases.{agent, post, sameAgent, sameMessage, samePosts, counts}

@@ -16,6 +16,7 @@ use Rattle.agent_facts.specs.Facts.{Requests, busyView, TellsSender, Sends}
 use Rattle.protocol.specs.Network.{Network}
 use Rattle.protocol.specs.Delivery.{Answer, Accepted, Rejected, isAccepted}
 use Rattle.protocol.specs.Run.{Line, oneIf, isLine}
+use Rattle.protocol.proofs.Rounds.{one-at-most}
 use Rattle.theorems.specs.Calls.{attemptOf, replay, acceptedNow, acceptedOn}
 use Rattle.shape_laws.proofs.Handing.{OnChannel, hit, put, rest, on-channel}
 use Rattle.theorems.proofs.Moves.{Move}
@@ -99,11 +100,6 @@ Stable p k E I = (A : Act p k) → E (A .old) → E (A .new) → I (A .old) → 
 abbrev pub Awaits : Problem → ℕ → (Network → Type 0) → ℕ → ℕ → (ℕ → Network → Type 0) → Type 0
 Awaits p k E x y Q =
     (A : Act p k) → E (A .old) → E (A .new) → (n : ℕ) → Q n (A .old) → Q (cond (isLine x y (A .line)) (pred n) n) (A .new)
-
-one-at-most : (b : Bool) → oneIf b ≤ 1
-unfolding oneIf
-one-at-most true = omega arith
-one-at-most false = omega arith
 
 not-accepted : (a : Answer) → (a ≡ Accepted → ⊥) → isAccepted a ≡ false
 unfolding isAccepted

@@ -1,11 +1,12 @@
 -- Worked cases of turning, each worked out from docs/RULES.md, 'Turning one edition into the other' and 'The sheet'.
 use Prim.Native.Nat.{ℕ}
-use mathlib.Core.Bool.{Bool, false, _&&_}
+use mathlib.Core.Bool.{Bool, false}
 use mathlib.Core.List.{List, [], _∷_, _++_}
 use lib.ListN.{set, take, replicate}
 use lib.Dec.{eqb}
 use Rattle.base.specs.Lent.{Written}
-use Rattle.problem.specs.Cases.{sameNumbers, header, row, gapHeader, gapRow, minus, garbage, one, twos, twoThree}
+use Rattle.base.specs.Same.{sameNumbers, sameWritten}
+use Rattle.problem.specs.Cases.{header, row, gapHeader, gapRow, minus, garbage, one, twos, twoThree}
 use Rattle.turn_rules.specs.Turning.{Turned, Made, Refused, banSheet, gapSheet, toBans, toGaps}
 
 -- ---- what a case says of a sheet
@@ -167,9 +168,6 @@ cases = turned ++ refusals
 pub record Put : Type 0 where
   pub result : Written
   pub answer : Written
-
-unfoldable pub sameWritten : Written → Written → Bool
-sameWritten a b = eqb (a .number) (b .number) && eqb (a .length) (b .length) && sameNumbers (a .buffer) (b .buffer)
 
 unfoldable pub putHolds : Put → Bool
 putHolds c = sameWritten (c .result) (c .answer)

@@ -1,19 +1,21 @@
 -- Gaps as places: the place of a pair of slots tells its gap, and the bytes of two places tell which gaps lie between.
 -- The bytes are 15, tested by computation.
-use Prim.Native.Nat.{ℕ, zero, suc, pred, _+_, _-_, _≤_, _<_}
+use Prim.Native.Nat.{ℕ, suc, pred, _-_, _≤_, _<_}
 use mathlib.Core.Path.{_≡_, refl, sym, _∙_}
-use mathlib.Core.Bool.{Bool, true, false, _&&_}
+use mathlib.Core.Bool.{Bool, true, _&&_}
 use native.Mathlib.Omega.{arith}
-use lib.Dec.{ltb, leb}
+use lib.Dec.{leb}
 use lib.IntN.{pos, negℤ, _-ℤ_}
 use lib.Signed.{leZ}
-use borrow.Author.Tests.{ltb-true, ltb-false, lt-ltb, le-ltb, leb-true, le-leb}
+use borrow.Author.Tests.{leb-true, le-leb}
 use Rattle.base.specs.Finite.{allTo}
-use Rattle.base.proofs.Tests.{test, to-both}
+use Rattle.base.specs.Same.{sameBool}
+use Rattle.base.proofs.Tests.{to-both}
 use Rattle.base.proofs.Search.{allTo-at}
+use Rattle.base.proofs.Same.{same-bool}
 use Rattle.problem.specs.Problem.{maxDomain}
 use Rattle.problem.specs.Row.{signed, between, gapsGood, gap}
-use Rattle.problem.specs.Cases.{sameBool}
+use Rattle.problem.proofs.Gaps.{gap-at}
 use Rattle.turn_rules.specs.Gaps.{placeOf, gapByte}
 
 -- ---- the place of a pair of slots
@@ -28,20 +30,6 @@ pub place-inside : (v w : ℕ) → Slots v w → placeOf v w < 15
 unfolding maxDomain placeOf
 place-inside v w s = omega (arith, s .low, s .most, s .low′, s .most′)
 
-gap-at : (k v w : ℕ) → 1 ≤ v → w + 7 ≡ k + v → gap v w ≡ pos k -ℤ pos 7
-unfolding gap
-gap-at k zero w l e = absurd (omega arith)
-gap-at k (suc v) w l e =
-    test (ltb k 7)
-    (λ t.
-    let below : w < suc v = omega (arith, ltb-true k 7 t) in
-    let same : suc v - suc w ≡ 7 - suc k = omega (arith, ltb-true k 7 t) in
-    rw (t, lt-ltb w (suc v) below, same))
-    (λ t.
-    let above : suc v ≤ w = omega (arith, ltb-false k 7 t) in
-    let same : w - suc v ≡ k - 7 = omega (arith, ltb-false k 7 t) in
-    rw (t, le-ltb w (suc v) above, same))
-
 pub gap-place : (v w : ℕ) → Slots v w → gap v w ≡ pos (placeOf v w) -ℤ pos 7
 unfolding maxDomain placeOf
 gap-place v w s = gap-at (placeOf v w) v w (s .low) (omega (arith, s .low′, s .most))
@@ -50,13 +38,6 @@ pub same-gap : (v w v′ w′ : ℕ) → Slots v w → Slots v′ w′ → place
 same-gap v w v′ w′ s s′ e = gap-place v w s ∙ rw e (sym (gap-place v′ w′ s′))
 
 -- ---- bytes
-
-agree : (a b : Bool) → sameBool a b ≡ true → a ≡ b
-unfolding sameBool
-agree true true h = refl
-agree true false h = sym h
-agree false true h = h
-agree false false h = refl
 
 unfoldable fifteen : (ℕ → Bool) → Bool
 fifteen f = allTo 15 (λ k. f (pred k))
@@ -82,7 +63,7 @@ unfolding allTo signed sameBool gapByte fifteen
 order = refl
 
 two : (f g : ℕ → ℕ → Bool) → fifteen (λ a. fifteen (λ b. sameBool (f a b) (g a b))) ≡ true → (a b : ℕ) → a < 15 → b < 15 → f a b ≡ g a b
-two f g t a b h k = agree _ _ (at-fifteen _ (at-fifteen _ t a h) b k)
+two f g t a b h k = same-bool _ _ (at-fifteen _ (at-fifteen _ t a h) b k)
 
 -- equal gaps have one place
 place-order : (k l : ℕ) → k < 15 → l < 15 → pos k -ℤ pos 7 ≡ pos l -ℤ pos 7 → k ≤ l

@@ -1,6 +1,4 @@
 mod Runs
-mod Filling
 mod Marks
 mod Words
-mod Sheets
 mod Answers

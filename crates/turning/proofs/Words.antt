@@ -1,23 +1,22 @@
 -- What the code says of one word of the table is what the definitions say of two agents.
 -- A ban between owned slots is a bit of their word; sets of gaps that agree on owned slots are the same.
-use Prim.Native.Nat.{ℕ, zero, suc, pred, _-_, _/_, _%_, _^_, _≤_, _<_}
-use mathlib.Core.Path.{_≡_, refl, sym, ap, fun-ext, _∙_}
+use Prim.Native.Nat.{ℕ, suc, pred, _-_, _^_, _≤_, _<_}
+use mathlib.Core.Path.{_≡_, sym, ap, fun-ext, _∙_}
 use mathlib.Core.Logic.{_≢_}
-use mathlib.Core.Bool.{Bool, true, false, not, cond, _&&_}
+use mathlib.Core.Bool.{Bool, true, not, cond, _&&_}
 use mathlib.Core.List.{[], _∷_}
-use native.Mathlib.Nat.{pow-suc}
 use native.Mathlib.Omega.{arith}
 use lib.ListN.{getD}
 use lib.Dec.{eqb}
 use lib.Bits.{bitAnd, and-lt}
-use borrow.Author.Tests.{lt-ltb, le-leb, eqb-true, eqb-false, eq-eqb, ne-eqb}
+use borrow.Author.Tests.{lt-ltb, le-leb, eqb-true, eq-eqb, ne-eqb}
 use Rattle.base.specs.Finite.{allTo}
 use Rattle.base.specs.Bits.{bit}
 use Rattle.base.proofs.Tests.{not-true, to-within}
 use Rattle.base.proofs.Search.{allTo-at, to-allTo}
 use Rattle.base.proofs.Peeling.{same-test, allTo-same, zero-bits}
 use Rattle.base.proofs.Gathers.{gather-same}
-use Rattle.base.proofs.Bits.{bit-zero, bit-suc, bit-of-zero, bit-and}
+use Rattle.base.proofs.Bits.{bit-of-zero, bit-and, bit-not}
 use Rattle.problem.specs.Problem.{Problem, maxAgents, maxDomain, domain, bitAt, wordAt, isPair, banned}
 use Rattle.problem.proofs.Range.{Ranged, domain-small}
 use Rattle.turn_rules.specs.Bans.{pairRow, bansWith, bansOf}
@@ -77,20 +76,9 @@ module _ (edition i j d e word : ℕ) where
 
 -- ---- the word with all bits turned round
 
-flipped : (n x k : ℕ) → x < 2 ^ n → k < n → bit (2 ^ n - 1 - x) k ≡ not (bit x k)
-flipped zero x k h l = absurd (omega arith)
-flipped (suc n) x zero h l = rw (bit-zero, bit-zero) (parity (eqb (x % 2) 1) refl)
-  where
-    parity : (b : Bool) → eqb (x % 2) 1 ≡ b → eqb ((2 ^ suc n - 1 - x) % 2) 1 ≡ not (eqb (x % 2) 1)
-    parity true e = rw e (ne-eqb ((2 ^ suc n - 1 - x) % 2) 1 (λ q. omega (arith, eqb-true (x % 2) 1 e, pow-suc 2 n)))
-    parity false e = rw e (eq-eqb ((2 ^ suc n - 1 - x) % 2) 1 (omega (arith, eqb-false (x % 2) 1 e, pow-suc 2 n)))
-flipped (suc n) x (suc k) h l =
-    let half : (2 ^ suc n - 1 - x) / 2 ≡ 2 ^ n - 1 - x / 2 = omega (arith, pow-suc 2 n) in
-    rw (bit-suc, bit-suc, half) (flipped n (x / 2) k (omega (arith, pow-suc 2 n)) (omega arith))
-
 pub not-in-word : (word v w : ℕ) → word < 2 ^ 64 → 1 ≤ v → v ≤ 8 → 1 ≤ w → w ≤ 8 → inWord (2 ^ 64 - 1 - word) v w ≡ not (inWord word v w)
 unfolding inWord bitAt
-not-in-word word v w h lv uv lw uw = flipped 64 word (bitAt v w) h (omega arith)
+not-in-word word v w h lv uv lw uw = bit-not 64 word (bitAt v w) h (omega arith)
 
 -- ---- two agents
 

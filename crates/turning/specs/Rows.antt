@@ -1,39 +1,15 @@
--- What the code's parts say: rows as packed numbers, filled one behind the other, and the pairs of slots of one word of the table.
-use Prim.Native.Nat.{ℕ, suc, _+_, _/_, _%_, _^_, _≤_, _<_}
+-- What the code's parts say of one word of the table: its pairs of slots, the runs of its gaps, and its gaps as bits.
+use Prim.Native.Nat.{ℕ, _^_, _<_}
 use mathlib.Core.Path.{_≡_}
 use mathlib.Core.Bool.{Bool, cond, _&&_, _||_}
-use mathlib.Core.List.{List, [], _∷_, _++_, map}
-use lib.ListN.{length, take}
-use lib.Dec.{eqb, ltb}
+use mathlib.Core.List.{List, [], _∷_}
+use lib.Dec.{eqb}
 use Rattle.base.specs.Finite.{gather}
 use Rattle.base.specs.Bits.{bit}
 use Rattle.problem.specs.Problem.{bitAt}
 use Rattle.problem.specs.Row.{Row}
 use Rattle.turn_rules.specs.Bans.{pairRow}
 use Rattle.turn_rules.specs.Gaps.{placeOf, someTo, begins, runRow}
-
--- ---- rows
-
--- a row in one number: lower agent, higher agent and the two fields, a byte each
-unfoldable pub rowIn : ℕ → Row
-rowIn x =
-    record { lower = x % 256; higher = x / 256 % 256; low = x / 256 / 256 % 256; high = x / 256 / 256 / 256 % 256 }
-
--- the first `count` of them
-unfoldable pub rowsIn : List ℕ → ℕ → List Row
-rowsIn rows count = map rowIn (take count rows)
-
--- behind the first `at` rows stand these
-pub record Filled (old : List ℕ) (at : ℕ) (new : List ℕ) (r : ℕ) (more : List Row) : Type 0 where
-  pub rows : rowsIn new r ≡ rowsIn old at ++ more
-  pub count : r ≡ at + length more
-  pub long : length new ≡ length old
-
--- there is room for these behind the first `at`
-abbrev pub Room : List ℕ → ℕ → List Row → Type 0
-Room rows at more = at + length more ≤ length rows
-
--- ---- one word of the table
 
 -- the pair of values v and w, if the word has it
 unfoldable pub pairIn : ℕ → ℕ → ℕ → ℕ → ℕ → List Row
@@ -58,9 +34,3 @@ gapWith e word v k = someTo e (λ w. eqb (placeOf v w) k && bit word (bitAt v w)
 pub record Marked (x y : ℕ) (f : ℕ → Bool) : Type 0 where
   pub short : y < 2 ^ 15
   pub bits : (k : ℕ) → bit y k ≡ bit x k || f k
-
--- ---- the chain
-
--- the index that record r + 1 of so many leads to
-unfoldable pub nextIndex : ℕ → ℕ → ℕ
-nextIndex r records = cond (ltb (suc r) records) (r + 2) 0

@@ -17,7 +17,6 @@ mod pairs;
 mod records;
 mod rows;
 mod sayable;
-mod writing;
 
 use lent::Written;
 use records::records;
@@ -26,7 +25,7 @@ use sheet::Decoded;
 use sheet::Problem;
 use sheet::decode;
 use sheet::rejected;
-use writing::put_sheet;
+use sheet_writer::put_sheet;
 
 const NOT_SAYABLE: u8 = 15;
 

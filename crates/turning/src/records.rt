@@ -5,7 +5,7 @@ ghost use Prim.Native.Nat.{suc, _-_, _≤_, _<_};
 ghost use Rattle.base.specs.Finite.{gather};
 ghost use Rattle.problem.specs.Problem.{inRange};
 ghost use Rattle.sheet.specs.Abstract.{problemOf};
-ghost use Rattle.turning.specs.Rows.{Filled, Room};
+ghost use Rattle.sheet_writer.specs.Rows.{Filled, Room};
 ghost use Rattle.turning.specs.Pairs.{wordRows, rowsOf, allRows};
 use crate::gaps::gaps_of;
 use crate::pairs::Pair;

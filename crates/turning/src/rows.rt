@@ -1,21 +1,14 @@
 // The records of a sheet, each packed in one number, one behind the other in a lent array.
-ghost use mathlib.Core.Path.{_≡_};
 ghost use Prim.Native.Nat.{_≤_, _<_};
 ghost use Rattle.base.specs.Bits.{bit};
-ghost use Rattle.turn_rules.specs.Bans.{pairRow};
 ghost use Rattle.turn_rules.specs.Gaps.{runsOf};
-ghost use Rattle.turning.specs.Rows.{rowIn, Filled, Room, pairIn, pairsWith, pairsOf, runIn};
+ghost use Rattle.sheet_writer.specs.Rows.{Filled, Room};
+ghost use Rattle.turning.specs.Rows.{pairIn, pairsWith, pairsOf, runIn};
 use crate::bits::bans;
 use crate::gaps::begins;
 use crate::gaps::gap_byte;
 use crate::gaps::last_of;
-
-// Lower and higher agent, and the two fields.
-fn pack(lower: u8, higher: u8, low: u8, high: u8) -> u32
-    ensures { λ x. ⌜ rowIn x ≡ pairRow lower higher low high ⌝ }
-{
-    lower as u32 + 256 * (higher as u32 + 256 * (low as u32 + 256 * high as u32))
-}
+use sheet_writer::pack;
 
 // Behind the first `at` rows, the lower's value v with the higher's value w, if the word has that pair.
 fn with_pair(rows: &mut [u32], at: usize, i: u8, j: u8, word: u64, v: u8, w: u8) -> usize

@@ -1,5 +1,4 @@
 // Text made in a lent buffer, behind what stands there already.
-ghost use mathlib.Core.Path.{_≡_};
 ghost use Prim.Native.Nat.{_+_, _≤_};
 ghost use lib.ListN.{length};
 ghost use Rattle.protocol.specs.Run.{endingWord};

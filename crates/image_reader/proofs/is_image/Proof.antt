@@ -4,7 +4,7 @@ use mathlib.Core.Bool.{_&&_}
 use mathlib.Core.List.{List}
 use Prim.Native.Nat.{ℕ}
 use lib.Seq.{length-take-le}
-use Rattle.image_format.specs.Bytes.{sameBytes}
+use Rattle.base.specs.Same.{sameNumbers}
 use Rattle.image_reader.proofs.Written.{not-written, is-written}
 use borrow.Author.Needs.{needs}
 use Rattle.image_reader.proofs.is_image.Statement.{statement}
@@ -31,7 +31,7 @@ same-requires c κs = search needs
 returns-2 : tie.Need-returns-2
 returns-2 c =
     let w = is-written _ _ _ (c .before .before .before .before .before .store .result) refl (c .before .before .before .before .before .store .ensures .0) (c .before .before .if1 .left) in
-    c .same .ensures ∙ sym (ap₂ _&&_ (w .0) (ap (λ (l : List ℕ). sameBytes l (c .before .before .before .before .before .before .before .before .args .s .now)) (sym (w .2))))
+    c .same .ensures ∙ sym (ap₂ _&&_ (w .0) (ap (λ (l : List ℕ). sameNumbers l (c .before .before .before .before .before .before .before .before .args .s .now)) (sym (w .2))))
 
 pub is-image-spec : {M : Type 1} → statement M
 is-image-spec = tie.close (tie.spec slice-aggregate-store store-requires returns array-share-prefix-buffer slice-aggregate-same same-requires returns-2)

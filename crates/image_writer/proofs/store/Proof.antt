@@ -9,9 +9,10 @@ use borrow.Author.Tests.{not-true, not-false}
 use Rattle.lent.specs.Abstract.{writtenOf}
 use Rattle.lent.proofs.Within.{counted}
 use Rattle.network.specs.Abstract.{problemOf, networkOf}
+use Rattle.network_laws.proofs.Stepping.{few-agents}
 use Rattle.image_format.specs.Image.{image}
 use Rattle.image_writer.proofs.Puts.{puts-then, puts-as}
-use Rattle.image_writer.proofs.Stored.{stores-broken, stores-short, stores, store-within, image-long, few-agents, header-put}
+use Rattle.image_writer.proofs.Stored.{stores-broken, stores-short, stores, store-within, image-long, header-put}
 use Rattle.image_writer.proofs.store.Statement.{statement}
 use Rattle.image_writer.proofs.store.Tie as tie
 

@@ -1,17 +1,22 @@
 -- `little` answers and writes as the definition says.
--- The choice of the ordinal is ready: its header and records are the sheet, which is as long as is tested.
-use mathlib.Core.Path.{_≡_, sym}
+-- The problem and the rows handed over are those of the ordinal, so what is put is its sheet.
+use mathlib.Core.Path.{_≡_, sym, ap, _∙_}
+use mathlib.Core.List.{List}
 use native.Mathlib.Omega.{arith}
-use lib.Count.{ones-le}
 use borrow.Author.Needs.{needs}
 use borrow.Author.Tests.{le-ltb}
-use Rattle.little_rules.specs.Little.{littleCount}
-use Rattle.base.specs.Lent.{untouched}
-use Rattle.little_rules.specs.Putting.{noOrdinal, putLittle}
+use Rattle.base.specs.Lent.{untouched, put}
+use Rattle.problem.specs.Problem.{Problem}
+use Rattle.problem.specs.Row.{Row}
+use Rattle.problem.specs.Writing.{written}
+use Rattle.sheet.specs.Abstract.{problemOf}
 use Rattle.lent.specs.Abstract.{writtenOf}
 use Rattle.lent.proofs.Within.{counted}
+use Rattle.little_rules.specs.Little.{littleCount, chosen}
+use Rattle.little_rules.specs.Putting.{noOrdinal, putLittle}
+use Rattle.little_sheet.specs.Rows.{rowsFrom}
 use Rattle.little_sheet.proofs.Counted.{little-within}
-use Rattle.little_sheet.proofs.Sheets.{ready, answers-short, answers-sheet}
+use Rattle.little_sheet.proofs.Sheets.{answers-sheet}
 use Rattle.little_sheet.proofs.little.Statement.{statement}
 use Rattle.little_sheet.proofs.little.Tie as tie
 
@@ -25,49 +30,36 @@ returns c =
 chosen-requires : tie.Need-chosen-requires
 chosen-requires c κs = search needs
 
-cast-records : tie.Need-cast-records
-cast-records c = omega (arith, ones-le 64 (c .before .chosen .result .bans) (omega arith))
+slice-aggregate-bans-of : tie.Need-slice-aggregate-bans-of
+slice-aggregate-bans-of c = search needs
 
-mul-length : tie.Need-mul-length
-mul-length c = omega (arith, ones-le 64 (c .before .chosen .result .bans) (omega arith))
+bans-of-requires : tie.Need-bans-of-requires
+bans-of-requires c κs = search needs
 
-add-length : tie.Need-add-length
-add-length c = omega (arith, ones-le 64 (c .before .chosen .result .bans) (omega arith))
+bare-requires : tie.Need-bare-requires
+bare-requires c κs = search needs
 
-returns-2 : tie.Need-returns-2
-unfolding littleCount writtenOf
-returns-2 c =
-    let a = c .before .before .before .before .before .args in
-    let t = c .before .before .chosen in
-    let e = sym (answers-short (a .ordinal) (t .result) (a .out .now) (omega arith) (ready (a .ordinal) (t .result) (omega arith) (t .ensures)) (omega arith)) in
-    (e, counted _ _ e (little-within (a .ordinal) (a .out .now)))
+slice-aggregate-put-sheet : tie.Need-slice-aggregate-put-sheet
+slice-aggregate-put-sheet c = search needs
 
-put-header-requires : tie.Need-put-header-requires
-unfolding littleCount
-put-header-requires c κs =
-    let t = c .before .before .before .chosen in
-    let r = ready (c .before .before .before .before .before .before .args .ordinal) (t .result) (omega arith) (t .ensures) in
-    (r .few, omega arith)
-
-put-records-requires : tie.Need-put-records-requires
-unfolding littleCount
-put-records-requires c κs =
-    let t = c .before .before .before .before .before .before .before .chosen in
-    let r = ready (c .before .before .before .before .before .before .before .before .before .before .args .ordinal) (t .result) (omega arith) (t .ensures) in
-    (r .fits, r .count, r .few, search needs)
+put-sheet-requires : tie.Need-put-sheet-requires
+put-sheet-requires c κs = search needs
 
 same-length : tie.Need-same-length
 same-length c = search needs
 
-returns-3 : tie.Need-returns-3
+returns-2 : tie.Need-returns-2
 unfolding littleCount writtenOf
-returns-3 c =
+returns-2 c =
     let a = c .before .before .before .before .before .before .before .before .before .before .before .before .before .args in
     let t = c .before .before .before .before .before .before .before .before .before .before .chosen in
+    let d = t .result in
+    let rows = chosen (d .bans) (rowsFrom (d .counts) 0) in
     let e =
-    sym
-    (answers-sheet (a .ordinal) (t .result) (a .out .now) (omega arith) (ready (a .ordinal) (t .result) (omega arith) (t .ensures)) _ _ (omega arith)
-    (c .before .before .before .before .before .before .put-header .ensures) (c .before .before .put-records .ensures)) in
+    c .before .before .put-sheet .ensures
+    ∙ ap (λ (l : List Row). put (written 1 (problemOf (c .before .before .before .before .before .bare .result)) l) (a .out .now)) (c .before .before .before .before .before .before .before .bans-of .ensures .0)
+    ∙ ap (λ (p : Problem). put (written 1 p rows) (a .out .now)) (c .before .before .before .before .before .bare .ensures)
+    ∙ sym (answers-sheet (a .ordinal) (omega arith) d (t .ensures) (a .out .now)) in
     (e, counted _ _ e (little-within (a .ordinal) (a .out .now)))
 
 pub little-spec : {M : Type 1} → statement M
@@ -76,11 +68,10 @@ little-spec =
     (tie.spec
     returns
     chosen-requires
-    cast-records
-    mul-length
-    add-length
-    returns-2
-    put-header-requires
-    put-records-requires
+    slice-aggregate-bans-of
+    bans-of-requires
+    bare-requires
+    slice-aggregate-put-sheet
+    put-sheet-requires
     same-length
-    returns-3)
+    returns-2)

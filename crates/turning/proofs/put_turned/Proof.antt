@@ -6,7 +6,7 @@ use Rattle.base.specs.Lent.{put}
 use Rattle.problem.specs.Row.{Row}
 use Rattle.problem.specs.Writing.{written}
 use Rattle.sheet.specs.Abstract.{problemOf}
-use Rattle.turning.specs.Rows.{rowsIn}
+use Rattle.sheet_writer.specs.Rows.{rowsIn}
 use borrow.Author.Needs.{needs}
 use Rattle.turning.proofs.put_turned.Statement.{statement}
 use Rattle.turning.proofs.put_turned.Tie as tie

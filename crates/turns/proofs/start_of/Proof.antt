@@ -1,6 +1,5 @@
 -- The part is as long as it is cut.
 use mathlib.Core.Path.{sym}
-use native.Mathlib.Omega.{arith}
 use lib.Seq.{length-take-le}
 use borrow.Author.Needs.{needs}
 use Rattle.turns.proofs.start_of.Statement.{statement}

@@ -2,7 +2,7 @@
 use mathlib.Core.Path.{refl, sym, _∙_}
 use mathlib.Core.Bool.{false≢true}
 use Rattle.board_text.specs.Options.{ruleOption, imageOption, kindOf}
-use Rattle.board_text.proofs.Spelling.{same-word, other-word}
+use Rattle.base.proofs.Same.{numbers-same, other-numbers}
 use borrow.Author.Needs.{needs}
 use Rattle.board_text.proofs.options.kind_of.Statement.{statement}
 use Rattle.board_text.proofs.options.kind_of.Tie as tie
@@ -15,7 +15,7 @@ same-requires c κs = search needs
 
 returns : tie.Need-returns
 unfolding kindOf ruleOption imageOption
-returns c = rw (same-word _ ruleOption (c .before .same .ensures .0 (c .if1 .taken)), kindOf) refl
+returns c = rw (numbers-same _ ruleOption (c .before .same .ensures .0 (c .if1 .taken)), kindOf) refl
 
 slice-aggregate-same-2 : tie.Need-slice-aggregate-same-2
 slice-aggregate-same-2 c = search needs
@@ -26,8 +26,8 @@ same-requires-2 c κs = search needs
 returns-2 : tie.Need-returns-2
 unfolding kindOf ruleOption imageOption
 returns-2 c =
-    let n = other-word _ ruleOption (λ e. false≢true (sym (c .before .before .before .if1 .left) ∙ c .before .before .before .before .same .ensures .1 e)) in
-    rw (n, kindOf) (rw (same-word _ imageOption (c .before .same2 .ensures .0 (c .if2 .taken)), kindOf) refl)
+    let n = other-numbers _ ruleOption (λ e. false≢true (sym (c .before .before .before .if1 .left) ∙ c .before .before .before .before .same .ensures .1 e)) in
+    rw (n, kindOf) (rw (numbers-same _ imageOption (c .before .same2 .ensures .0 (c .if2 .taken)), kindOf) refl)
 
 is-option-requires : tie.Need-is-option-requires
 is-option-requires c κs = search needs
@@ -35,15 +35,15 @@ is-option-requires c κs = search needs
 returns-3 : tie.Need-returns-3
 unfolding kindOf ruleOption imageOption
 returns-3 c =
-    let n = other-word _ ruleOption (λ e. false≢true (sym (c .before .before .before .before .before .if1 .left) ∙ c .before .before .before .before .before .before .same .ensures .1 e)) in
-    let m = other-word _ imageOption (λ e. false≢true (sym (c .before .before .if2 .left) ∙ c .before .before .before .same2 .ensures .1 e)) in
+    let n = other-numbers _ ruleOption (λ e. false≢true (sym (c .before .before .before .before .before .if1 .left) ∙ c .before .before .before .before .before .before .same .ensures .1 e)) in
+    let m = other-numbers _ imageOption (λ e. false≢true (sym (c .before .before .if2 .left) ∙ c .before .before .before .same2 .ensures .1 e)) in
     rw (n, kindOf) (rw (m, kindOf) (rw (sym (c .before .is-option .ensures) ∙ c .if3 .taken, kindOf) refl))
 
 returns-4 : tie.Need-returns-4
 unfolding kindOf ruleOption imageOption
 returns-4 c =
-    let n = other-word _ ruleOption (λ e. false≢true (sym (c .before .before .before .before .before .if1 .left) ∙ c .before .before .before .before .before .before .same .ensures .1 e)) in
-    let m = other-word _ imageOption (λ e. false≢true (sym (c .before .before .if2 .left) ∙ c .before .before .before .same2 .ensures .1 e)) in
+    let n = other-numbers _ ruleOption (λ e. false≢true (sym (c .before .before .before .before .before .if1 .left) ∙ c .before .before .before .before .before .before .same .ensures .1 e)) in
+    let m = other-numbers _ imageOption (λ e. false≢true (sym (c .before .before .if2 .left) ∙ c .before .before .before .same2 .ensures .1 e)) in
     rw (n, kindOf) (rw (m, kindOf) (rw (sym (c .before .is-option .ensures) ∙ c .if3 .left, kindOf) refl))
 
 pub kind-of-spec : {M : Type 1} → statement M

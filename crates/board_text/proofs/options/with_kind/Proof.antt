@@ -1,5 +1,5 @@
 -- Kind by kind. Assumes nothing.
-use mathlib.Core.Path.{_≡_, refl, _∙_}
+use mathlib.Core.Path.{_≡_, refl}
 use borrow.Enum.Known.{lives-at}
 use Rattle.board_text.specs.declared.options.Kind.the-variants.{Rule, Image, Unknown, File}
 use Rattle.board_text.specs.Options.{withKind}

@@ -1,7 +1,6 @@
 -- The call that the word says is made; a word that says none leaves all. Assumes nothing.
 use mathlib.Core.Path.{_≡_, refl, sym, ap, _∙_}
 use borrow.Enum.Known.{lives-at}
-use Rattle.protocol.specs.Network.{Network}
 use Rattle.dispatch.specs.Abstract.{dispatcherOf}
 use Rattle.board_text.specs.declared.calls.Call.the-variants.{Unknown}
 use Rattle.board_text.specs.declared.quiet.Followed.{Followed}

@@ -4,14 +4,14 @@ use Prim.Native.Nat.{_-_, _≤_}
 use mathlib.Core.Path.{_≡_, refl, sym, _∙_}
 use native.Mathlib.Omega.{arith}
 use lib.ListN.{length, drop}
-use Rattle.image_format.specs.Bytes.{sameBytes}
+use Rattle.base.specs.Same.{sameNumbers}
 use Rattle.image_reader.proofs.Comparing.{other-lengths, byte-differs, byte-same, both-over}
 use borrow.Author.Needs.{needs}
 use Rattle.image_reader.proofs.bytes.same.Statement.{statement}
 use Rattle.image_reader.proofs.bytes.same.Tie as tie
 
 abbrev Inv-loop : tie.InvT-loop
-Inv-loop a b i₀ i = (i ≤ length a) × (length a ≡ length b) × (sameBytes a b ≡ sameBytes (drop i a) (drop i b))
+Inv-loop a b i₀ i = (i ≤ length a) × (length a ≡ length b) × (sameNumbers a b ≡ sameNumbers (drop i a) (drop i b))
 
 abbrev μ-loop : tie.MeasureT-loop
 μ-loop a b i₀ i = length a - i

@@ -17,12 +17,13 @@ use Rattle.network.specs.Abstract.{networkOf}
 use Rattle.network.proofs.Numbering.{Ends}
 use Rattle.network_laws.proofs.Changes.{FullArrays}
 use Rattle.network_laws.proofs.Handing.{Found, Stepped, bars-ask, step-asks, steps, storing}
+use Rattle.network_laws.proofs.Stepping.{few-agents}
 use Rattle.run.specs.Lines.{ahead}
 use Rattle.run.specs.Working.{workBy}
 use Rattle.run.proofs.Ahead.{visit-less, passed-less, round-less}
 use Rattle.run.proofs.Barrings.{noAgent, noBars, Barred, BarsOf, Readied, had, worked, bars-ready}
 use Rattle.run.proofs.Testing.{fresh-line}
-use Rattle.run.proofs.Here.{Live, Here, shape-few}
+use Rattle.run.proofs.Here.{Live, Here}
 use Rattle.run.proofs.Starting.{Rows, Began, broken, running, refused, found, clean-shape, began-network, began-untouched, begins}
 use Rattle.run.proofs.Visiting.{passes-over, line-channel, line-ends, here, finds}
 use Rattle.run.proofs.Storing.{
@@ -131,10 +132,10 @@ in-shape-requires : tie.Need-in-shape-requires Inv-loop2 μ-loop2 Inv-loop μ-lo
 in-shape-requires c κs = search needs
 
 tested-requires : tie.Need-tested-requires Inv-loop2 μ-loop2 Inv-loop μ-loop
-tested-requires c κs = shape-few _ (sym (c .before .before .before .before .in-shape .ensures) ∙ c .before .before .before .if1 .taken)
+tested-requires c κs = few-agents _ (sym (c .before .before .before .before .in-shape .ensures) ∙ c .before .before .before .if1 .taken)
 
 one-more-requires : tie.Need-one-more-requires Inv-loop2 μ-loop2 Inv-loop μ-loop
-one-more-requires c κs = (fresh-line _ _ _ _ _ _ (shape-few _ (sym (c .before .before .before .before .before .before .in-shape .ensures) ∙ c .before .before .before .before .before .if1 .taken)) (c .before .tested .ensures) (c .if3 .taken))
+one-more-requires c κs = (fresh-line _ _ _ _ _ _ (few-agents _ (sym (c .before .before .before .before .before .before .in-shape .ensures) ∙ c .before .before .before .before .before .if1 .taken)) (c .before .tested .ensures) (c .if3 .taken))
 
 loop-holds : tie.Need-loop-holds Inv-loop2 μ-loop2 Inv-loop μ-loop
 loop-holds c = begins (c .before .before .before .before .before .before .args .once) (c .before .before .before .before .before .before .args .sender) (c .before .before .before .before .before .before .args .receiver) (c .before .before .before .before .before .before .args .allowed) (c .before .before .before .before .before .before .pre .0) _ refl (began (c .before .before)) (sizes (c .before .before .before .before .before .before)) (c .before .before .before .before .before .before .pre .1)

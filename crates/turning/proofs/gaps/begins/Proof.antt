@@ -6,7 +6,6 @@ use native.Mathlib.Omega.{arith}
 use borrow.Author.Needs.{needs}
 use borrow.Author.Tests.{not-true, not-false}
 use Rattle.base.specs.Bits.{bit}
-use Rattle.turn_rules.specs.Gaps.{begins}
 use Rattle.turning.proofs.Runs.{not-begun, begun-first, begun-above}
 use Rattle.turning.proofs.gaps.begins.Statement.{statement}
 use Rattle.turning.proofs.gaps.begins.Tie as tie

@@ -10,9 +10,9 @@ use Rattle.problem.specs.Problem.{Problem}
 use Rattle.problem.specs.Row.{Row}
 use Rattle.sheet.specs.Abstract.{problemOf}
 use Rattle.turn_rules.specs.Bans.{overPairs}
-use Rattle.turning.specs.Rows.{Filled}
+use Rattle.sheet_writer.specs.Rows.{Filled}
 use Rattle.turning.specs.Pairs.{rowsOf, allRows}
-use Rattle.turning.proofs.Filling.{gather-none-yet, gather-room, gather-more}
+use Rattle.sheet_writer.proofs.Filling.{gather-none-yet, gather-room, gather-more}
 use Rattle.turning.proofs.records.records.Statement.{statement}
 use Rattle.turning.proofs.records.records.Tie as tie
 

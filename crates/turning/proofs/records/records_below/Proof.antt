@@ -7,9 +7,9 @@ use borrow.Author.Needs.{needs}
 use Rattle.base.specs.Finite.{gather}
 use Rattle.problem.proofs.Range.{ranged}
 use Rattle.sheet.specs.Abstract.{problemOf}
-use Rattle.turning.specs.Rows.{Filled}
+use Rattle.sheet_writer.specs.Rows.{Filled}
 use Rattle.turning.specs.Pairs.{rowsOf}
-use Rattle.turning.proofs.Filling.{gather-none-yet, gather-room, gather-more}
+use Rattle.sheet_writer.proofs.Filling.{gather-none-yet, gather-room, gather-more}
 use Rattle.turning.proofs.Words.{pair-rows}
 use Rattle.turning.proofs.records.records_below.Statement.{statement}
 use Rattle.turning.proofs.records.records_below.Tie as tie

@@ -7,8 +7,9 @@ use borrow.Author.Needs.{needs}
 use Rattle.base.specs.Bits.{bit}
 use Rattle.base.specs.Finite.{gather}
 use Rattle.turn_rules.specs.Gaps.{gapPlaces, runsOf}
-use Rattle.turning.specs.Rows.{Filled, runIn}
-use Rattle.turning.proofs.Filling.{gather-none-yet, gather-room, gather-more}
+use Rattle.sheet_writer.specs.Rows.{Filled}
+use Rattle.turning.specs.Rows.{runIn}
+use Rattle.sheet_writer.proofs.Filling.{gather-none-yet, gather-room, gather-more}
 use Rattle.turning.proofs.rows.runs_of.Statement.{statement}
 use Rattle.turning.proofs.rows.runs_of.Tie as tie
 

@@ -4,7 +4,7 @@ use mathlib.Core.Path.{sym, _∙_}
 use borrow.Author.Needs.{needs}
 use borrow.Author.Tests.{not-true, not-false}
 use Rattle.turning.specs.Rows.{pairIn}
-use Rattle.turning.proofs.Filling.{left-out, one-room, put-down}
+use Rattle.sheet_writer.proofs.Filling.{left-out, one-room, put-down}
 use Rattle.turning.proofs.rows.with_pair.Statement.{statement}
 use Rattle.turning.proofs.rows.with_pair.Tie as tie
 

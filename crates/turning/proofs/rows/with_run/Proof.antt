@@ -5,7 +5,7 @@ use borrow.Author.Needs.{needs}
 use borrow.Author.Tests.{not-true, not-false}
 use Rattle.turn_rules.specs.Gaps.{runRow}
 use Rattle.turning.specs.Rows.{runIn}
-use Rattle.turning.proofs.Filling.{left-out, one-room, put-down}
+use Rattle.sheet_writer.proofs.Filling.{left-out, one-room, put-down}
 use Rattle.turning.proofs.rows.with_run.Statement.{statement}
 use Rattle.turning.proofs.rows.with_run.Tie as tie
 

@@ -12,7 +12,7 @@ use Rattle.base.specs.Finite.{gather}
 use Rattle.base.proofs.Lists.{gather-last}
 use Rattle.base.proofs.Gathers.{gather-split}
 use Rattle.problem.specs.Row.{Row}
-use Rattle.turning.specs.Rows.{rowIn, rowsIn, Filled, Room}
+use Rattle.sheet_writer.specs.Rows.{rowIn, rowsIn, Filled, Room}
 
 pub filled-none : (old : List ℕ) (at : ℕ) → Filled old at old at []
 filled-none old at = record { rows = sym (append-nil (rowsIn old at)); count = omega arith; long = refl }

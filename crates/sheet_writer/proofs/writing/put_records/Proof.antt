@@ -6,9 +6,9 @@ use native.Mathlib.Numerals.{add-one}
 use native.Mathlib.Omega.{arith}
 use lib.ListN.{length}
 use borrow.Author.Needs.{needs}
-use Rattle.turning.proofs.Sheets.{Left, all-left, less-left, none-left}
-use Rattle.turning.proofs.writing.put_records.Statement.{statement}
-use Rattle.turning.proofs.writing.put_records.Tie as tie
+use Rattle.sheet_writer.proofs.Sheets.{Left, all-left, less-left, none-left}
+use Rattle.sheet_writer.proofs.writing.put_records.Statement.{statement}
+use Rattle.sheet_writer.proofs.writing.put_records.Tie as tie
 
 abbrev Inv-loop : tie.InvT-loop
 Inv-loop out₀ rows records r₀ out r = (r ≤ records) × (length out ≡ length out₀) × ((room : records ≤ length rows) → Left rows records room out₀ out r)

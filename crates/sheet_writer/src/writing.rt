@@ -1,20 +1,16 @@
-// Writing a sheet: the header, a record, the records, the whole.
+// The parts of a sheet: the header, a record, the records.
 ghost use mathlib.Core.Path.{_≡_};
 ghost use mathlib.Core.Bool.{cond};
 ghost use mathlib.Core.List.{_++_};
 ghost use Prim.Native.Nat.{suc, _+_, _*_, _≤_, _<_};
 ghost use lib.ListN.{length, take, drop};
 ghost use lib.Dec.{ltb};
-ghost use Rattle.base.specs.Lent.{put};
-ghost use Rattle.problem.specs.Writing.{headerBytes, rowBytes, chained, written};
-ghost use Rattle.sheet.specs.Abstract.{problemOf};
-ghost use Rattle.lent.specs.Abstract.{writtenOf};
-ghost use Rattle.turning.specs.Rows.{rowIn, rowsIn, nextIndex};
-use lent::Written;
+ghost use Rattle.problem.specs.Writing.{headerBytes, rowBytes, chained};
+ghost use Rattle.sheet_writer.specs.Rows.{rowIn, rowsIn, nextIndex};
 use lent::put;
 use sheet::Problem;
 
-fn put_header(out: &mut [u8], edition: u8, p: Problem, records: usize)
+pub fn put_header(out: &mut [u8], edition: u8, p: Problem, records: usize)
     requires { ⌜ (records ≤ 4224) × (24 ≤ length (now out)) × (length (p .domains) ≡ 12) ⌝ }
     ensures { λ _. ⌜ now (out .exit)
         ≡ headerBytes edition (p .count) (cond (ltb 0 records) 1 0) records (p .domains) ++ drop 24 (now (out .entry)) ⌝ }
@@ -58,7 +54,7 @@ fn put_record(out: &mut [u8], r: usize, records: usize, x: u32)
 }
 
 // The first so many rows, behind the header.
-fn put_records(out: &mut [u8], rows: &[u32], records: usize)
+pub fn put_records(out: &mut [u8], rows: &[u32], records: usize)
     requires { ⌜ (records ≤ 4224) × (records ≤ length (now rows)) × (24 + 8 * records ≤ length (now out)) ⌝ }
     ensures { λ _. ⌜ now (out .exit)
         ≡ take 24 (now (out .entry)) ++ chained 0 (rowsIn (now (rows .entry)) records) ++ drop (24 + 8 * records) (now (out .entry)) ⌝ }
@@ -67,26 +63,5 @@ fn put_records(out: &mut [u8], rows: &[u32], records: usize)
     while r < records {
         put_record(out, r, records, rows[r]);
         r += 1;
-    }
-}
-
-// The sheet of this edition with p's n and slot counts and the first so many rows, where there is room.
-pub fn put_sheet(out: &mut [u8], edition: u8, p: Problem, rows: &[u32], records: usize) -> Written
-    requires { ⌜ (records ≤ 4224) × (records ≤ length (now rows)) × (length (p .domains) ≡ 12) ⌝ }
-    ensures { λ w. ⌜ writtenOf w (now (out .exit))
-        ≡ put (written edition (problemOf p) (rowsIn (now (rows .entry)) records)) (now (out .entry)) ⌝ }
-{
-    let length = 24 + 8 * records;
-    if out.len() < length {
-        return Written {
-            number: 12,
-            length: 0,
-        };
-    }
-    put_header(out, edition, p, records);
-    put_records(out, rows, records);
-    Written {
-        number: 0,
-        length: length,
     }
 }

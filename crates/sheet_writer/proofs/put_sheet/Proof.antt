@@ -4,10 +4,10 @@ use mathlib.Core.Path.{sym}
 use native.Mathlib.Omega.{arith}
 use Rattle.sheet.specs.Abstract.{problemOf}
 use Rattle.lent.specs.Abstract.{writtenOf}
-use Rattle.turning.proofs.Sheets.{sheet-short, sheet-put}
+use Rattle.sheet_writer.proofs.Sheets.{sheet-short, sheet-put}
 use borrow.Author.Needs.{needs}
-use Rattle.turning.proofs.writing.put_sheet.Statement.{statement}
-use Rattle.turning.proofs.writing.put_sheet.Tie as tie
+use Rattle.sheet_writer.proofs.put_sheet.Statement.{statement}
+use Rattle.sheet_writer.proofs.put_sheet.Tie as tie
 
 mul-length : tie.Need-mul-length
 mul-length c = search needs

@@ -6,10 +6,10 @@ use mathlib.Core.Bool.{Bool, cond}
 use native.Mathlib.Omega.{arith}
 use lib.Dec.{ltb}
 use borrow.Author.Tests.{lt-ltb, le-ltb}
-use Rattle.turning.proofs.Sheets.{header-put}
+use Rattle.sheet_writer.proofs.Sheets.{header-put}
 use borrow.Author.Needs.{needs}
-use Rattle.turning.proofs.writing.put_header.Statement.{statement}
-use Rattle.turning.proofs.writing.put_header.Tie as tie
+use Rattle.sheet_writer.proofs.writing.put_header.Statement.{statement}
+use Rattle.sheet_writer.proofs.writing.put_header.Tie as tie
 
 cast-t12 : tie.Need-cast-t12
 cast-t12 c = search needs

@@ -6,11 +6,11 @@ use mathlib.Core.Logic.{⊎-elim}
 use mathlib.Core.List.{List, _++_}
 use native.Mathlib.Omega.{arith}
 use lib.ListN.{take, drop}
-use Rattle.turning.specs.Rows.{nextIndex}
-use Rattle.turning.proofs.Sheets.{next-on, next-none, next-small, row-bytes}
+use Rattle.sheet_writer.specs.Rows.{nextIndex}
+use Rattle.sheet_writer.proofs.Sheets.{next-on, next-none, next-small, row-bytes}
 use borrow.Author.Needs.{needs}
-use Rattle.turning.proofs.writing.put_record.Statement.{statement}
-use Rattle.turning.proofs.writing.put_record.Tie as tie
+use Rattle.sheet_writer.proofs.writing.put_record.Statement.{statement}
+use Rattle.sheet_writer.proofs.writing.put_record.Tie as tie
 
 add-if1 : tie.Need-add-if1
 add-if1 c = search needs

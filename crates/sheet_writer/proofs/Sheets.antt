@@ -16,8 +16,9 @@ use Rattle.problem.specs.Row.{Row}
 use Rattle.problem.specs.Sheet.{headerLength, recordLength}
 use Rattle.problem.specs.Writing.{twoBytes, headerBytes, rowBytes, indexAfter, chained, written}
 use Rattle.problem.proofs.Writing.{chained-length, writes-length}
-use Rattle.lent.proofs.Over.{over, over-nothing, over-over}
-use Rattle.turning.specs.Rows.{rowIn, rowsIn, nextIndex}
+use Rattle.lent.specs.Abstract.{over}
+use Rattle.lent.proofs.Over.{over-nothing, over-over}
+use Rattle.sheet_writer.specs.Rows.{rowIn, rowsIn, nextIndex}
 
 -- ---- the header
 

@@ -4,9 +4,9 @@ use Prim.Native.Nat.{ℕ, _+_, _*_, _/_, _%_, _<_}
 use mathlib.Core.Path.{_≡_}
 use native.Mathlib.Omega.{arith}
 use borrow.Author.Needs.{needs}
-use Rattle.turning.specs.Rows.{rowIn}
-use Rattle.turning.proofs.rows.pack.Statement.{statement}
-use Rattle.turning.proofs.rows.pack.Tie as tie
+use Rattle.sheet_writer.specs.Rows.{rowIn}
+use Rattle.sheet_writer.proofs.pack.Statement.{statement}
+use Rattle.sheet_writer.proofs.pack.Tie as tie
 
 first : (a b : ℕ) → a < 256 → (a + 256 * b) % 256 ≡ a
 first a b h = omega arith
