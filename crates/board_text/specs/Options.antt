@@ -24,11 +24,11 @@ noOptions draws = record { draws = draws; rule = 1; ruled = false; image = false
 abbrev pub withStage : Options → Stage → Options
 withStage o stage = record { draws = o .draws; rule = o .rule; ruled = o .ruled; image = o .image; stage = stage }
 
--- "--rule"
+-- the letters of `--rule`
 unfoldable pub ruleOption : List ℕ
 ruleOption = 45 ∷ 45 ∷ 114 ∷ 117 ∷ 108 ∷ 101 ∷ []
 
--- "--image"
+-- the letters of `--image`
 unfoldable pub imageOption : List ℕ
 imageOption = 45 ∷ 45 ∷ 105 ∷ 109 ∷ 97 ∷ 103 ∷ 101 ∷ []
 

@@ -1,5 +1,6 @@
 // Reading the words of the command line in front of the calls, one by one: options, and behind them the file.
 ghost use mathlib.Core.Path.{_≡_};
+ghost use mathlib.Core.Bool.{true};
 ghost use Rattle.board_text.specs.Options.{
   noOptions,
   withStage,
@@ -184,19 +185,25 @@ pub fn opens(o: Options) -> bool
     is_rule(o.rule)
 }
 
-fn put_wrong(out: Out, word: &[u8]) -> Out {
+fn put_wrong(out: Out, word: &[u8]) -> Out
+    ensures { λ r. ⌜ (out .failed ≡ true → r .failed ≡ true) ⌝ }
+{
     out.put(b"option not understood: ").put(word).put(b"\n")
 }
 
 // The number with which the start refuses a rule.
 pub const BAD_RULE: u8 = 11;
 
-pub fn put_bad_rule(out: Out) -> Out {
+pub fn put_bad_rule(out: Out) -> Out
+    ensures { λ r. ⌜ (out .failed ≡ true → r .failed ≡ true) ⌝ }
+{
     out.line(b"rule refused ", BAD_RULE as u64)
 }
 
 // A rule that the start refuses is said before a file is missed.
-fn put_ruled(out: Out, rule: u8) -> Out {
+fn put_ruled(out: Out, rule: u8) -> Out
+    ensures { λ r. ⌜ (out .failed ≡ true → r .failed ≡ true) ⌝ }
+{
     if !is_rule(rule) {
         return put_bad_rule(out);
     }
@@ -204,7 +211,9 @@ fn put_ruled(out: Out, rule: u8) -> Out {
 }
 
 // The one line where no file is opened, with the word read last.
-pub fn put_unopened(out: Out, o: Options, word: &[u8]) -> Out {
+pub fn put_unopened(out: Out, o: Options, word: &[u8]) -> Out
+    ensures { λ r. ⌜ (out .failed ≡ true → r .failed ≡ true) ⌝ }
+{
     let stage = o.stage;
     match stage {
         Stage::Words => put_ruled(out, o.rule),

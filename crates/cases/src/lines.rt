@@ -1,7 +1,7 @@
 // A line of the cases: where it ends, how it begins, and the numbers in it.
 ghost use mathlib.Core.Path.{_≡_};
-ghost use Prim.Native.Nat.{_+_, _≤_, _<_, min};
-ghost use lib.ListN.{length};
+ghost use Prim.Native.Nat.{_+_, _%_, _≤_, _<_, min};
+ghost use lib.ListN.{length, getD};
 
 // The numbers of a line, in order, at most 16; the places beyond `count` are zero.
 pub struct Numbers {
@@ -90,6 +90,7 @@ pub fn numbers_in(line: &[u8]) -> Numbers {
 // Number k of a line, as a byte.
 pub fn small(n: Numbers, k: usize) -> u8
     requires { ⌜ k < 16 ⌝ }
+    ensures { λ b. ⌜ b ≡ getD (n .values) k 0 % 256 ⌝ }
 {
     (n.values[k] % 256) as u8
 }

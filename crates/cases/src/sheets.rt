@@ -1,4 +1,6 @@
 // A sheet under hand, built record by record or byte by byte.
+ghost use mathlib.Core.Path.{_≡_};
+ghost use lib.ListN.{replicate};
 use crate::kinds::BAN;
 use crate::kinds::CASE;
 use crate::kinds::EACH;
@@ -14,7 +16,9 @@ pub struct Sheet {
     pub length: usize,
 }
 
-pub fn blank() -> Sheet {
+pub fn blank() -> Sheet
+    ensures { λ s. ⌜ (s .length ≡ 0) × (s .bytes ≡ replicate 33824 0) ⌝ }
+{
     Sheet {
         bytes: [0u8; 33824],
         length: 0,

@@ -1,5 +1,8 @@
 // A choice of slots for all scanners, and the next one.
+ghost use mathlib.Core.Path.{_≡_};
+ghost use mathlib.Core.Bool.{false};
 ghost use Prim.Native.Nat.{_≤_, _<_};
+ghost use lib.ListN.{replicate};
 use crate::reading::obeys;
 use crate::reading::slots;
 use crate::reading::wide;
@@ -24,7 +27,9 @@ pub fn slot_of(c: Choice, i: usize) -> usize
 }
 
 // Each has its first slot.
-pub fn first() -> Choice {
+pub fn first() -> Choice
+    ensures { λ c. ⌜ (c .of ≡ replicate 12 1) × (c .over ≡ false) ⌝ }
+{
     Choice {
         of: [1u8; 12],
         over: false,

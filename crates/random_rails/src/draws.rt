@@ -1,8 +1,11 @@
 // Random numbers, the same ones in each run.
-ghost use Prim.Native.Nat.{_-_, _≤_};
+ghost use mathlib.Core.Path.{_≡_};
+ghost use Prim.Native.Nat.{_-_, _*_, _%_, _≤_};
 
 // Lehmer's generator: the state after this one.
-pub fn next(state: u64) -> u64 {
+pub fn next(state: u64) -> u64
+    ensures { λ r. ⌜ r ≡ state % 2147483647 * 48271 % 2147483647 ⌝ }
+{
     state % 2147483647 * 48271 % 2147483647
 }
 

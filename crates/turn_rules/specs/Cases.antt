@@ -102,7 +102,7 @@ turned =
     -- "upward by lower scanner, higher scanner"
     Bans sixGaps sixBans
     ∷ Gaps sixBans sixGaps
-    -- "then lower slot, higher slot", and a run broken by a free gap
+    -- "lower slot, higher slot", and a run broken by a free gap
     ∷ Bans brokenGaps brokenBans
     ∷ Gaps brokenBans brokenGaps
     ∷ Bans lowGaps lowBans
