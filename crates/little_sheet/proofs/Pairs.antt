@@ -1,12 +1,10 @@
 -- The pairs put down so far, and what is chosen of those from k on: together the pairs of the set of bans.
 -- The bits of the set are taken from the lowest, one for each owned pair.
-use Prim.Native.Nat.{ℕ, suc, _+_, _-_, _/_, _%_, _≤_, _<_}
+use Prim.Native.Nat.{ℕ, suc, _+_, _-_, _/_, _<_}
 use mathlib.Core.Path.{_≡_, refl, sym, ap, _∙_}
-use mathlib.Core.Bool.{Bool, true, false, cond}
+use mathlib.Core.Bool.{true, false, cond}
 use mathlib.Core.List.{List, [], _∷_, _++_, append-nil, append-assoc}
 use native.Mathlib.Omega.{arith}
-use lib.Dec.{eqb}
-use lib.ListN.{length}
 use Rattle.base.specs.Finite.{gather}
 use Rattle.problem.specs.Row.{Row}
 use Rattle.little_rules.specs.Little.{chosen}
@@ -52,14 +50,6 @@ module _ (c : Counts) (all : List Row) (rows : List ℕ) (count k left : ℕ) (h
       ∙ append-assoc (rowsIn rows count) (banAt left k) rest
       ∙ ap (λ (l : List Row). rowsIn rows count ++ l) (sym (by-bit c k left h e))
       ∙ g
-
-pub one-more : (rows : List ℕ) (count k left : ℕ) (new : List ℕ) (r : ℕ) → Filled rows count new r (banAt left k) → r ≤ count + 1
-unfolding banAt
-one-more rows count k left new r f = omega (arith, f .count, at-most (eqb (left % 2) 1) (placeAt k))
-  where
-    at-most : (b : Bool) (row : Row) → length (cond b (row ∷ []) []) ≤ 1
-    at-most true row = omega arith
-    at-most false row = omega arith
 
 pub going-ends : (c : Counts) (all : List Row) (rows : List ℕ) (count k left : ℕ) → k ≡ 12 → Going c all rows count k left → rowsIn rows count ≡ all
 unfolding gather chosen rowsFrom

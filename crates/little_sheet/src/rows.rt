@@ -1,7 +1,7 @@
 // The pairs of slots that could be banned, in the order of their bits. Those of three agents with two slots each are numbered 0 to 11; fewer or
 // smaller ones have some of these, in the same order.
 ghost use mathlib.Core.Path.{_≡_};
-ghost use Prim.Native.Nat.{_≤_, _<_};
+ghost use Prim.Native.Nat.{_+_, _≤_, _<_};
 ghost use lib.ListN.{length};
 ghost use Rattle.little_rules.specs.Little.{chosen};
 ghost use Rattle.sheet_writer.specs.Rows.{rowsIn, Filled};
@@ -57,7 +57,7 @@ fn owned(c: Counts, k: u8) -> bool
 // Behind the first `at` rows, pair k, if the lowest bit of `left` is 1.
 fn with_ban(rows: &mut [u32], at: usize, left: u64, k: u8) -> usize
     requires { ⌜ (k < 12) × (at < length (now rows)) ⌝ }
-    ensures { λ r. ⌜ Filled (now (rows .entry)) at (now (rows .exit)) r (banAt left k) ⌝ }
+    ensures { λ r. ⌜ Filled (now (rows .entry)) at (now (rows .exit)) r (banAt left k) × (r ≤ at + 1) ⌝ }
 {
     if left % 2 != 1 {
         return at;

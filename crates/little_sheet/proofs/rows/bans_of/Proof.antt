@@ -9,7 +9,7 @@ use lib.ListN.{length}
 use borrow.Author.Needs.{needs}
 use Rattle.little_rules.specs.Little.{chosen}
 use Rattle.little_sheet.specs.Rows.{rowsFrom}
-use Rattle.little_sheet.proofs.Pairs.{Going, going-begins, going-skipped, going-owned, one-more, going-ends}
+use Rattle.little_sheet.proofs.Pairs.{Going, going-begins, going-skipped, going-owned, going-ends}
 use Rattle.little_sheet.proofs.rows.bans_of.Statement.{statement}
 use Rattle.little_sheet.proofs.rows.bans_of.Tie as tie
 
@@ -41,10 +41,10 @@ loop-again c =
     let own = sym (c .before .owned .ensures) in
     ⊎-elim
     (λ u.
-    let f = u .2 .ensures in
+    let f = u .2 .ensures .0 in
     rw (add-one (l .k), u .5, u .6, u .7) (
       omega arith,
-      omega (arith, one-more _ (l .count) (l .k) (l .left) _ _ f, l .inv .1),
+      omega (arith, u .2 .ensures .1, l .inv .1),
       f .long ∙ l .inv .2,
       going-owned _ _ _ (l .count) (l .k) (l .left) (omega arith) (l .inv .3) (own ∙ u .0 .taken) _ _ f,
     ))

@@ -13,7 +13,9 @@ use Rattle.little_sheet.proofs.rows.with_ban.Tie as tie
 
 returns : tie.Need-returns
 unfolding banAt
-returns c = let a = c .before .before .args in left-out _ _ (a .rows .now) (a .at) (ne-eqb _ 1 (c .if1 .taken))
+returns c =
+    let a = c .before .before .args in
+    (left-out _ _ (a .rows .now) (a .at) (ne-eqb _ 1 (c .if1 .taken)), omega arith)
 
 row-at-requires : tie.Need-row-at-requires
 row-at-requires c κs = search needs
@@ -38,8 +40,9 @@ unfolding banAt rowOf
 returns-2 c =
     let s = c .before .before .before .before in
     let a = s .args in
-    put-down _ _ (a .rows .now) (a .at) (c .pack .result) (eq-eqb (a .left % 2) 1 (omega (arith, c .before .before .if1 .left))) (s .pre .1)
-    (c .pack .ensures ∙ c .before .row-at .ensures)
+    let row = c .pack .ensures ∙ c .before .row-at .ensures in
+    let yes = eq-eqb (a .left % 2) 1 (omega (arith, c .before .before .if1 .left)) in
+    (put-down _ _ (a .rows .now) (a .at) (c .pack .result) yes (s .pre .1) row, omega arith)
 
 pub with-ban-spec : {M : Type 1} → statement M
 with-ban-spec =
