@@ -157,6 +157,25 @@ pub fn programs(proved: &Path, plain: &Path, measured: &[(String, Vec<u8>)]) -> 
     Ok(count)
 }
 
+/// Gives the number of streams whose figures both programs print the same, or what differs: random
+/// sheets, none at all, and streams that break off in a length and in a sheet.
+pub fn seasons(proved: &Path, plain: &Path) -> Result<usize, String> {
+    let many = sheets::stream(&sheets::random(20_000, 5, 4, 20, 40, 33));
+    let wide = sheets::stream(&sheets::random(1_000, 12, 8, 20, 40, 34));
+    let odd = sheets::stream(&[vec![], vec![1; 65_535], sheets::longest()]);
+    let streams =
+        [&many[..], &wide, &odd, &[], &many[..many.len() - 1], &[many.clone(), vec![7]].concat(), &[5, 0]];
+    for (number, stream) in streams.iter().enumerate() {
+        let (one, other) = (prints(proved, stream)?, prints(plain, stream)?);
+        if one != other {
+            return Err(format!(
+                "stream {number}: the proved program prints\n{one}and the plain one\n{other}"
+            ));
+        }
+    }
+    Ok(streams.len())
+}
+
 fn prints(program: &Path, sheet: &[u8]) -> Result<String, String> {
     let fault = |error: std::io::Error| format!("{}: {error}", program.display());
     let mut child =

@@ -1,6 +1,6 @@
 //! `compare PROVED PLAIN`: the proved libraries beside the plain one. First both have to give the
-//! same answers, and the two programs `dock`, whose paths are given, to print the same; then both
-//! are timed, alternately, and the medians printed.
+//! same answers, and the programs `dock` and `season` in the two folders given to print the same;
+//! then both are timed, alternately, and the medians printed.
 
 mod check;
 mod images;
@@ -21,7 +21,7 @@ use crate::timing::{alternately, Clock, Times};
 fn main() -> Result<(), String> {
     let words: Vec<PathBuf> = std::env::args_os().skip(1).map(PathBuf::from).collect();
     let [proved, plain] = words.as_slice() else {
-        return Err("usage: compare PROVED PLAIN, two programs `dock`".to_string());
+        return Err("usage: compare PROVED PLAIN, two folders with programs `dock` and `season`".to_string());
     };
     let deep: Vec<_> = (1..=5).map(|k| (format!("deep {k}"), sheets::deep(k))).collect();
     let open: Vec<_> = (7..=12).map(|n| (format!("open {n}"), sheets::open(n))).collect();
@@ -31,7 +31,13 @@ fn main() -> Result<(), String> {
 
     println!("same answers: {} of the libraries' entries", check::entries(&measured)?);
     println!("same answers: {} on images", check::images(&measured)?);
-    println!("same output: {} sheets, by the programs", check::programs(proved, plain, &measured)?);
+    let (proved_dock, plain_dock) = (proved.join("dock"), plain.join("dock"));
+    println!(
+        "same output: {} sheets, by the programs",
+        check::programs(&proved_dock, &plain_dock, &measured)?
+    );
+    let (proved_season, plain_season) = (proved.join("season"), plain.join("season"));
+    println!("same output: {} streams of sheets", check::seasons(&proved_season, &plain_season)?);
 
     let long = &open[open.len() - 1].1;
     let deepest = &deep[deep.len() - 1].1;
@@ -54,7 +60,9 @@ fn main() -> Result<(), String> {
     delivery_row("a delivery by the public entry, 6 scanners", deepest);
     image_rows("12 scanners", long, 50_000);
     image_rows("6 scanners", deepest, 36_900);
-    program_row("the program on the long run's sheet", plain, proved, long)?;
+    program_row("the program on the long run's sheet", &plain_dock, &proved_dock, long)?;
+    let season = sheets::stream(&sheets::random(100_000, 5, 4, 20, 40, 8));
+    program_row("a season of 100,000 sheets", &plain_season, &proved_season, &season)?;
 
     println!("\ngrowth with n, 100,000 rounds of eight slots each");
     for (n, (_, sheet)) in (7..).zip(&open) {
@@ -123,11 +131,11 @@ fn image_rows(what: &str, sheet: &[u8], rounds: u64) {
     row(&format!("reading {what}"), both(|side| side.read(&image)), 1);
 }
 
-fn program_row(what: &str, plain: &Path, proved: &Path, sheet: &[u8]) -> Result<(), String> {
-    let file = std::env::temp_dir().join(format!("bench-{}.sheet", std::process::id()));
-    std::fs::write(&file, sheet).map_err(|error| error.to_string())?;
+fn program_row(what: &str, plain: &Path, proved: &Path, input: &[u8]) -> Result<(), String> {
+    let file = std::env::temp_dir().join(format!("bench-{}.input", std::process::id()));
+    std::fs::write(&file, input).map_err(|error| error.to_string())?;
     let run = |program: &Path| {
-        let input = File::open(&file).expect("the sheet just written");
+        let input = File::open(&file).expect("the input just written");
         let status = Command::new(program).stdin(input).stdout(Stdio::null()).status();
         assert!(status.is_ok_and(|status| status.success()), "{} failed", program.display());
     };

@@ -125,6 +125,11 @@ pub fn random(
     (0..count).map(one).collect()
 }
 
+/// The sheets one behind the other, each behind its length in two bytes.
+pub fn stream(sheets: &[Vec<u8>]) -> Vec<u8> {
+    sheets.iter().flat_map(|sheet| [&(sheet.len() as u16).to_le_bytes()[..], sheet].concat()).collect()
+}
+
 /// What waits on a network: sender and receiver of each message, in a run's order.
 fn waiting(network: &Network) -> Vec<[u8; 2]> {
     let n = network.n();

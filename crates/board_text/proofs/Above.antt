@@ -3,7 +3,7 @@ use mathlib.Core.Path.{_≡_, ap, _∙_}
 use Rattle.protocol.specs.Network.{Network}
 use Rattle.dispatch.specs.declared.Dispatcher.{Dispatcher}
 use Rattle.dispatch.specs.Abstract.{dispatcherOf}
-use Rattle.board_text.specs.Calling.{withNetwork}
+use Rattle.dispatch_rules.specs.Dispatch.{withNetwork}
 
 pub above-same : (d e : Dispatcher) (w v : Network) → dispatcherOf e ≡ withNetwork (dispatcherOf d) w → w ≡ v
     → dispatcherOf e ≡ withNetwork (dispatcherOf d) v

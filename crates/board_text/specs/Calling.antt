@@ -6,11 +6,11 @@ use mathlib.Core.Bool.{Bool, true, false}
 use mathlib.Core.List.{List}
 use lib.ListN.{take}
 use Rattle.problem.specs.Sheet.{longestSheet}
-use Rattle.protocol.specs.Network.{Network, startSheet}
+use Rattle.protocol.specs.Network.{startSheet}
 use Rattle.protocol.specs.Delivery.{deliver}
 use Rattle.protocol.specs.Run.{run}
 use Rattle.image_format.specs.Reading.{load}
-use Rattle.dispatch_rules.specs.Dispatch.{Dispatcher, pick, dispatcher}
+use Rattle.dispatch_rules.specs.Dispatch.{Dispatcher, withNetwork, pick, dispatcher}
 use Rattle.dispatch.specs.declared.Dispatcher.{Dispatcher as Record}
 use Rattle.dispatch.specs.Abstract.{line, dispatcherOf}
 use Rattle.board_text.specs.declared.calls.Call.{Call}
@@ -37,10 +37,6 @@ isCall (Deliver from to) = true
 isCall (Run rounds) = true
 isCall (Pick from to) = true
 isCall Unknown = false
-
--- with another network, and the count and the place that it had
-abbrev pub withNetwork : Dispatcher → Network → Dispatcher
-withNetwork d w = record { network = w; picks = d .picks; place = d .place }
 
 -- the dispatcher after the call; a delivery and a run leave its count and its place, and a word that is no call leaves all
 unfoldable pub afterCall : Call → Dispatcher → Dispatcher

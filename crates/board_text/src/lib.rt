@@ -2,11 +2,11 @@
 ghost use mathlib.Core.Path.{_≡_};
 ghost use Rattle.protocol.specs.Delivery.{deliver as deliverBy};
 ghost use Rattle.protocol.specs.Run.{run as runBy};
-ghost use Rattle.dispatch_rules.specs.Dispatch.{pick as pickBy};
+ghost use Rattle.dispatch_rules.specs.Dispatch.{withNetwork, pick as pickBy};
 ghost use Rattle.network.specs.Abstract.{networkOf};
 ghost use Rattle.dispatch.specs.Abstract.{line, dispatcherOf};
 ghost use Rattle.board_text.specs.Reading.{callIn};
-ghost use Rattle.board_text.specs.Calling.{BeginsAs, LoadsAs, withNetwork, afterCall};
+ghost use Rattle.board_text.specs.Calling.{BeginsAs, LoadsAs, afterCall};
 
 mod calls;
 mod drawing;

@@ -29,6 +29,10 @@ pub record Dispatcher : Type 0 where
   pub picks : ℕ
   pub place : Line
 
+-- with another network, and the count and the place that it had
+abbrev pub withNetwork : Dispatcher → Network → Dispatcher
+withNetwork d w = record { network = w; picks = d .picks; place = d .place }
+
 -- ---- the lines, in order
 
 -- of n agents, by sender, then receiver: "from 1 to 2" first

@@ -8,7 +8,7 @@ use tool::say_refused;
 use tool::say_surplus;
 use tool::written;
 
-// The sheet of an ordinal, if no word stands behind the number. The longest of them has 120 bytes.
+// The sheet of an ordinal. The longest of them has 120 bytes.
 fn write_little(ordinal: u64) {
     let mut sheet = [0u8; 120];
     let w = little(ordinal, &mut sheet);
@@ -16,20 +16,20 @@ fn write_little(ordinal: u64) {
         say_refused(w.number);
         return;
     }
-    if 2 < os::arg_count() {
-        say_surplus(2);
-        return;
-    }
     let n = w.length;
     written(&sheet[..n]);
 }
 
-// The ordinal that a word says.
+// The ordinal that a word says, if no word stands behind it.
 fn follow(word: &[u8]) {
     let Number::Of(ordinal) = read_number(word) else {
         say(b"number not understood: ", word);
         return;
     };
+    if 2 < os::arg_count() {
+        say_surplus(2);
+        return;
+    }
     write_little(ordinal);
 }
 

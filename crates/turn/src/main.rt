@@ -9,14 +9,10 @@ use tool::written;
 use turning::to_bans;
 use turning::to_gaps;
 
-// What was answered: the sheet that was written, if no word stands behind the command.
+// What was answered: the sheet that was written, or a refusal.
 fn finish(w: Written, sheet: &[u8]) {
     if w.number != 0 {
         say_refused(w.number);
-        return;
-    }
-    if 2 < os::arg_count() {
-        say_surplus(2);
         return;
     }
     let n = w.length;
@@ -42,16 +38,22 @@ fn gaps() {
     finish(w, &sheet);
 }
 
+// The command, if it is one and no word stands behind it. Nothing is read before that is clear.
 fn follow(word: &[u8]) {
-    if check::same(word, b"bans") {
+    let to_bans = check::same(word, b"bans");
+    if !to_bans & !check::same(word, b"gaps") {
+        say(b"command not understood: ", word);
+        return;
+    }
+    if 2 < os::arg_count() {
+        say_surplus(2);
+        return;
+    }
+    if to_bans {
         bans();
         return;
     }
-    if check::same(word, b"gaps") {
-        gaps();
-        return;
-    }
-    say(b"command not understood: ", word);
+    gaps();
 }
 
 fn main() {

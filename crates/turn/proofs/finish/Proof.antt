@@ -11,28 +11,19 @@ say-refused-requires c κs = search needs
 returns : tie.Need-returns
 returns c = search needs
 
-arg-count-requires : tie.Need-arg-count-requires
-arg-count-requires c κs = search needs
-
-say-surplus-requires : tie.Need-say-surplus-requires
-say-surplus-requires c κs = search needs
-
-returns-2 : tie.Need-returns-2
-returns-2 c = search needs
-
 slice-aggregate-written : tie.Need-slice-aggregate-written
 slice-aggregate-written c =
-    let a = c .before .before .before .before .before .before .before .args in
-    sym (length-take-le (a .w .length) (a .sheet .now) (c .before .if3 .taken))
+    let a = c .before .before .before .before .before .args in
+    sym (length-take-le (a .w .length) (a .sheet .now) (c .before .if2 .taken))
 
 written-requires : tie.Need-written-requires
 written-requires c κs = search needs
 
+returns-2 : tie.Need-returns-2
+returns-2 c = search needs
+
 returns-3 : tie.Need-returns-3
 returns-3 c = search needs
-
-returns-4 : tie.Need-returns-4
-returns-4 c = search needs
 
 pub finish-spec : {M : Type 1} → statement M
 finish-spec =
@@ -40,10 +31,7 @@ finish-spec =
     (tie.spec
     say-refused-requires
     returns
-    arg-count-requires
-    say-surplus-requires
-    returns-2
     slice-aggregate-written
     written-requires
-    returns-3
-    returns-4)
+    returns-2
+    returns-3)

@@ -5,7 +5,8 @@ use Rattle.protocol.specs.Network.{Network}
 use Rattle.dispatch.specs.Abstract.{dispatcherOf}
 use Rattle.board_text.specs.declared.calls.Call.the-variants.{Unknown}
 use Rattle.board_text.specs.declared.quiet.Followed.{Followed}
-use Rattle.board_text.specs.Calling.{isCall, withNetwork, afterCall}
+use Rattle.dispatch_rules.specs.Dispatch.{withNetwork}
+use Rattle.board_text.specs.Calling.{isCall, afterCall}
 use Rattle.board_text.proofs.calls.Call as Call
 use borrow.Author.Needs.{needs}
 use Rattle.board_text.proofs.quiet.follow.Statement.{statement}

@@ -1,0 +1,1 @@
+// Lists of picks, deliveries and runs together; no code.
