@@ -114,10 +114,9 @@ no-posts posts backs false room f e g r = absurd (false≢true (sym e ∙ g))
 -- ---- the message taken off
 
 -- the sender's row of heads, as the code moves it
-pub head-moved : (rows rows′ : List ℕ) (i j heads head : ℕ) → assignment heads ≡ at (assignment (wordAt rows i)) j ((head + 1) % 8)
-    → head ≡ assignment (wordAt rows i) j → rows′ ≡ rows
-    → assignment heads ≡ at (assignment (wordAt rows′ i)) j ((assignment (wordAt rows′ i) j + 1) % 8)
-head-moved rows rows′ i j heads head e h k = rw (k, ← h) e
+pub head-moved : (row j heads head : ℕ) → assignment heads ≡ at (assignment row) j ((head + 1) % 8) → head ≡ assignment row j
+    → assignment heads ≡ at (assignment row) j ((assignment row j + 1) % 8)
+head-moved row j heads head e h = rw (← h) e
 
 -- the sender's row of counts is not the receiver's
 pub waits-still : {o : Network} {i j x : ℕ} {all left : List Post′} {p : Network} {now : ℕ} → Found o i j x → Posting o j all left p now

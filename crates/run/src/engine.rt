@@ -82,8 +82,7 @@ pub fn work(r: Network, once: bool, sender: u8, receiver: u8, allowed: u64) -> A
             let to = visit.to;
             let at = to as usize - 1;
             let row = from as usize - 1;
-            let heads = o.heads[row];
-            let head = digit(heads, to);
+            let head = digit(o.heads[row], to);
             let place = o.places[place_at(channel_at(from, to), head, 0)];
             let message = place.message;
             let agent = o.agents[at];
@@ -120,7 +119,8 @@ pub fn work(r: Network, once: bool, sender: u8, receiver: u8, allowed: u64) -> A
             }
             if room {
                 o.counts[at] = now;
-                o.heads[row] = with_digit(heads, to, (head + 1) % 8);
+                let heads = o.heads[row];
+                o.heads[row] = with_digit(heads, to, (digit(heads, to) + 1) % 8);
                 o.counts[row] = one_less(o.counts[row], to);
                 let mut changed = step.agent;
                 // the counts, read only now

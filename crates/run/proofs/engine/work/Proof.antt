@@ -52,11 +52,11 @@ use Rattle.run.proofs.engine.work.Statement.{statement}
 use Rattle.run.proofs.engine.work.Tie as tie
 
 abbrev Inv-loop2 : tie.InvT-loop2
-Inv-loop2 once sender receiver allowed o₀ n number from rest domains bans bars ready quota missed left made to at row heads head message words step posts₀ backs now₀ room₀ o posts now room =
+Inv-loop2 once sender receiver allowed o₀ n number from rest domains bans bars ready quota missed left made to at row head message words step posts₀ backs now₀ room₀ o posts now room =
     Storing o₀ to step backs o posts now room
 
 abbrev μ-loop2 : tie.MeasureT-loop2
-μ-loop2 once sender receiver allowed o₀ n number from rest domains bans bars ready quota missed left made to at row heads head message words step posts₀ backs now₀ room₀ o posts now room =
+μ-loop2 once sender receiver allowed o₀ n number from rest domains bans bars ready quota missed left made to at row head message words step posts₀ backs now₀ room₀ o posts now room =
     turns posts backs room
 
 abbrev Inv-loop : tie.InvT-loop
@@ -174,11 +174,11 @@ cast-row c = let b = visited (c .before) in search needs
 sub-row : tie.Need-sub-row Inv-loop2 μ-loop2 Inv-loop μ-loop
 sub-row c = let b = visited (c .before) in search needs
 
-mul-heads : tie.Need-mul-heads Inv-loop2 μ-loop2 Inv-loop μ-loop
-mul-heads c = let b = visited (c .before) in search needs
+mul-digit : tie.Need-mul-digit Inv-loop2 μ-loop2 Inv-loop μ-loop
+mul-digit c = let b = visited (c .before) in search needs
 
-element-copy-out-heads : tie.Need-element-copy-out-heads Inv-loop2 μ-loop2 Inv-loop μ-loop
-element-copy-out-heads c = let b = visited (c .before) in search needs
+element-copy-out-digit : tie.Need-element-copy-out-digit Inv-loop2 μ-loop2 Inv-loop μ-loop
+element-copy-out-digit c = let b = visited (c .before) in search needs
 
 digit-requires : tie.Need-digit-requires Inv-loop2 μ-loop2 Inv-loop μ-loop
 digit-requires c κs = let b = visited (c .before .before) in (b .to-low, omega (arith, b .to-high))
@@ -269,11 +269,11 @@ digit-requires-2 c κs = let b = turn-ends (c .before .before .before .before .l
 channel-at-requires-2 : tie.Need-channel-at-requires-2 Inv-loop2 μ-loop2 Inv-loop μ-loop
 channel-at-requires-2 c κs = turn-line (c .before .before .before .before .before .before .loop2 .inv) (c .before .before .first .result) (c .before .before .first .ensures)
 
-mul-digit : tie.Need-mul-digit Inv-loop2 μ-loop2 Inv-loop μ-loop
-mul-digit c = let b = visited (c .before .before .before .before .before .before .before .before .before .before .before .before .before .before .before .before .before .before .before .before .before .before .before .before .before) in search needs
+mul-digit-2 : tie.Need-mul-digit-2 Inv-loop2 μ-loop2 Inv-loop μ-loop
+mul-digit-2 c = let b = visited (c .before .before .before .before .before .before .before .before .before .before .before .before .before .before .before .before .before .before .before .before .before .before .before .before .before) in search needs
 
-element-copy-out-digit : tie.Need-element-copy-out-digit Inv-loop2 μ-loop2 Inv-loop μ-loop
-element-copy-out-digit c = let b = visited (c .before .before .before .before .before .before .before .before .before .before .before .before .before .before .before .before .before .before .before .before .before .before .before .before .before) in let z = c .before .before .before .before .before .before .before .loop2 .inv .posting .sized .heads in search needs
+element-copy-out-digit-2 : tie.Need-element-copy-out-digit-2 Inv-loop2 μ-loop2 Inv-loop μ-loop
+element-copy-out-digit-2 c = let b = visited (c .before .before .before .before .before .before .before .before .before .before .before .before .before .before .before .before .before .before .before .before .before .before .before .before .before) in let z = c .before .before .before .before .before .before .before .loop2 .inv .posting .sized .heads in search needs
 
 digit-requires-3 : tie.Need-digit-requires-3 Inv-loop2 μ-loop2 Inv-loop μ-loop
 digit-requires-3 c κs = let b = turn-ends (c .before .before .before .before .before .before .before .before .loop2 .inv) (c .before .before .before .before .first .result) (c .before .before .before .before .first .ensures) in (b .to-low, omega (arith, b .to-high))
@@ -291,7 +291,7 @@ one-more-requires-2 : tie.Need-one-more-requires-2 Inv-loop2 μ-loop2 Inv-loop �
 one-more-requires-2 c κs = let b = turn-ends (c .before .before .before .before .before .before .before .before .before .before .loop2 .inv) (c .before .before .before .before .before .before .first .result) (c .before .before .before .before .before .before .first .ensures) in (b .to-low, omega (arith, b .to-high), omega (arith, c .before .before .before .before .before .digit2 .ensures .0, c .before .before .before .before .if8 .taken))
 
 rest-requires : tie.Need-rest-requires Inv-loop2 μ-loop2 Inv-loop μ-loop
-rest-requires c κs = sym (c .before .before .before .before .before .before .before .before .before .before .is-empty .ensures .0) ∙ not-true _ (both (not (c .before .before .before .before .before .before .before .before .before .before .is-empty .result)) (c .before .before .before .before .before .before .before .before .before .before .before .loop2 .room) (c .before .before .before .before .before .before .before .before .before .if7 .taken) .0)
+rest-requires c κs = (sym (c .before .before .before .before .before .before .before .before .before .before .is-empty .ensures .0) ∙ not-true _ (both (not (c .before .before .before .before .before .before .before .before .before .before .is-empty .result)) (c .before .before .before .before .before .before .before .before .before .before .before .loop2 .room) (c .before .before .before .before .before .before .before .before .before .if7 .taken) .0), c .before .before .before .before .before .before .before .before .before .before .before .loop2 .inv .ready .next)
 
 loop2-less : tie.Need-loop2-less Inv-loop2 μ-loop2 Inv-loop μ-loop
 loop2-less c = turn-less (c .before .before .before .before .before .before .before .before .before .before .before .before .loop2 .inv) (c .before .before .before .before .before .before .before .before .first .result) (c .before .before .before .before .before .before .before .before .first .ensures) _ (c .rest .ensures (c .before .before .before .before .before .before .before .before .before .before .before .before .before .before .before .before .receive .result .backs) (c .before .before .before .before .before .before .before .before .before .before .before .before .loop2 .inv .ready))
@@ -320,65 +320,74 @@ mul-o c = let b = visited (c .before .before .before .before .before .before .be
 element-write-o : tie.Need-element-write-o Inv-loop2 μ-loop2 Inv-loop μ-loop
 element-write-o c = let b = visited (c .before .before .before .before .before .before .before .before .before .before .before .before .before .before .before .before .before .before .before .before .before) in let z = c .before .before .before .loop2 .inv .posting .sized .counts in search needs
 
+mul-heads : tie.Need-mul-heads Inv-loop2 μ-loop2 Inv-loop μ-loop
+mul-heads c = let b = visited (c .before .before .before .before .before .before .before .before .before .before .before .before .before .before .before .before .before .before .before .before .before) in search needs
+
+element-copy-out-heads : tie.Need-element-copy-out-heads Inv-loop2 μ-loop2 Inv-loop μ-loop
+element-copy-out-heads c = let b = visited (c .before .before .before .before .before .before .before .before .before .before .before .before .before .before .before .before .before .before .before .before .before) in let z = c .before .before .before .loop2 .inv .posting .sized .heads in search needs
+
+digit-requires-4 : tie.Need-digit-requires-4 Inv-loop2 μ-loop2 Inv-loop μ-loop
+digit-requires-4 c κs = let b = visited (c .before .before .before .before .before .before .before .before .before .before .before .before .before .before .before .before .before .before .before .before .before .before) in (b .to-low, omega (arith, b .to-high))
+
 add-with-digit : tie.Need-add-with-digit Inv-loop2 μ-loop2 Inv-loop μ-loop
-add-with-digit c = let d = c .before .before .before .before .before .before .before .before .before .before .before .before .before .before .before .before .before .before .digit .ensures .1 in search needs
+add-with-digit c = let d = c .digit4 .ensures .1 in search needs
 
 with-digit-requires : tie.Need-with-digit-requires Inv-loop2 μ-loop2 Inv-loop μ-loop
-with-digit-requires c κs = let b = visited (c .before .before .before .before .before .before .before .before .before .before .before .before .before .before .before .before .before .before .before .before .before) in (b .to-low, omega (arith, b .to-high), omega arith)
+with-digit-requires c κs = let b = visited (c .before .before .before .before .before .before .before .before .before .before .before .before .before .before .before .before .before .before .before .before .before .before .before) in (b .to-low, omega (arith, b .to-high), omega arith)
 
 mul-o-2 : tie.Need-mul-o-2 Inv-loop2 μ-loop2 Inv-loop μ-loop
-mul-o-2 c = let b = visited (c .before .before .before .before .before .before .before .before .before .before .before .before .before .before .before .before .before .before .before .before .before .before) in search needs
+mul-o-2 c = let b = visited (c .before .before .before .before .before .before .before .before .before .before .before .before .before .before .before .before .before .before .before .before .before .before .before .before) in search needs
 
 element-write-o-2 : tie.Need-element-write-o-2 Inv-loop2 μ-loop2 Inv-loop μ-loop
-element-write-o-2 c = let b = visited (c .before .before .before .before .before .before .before .before .before .before .before .before .before .before .before .before .before .before .before .before .before .before) in let z = c .before .before .before .before .loop2 .inv .posting .sized .heads in search needs
+element-write-o-2 c = let b = visited (c .before .before .before .before .before .before .before .before .before .before .before .before .before .before .before .before .before .before .before .before .before .before .before .before) in let z = c .before .before .before .before .before .before .loop2 .inv .posting .sized .heads in search needs
 
 mul-one-less : tie.Need-mul-one-less Inv-loop2 μ-loop2 Inv-loop μ-loop
-mul-one-less c = let b = visited (c .before .before .before .before .before .before .before .before .before .before .before .before .before .before .before .before .before .before .before .before .before .before) in search needs
+mul-one-less c = let b = visited (c .before .before .before .before .before .before .before .before .before .before .before .before .before .before .before .before .before .before .before .before .before .before .before .before) in search needs
 
 element-copy-out-one-less : tie.Need-element-copy-out-one-less Inv-loop2 μ-loop2 Inv-loop μ-loop
-element-copy-out-one-less c = let b = visited (c .before .before .before .before .before .before .before .before .before .before .before .before .before .before .before .before .before .before .before .before .before .before) in let z = c .before .before .before .before .loop2 .inv .posting .sized .counts in search needs
+element-copy-out-one-less c = let b = visited (c .before .before .before .before .before .before .before .before .before .before .before .before .before .before .before .before .before .before .before .before .before .before .before .before) in let z = c .before .before .before .before .before .before .loop2 .inv .posting .sized .counts in search needs
 
 one-less-requires : tie.Need-one-less-requires Inv-loop2 μ-loop2 Inv-loop μ-loop
-one-less-requires c κs = let b = visited (c .before .before .before .before .before .before .before .before .before .before .before .before .before .before .before .before .before .before .before .before .before .before .before) in (b .to-low, omega (arith, b .to-high), waits-still {all = postsLeft (c .before .before .before .before .before .before .before .before .before .receive .result .posts) (c .before .before .before .before .before .before .before .before .before .receive .result .backs)} (finding (c .before .before .before .before .before .before .before .before .before .before .before .before .before .before .before .before .before .before)) (c .before .before .before .before .before .loop2 .inv .posting))
+one-less-requires c κs = let b = visited (c .before .before .before .before .before .before .before .before .before .before .before .before .before .before .before .before .before .before .before .before .before .before .before .before .before) in (b .to-low, omega (arith, b .to-high), waits-still {all = postsLeft (c .before .before .before .before .before .before .before .before .before .before .before .receive .result .posts) (c .before .before .before .before .before .before .before .before .before .before .before .receive .result .backs)} (finding (c .before .before .before .before .before .before .before .before .before .before .before .before .before .before .before .before .before .before .before .before)) (c .before .before .before .before .before .before .before .loop2 .inv .posting))
 
 mul-o-3 : tie.Need-mul-o-3 Inv-loop2 μ-loop2 Inv-loop μ-loop
-mul-o-3 c = let b = visited (c .before .before .before .before .before .before .before .before .before .before .before .before .before .before .before .before .before .before .before .before .before .before .before .before) in search needs
+mul-o-3 c = let b = visited (c .before .before .before .before .before .before .before .before .before .before .before .before .before .before .before .before .before .before .before .before .before .before .before .before .before .before) in search needs
 
 element-write-o-3 : tie.Need-element-write-o-3 Inv-loop2 μ-loop2 Inv-loop μ-loop
-element-write-o-3 c = let b = visited (c .before .before .before .before .before .before .before .before .before .before .before .before .before .before .before .before .before .before .before .before .before .before .before .before) in let z = c .before .before .before .before .before .before .loop2 .inv .posting .sized .counts in search needs
+element-write-o-3 c = let b = visited (c .before .before .before .before .before .before .before .before .before .before .before .before .before .before .before .before .before .before .before .before .before .before .before .before .before .before) in let z = c .before .before .before .before .before .before .before .before .loop2 .inv .posting .sized .counts in search needs
 
 mul-held : tie.Need-mul-held Inv-loop2 μ-loop2 Inv-loop μ-loop
-mul-held c = let b = visited (c .before .before .before .before .before .before .before .before .before .before .before .before .before .before .before .before .before .before .before .before .before .before .before .before .before) in search needs
+mul-held c = let b = visited (c .before .before .before .before .before .before .before .before .before .before .before .before .before .before .before .before .before .before .before .before .before .before .before .before .before .before .before) in search needs
 
 element-copy-out-held : tie.Need-element-copy-out-held Inv-loop2 μ-loop2 Inv-loop μ-loop
-element-copy-out-held c = let b = visited (c .before .before .before .before .before .before .before .before .before .before .before .before .before .before .before .before .before .before .before .before .before .before .before .before .before) in let z = c .before .before .before .before .before .before .before .loop2 .inv .posting .sized .agents in search needs
+element-copy-out-held c = let b = visited (c .before .before .before .before .before .before .before .before .before .before .before .before .before .before .before .before .before .before .before .before .before .before .before .before .before .before .before) in let z = c .before .before .before .before .before .before .before .before .before .loop2 .inv .posting .sized .agents in search needs
 
 posted-requires : tie.Need-posted-requires Inv-loop2 μ-loop2 Inv-loop μ-loop
-posted-requires c κs = c .before .before .before .before .before .before .before .before .before .before .before .before .receive .ensures .ready .next
+posted-requires c κs = c .before .before .before .before .before .before .before .before .before .before .before .before .before .before .receive .ensures .ready .next
 
 handed-requires : tie.Need-handed-requires Inv-loop2 μ-loop2 Inv-loop μ-loop
 handed-requires c κs = search needs
 
 mul-changed : tie.Need-mul-changed Inv-loop2 μ-loop2 Inv-loop μ-loop
-mul-changed c = let b = visited (c .before .before .before .before .before .before .before .before .before .before .before .before .before .before .before .before .before .before .before .before .before .before .before .before .before .before .before .before) in search needs
+mul-changed c = let b = visited (c .before .before .before .before .before .before .before .before .before .before .before .before .before .before .before .before .before .before .before .before .before .before .before .before .before .before .before .before .before .before) in search needs
 
 element-set-from-changed : tie.Need-element-set-from-changed Inv-loop2 μ-loop2 Inv-loop μ-loop
-element-set-from-changed c = let b = visited (c .before .before .before .before .before .before .before .before .before .before .before .before .before .before .before .before .before .before .before .before .before .before .before .before .before .before .before .before) in let z = c .before .before .before .before .before .before .before .before .before .before .loop2 .inv .posting .sized .agents in search needs
+element-set-from-changed c = let b = visited (c .before .before .before .before .before .before .before .before .before .before .before .before .before .before .before .before .before .before .before .before .before .before .before .before .before .before .before .before .before .before) in let z = c .before .before .before .before .before .before .before .before .before .before .before .before .loop2 .inv .posting .sized .agents in search needs
 
 mul-bars-2 : tie.Need-mul-bars-2 Inv-loop2 μ-loop2 Inv-loop μ-loop
-mul-bars-2 c = let b = visited (c .before .before .before .before .before .before .before .before .before .before .before .before .before .before .before .before .before .before .before .before .before .before .before .before .before .before .before .before .before) in search needs
+mul-bars-2 c = let b = visited (c .before .before .before .before .before .before .before .before .before .before .before .before .before .before .before .before .before .before .before .before .before .before .before .before .before .before .before .before .before .before .before) in search needs
 
 array-set-from-bars-2 : tie.Need-array-set-from-bars-2 Inv-loop2 μ-loop2 Inv-loop μ-loop
-array-set-from-bars-2 c = let b = visited (c .before .before .before .before .before .before .before .before .before .before .before .before .before .before .before .before .before .before .before .before .before .before .before .before .before .before .before .before .before) in let z = bars-now (c .before .before .before .before .before .before .before .before .before .before .before .before .before .before .before .before .before) .0 in search needs
+array-set-from-bars-2 c = let b = visited (c .before .before .before .before .before .before .before .before .before .before .before .before .before .before .before .before .before .before .before .before .before .before .before .before .before .before .before .before .before .before .before) in let z = bars-now (c .before .before .before .before .before .before .before .before .before .before .before .before .before .before .before .before .before .before .before) .0 in search needs
 
 loop-less-2 : tie.Need-loop-less-2 Inv-loop2 μ-loop2 Inv-loop μ-loop
-loop-less-2 c = visit-less _ _ _ (c .before .before .before .before .before .before .before .before .before .before .before .before .before .before .before .before .before .before .before .before .before .before .before .before .before .before .before .before .before .before .before .next-visit .ensures) (not-true _ (c .before .before .before .before .before .before .before .before .before .before .before .before .before .before .before .before .before .before .before .before .before .before .before .before .before .before .before .before .before .if4 .taken))
+loop-less-2 c = visit-less _ _ _ (c .before .before .before .before .before .before .before .before .before .before .before .before .before .before .before .before .before .before .before .before .before .before .before .before .before .before .before .before .before .before .before .before .before .next-visit .ensures) (not-true _ (c .before .before .before .before .before .before .before .before .before .before .before .before .before .before .before .before .before .before .before .before .before .before .before .before .before .before .before .before .before .before .before .if4 .taken))
 
 loop-again-2 : tie.Need-loop-again-2 Inv-loop2 μ-loop2 Inv-loop μ-loop
 loop-again-2 c =
-    let q = bars-now (c .before .before .before .before .before .before .before .before .before .before .before .before .before .before .before .before .before) in
-    stored-goes (c .before .before .before .before .before .before .before .before .before .before .before .before .before .before .before .before .before .before .before .before .before .before .before .before .before .before .before .before .before .before .before .before .before .loop .inv) (c .before .before .before .before .before .before .before .before .before .before .before .before .before .before .before .before .before .before .before .before .before .before .before .before .before .before .before .before .before .before .before .next-visit .result) (c .before .before .before .before .before .before .before .before .before .before .before .before .before .before .before .before .before .before .before .before .before .before .before .before .before .before .before .before .before .before .before .next-visit .ensures) (not-true _ (c .before .before .before .before .before .before .before .before .before .before .before .before .before .before .before .before .before .before .before .before .before .before .before .before .before .before .before .before .before .if4 .taken)) (c .before .before .before .before .before .before .before .before .before .before .before .before .before .before .before .before .before .before .before .before .before .before .before .before .before .before .before .before .if5 .left) (c .before .before .before .before .before .before .before .before .before .before .before .before .before .before .before .before .before .if6 .bars) (c .before .before .before .before .before .before .before .before .before .before .before .before .before .before .before .before .before .if6 .ready) (q .0) (q .1) (stepped (c .before .before .before .before .before .before .before .before .before .before .before .before .before .before .before) (c .before .before .posted .result) (c .before .handed .result) (rw (c .before .before .before .before .before .before .before .before .before .before .before .loop2 .inv .posting .kept .agents) at (c .before .before .posted .ensures _ (c .before .before .before .before .before .before .before .before .before .before .before .before .before .before .before .receive .ensures .ready))) (rw (c .before .before .before .before .before .before .before .before .before .before .before .loop2 .inv .posting .kept .agents) at (c .before .handed .ensures))) (recast _ _ (c .before .before .before .before .before .before .before .before .before .before .before .loop2 .inv)) (no-posts _ _ _ _ (c .before .before .before .before .before .before .before .before .before .before .is-empty .ensures .1) (c .before .before .before .before .before .before .before .before .before .if7 .left) (c .before .before .before .before .before .before .before .before .if9 .taken) (c .before .before .before .before .before .before .before .before .before .before .before .loop2 .inv .ready))
-    (record { head = head-moved _ _ _ _ _ _ (c .before .before .before .before .before .before .before .with-digit .ensures) (c .before .before .before .before .before .before .before .before .before .before .before .before .before .before .before .before .before .before .before .before .before .before .before .before .before .before .digit .ensures .0) (c .before .before .before .before .before .before .before .before .before .before .before .loop2 .inv .posting .kept .heads); count = c .before .before .before .before .before .one-less .ensures .0 }) _ (c .before .before .before .before .before .before .before .before .before .before .before .before .before .before .before .before .before .before .before .before .before .words-before .ensures .0) (c .before .before .before .before .before .before .before .before .before .before .before .before .before .before .before .receive .ensures .barring)
+    let q = bars-now (c .before .before .before .before .before .before .before .before .before .before .before .before .before .before .before .before .before .before .before) in
+    stored-goes (c .before .before .before .before .before .before .before .before .before .before .before .before .before .before .before .before .before .before .before .before .before .before .before .before .before .before .before .before .before .before .before .before .before .before .before .loop .inv) (c .before .before .before .before .before .before .before .before .before .before .before .before .before .before .before .before .before .before .before .before .before .before .before .before .before .before .before .before .before .before .before .before .before .next-visit .result) (c .before .before .before .before .before .before .before .before .before .before .before .before .before .before .before .before .before .before .before .before .before .before .before .before .before .before .before .before .before .before .before .before .before .next-visit .ensures) (not-true _ (c .before .before .before .before .before .before .before .before .before .before .before .before .before .before .before .before .before .before .before .before .before .before .before .before .before .before .before .before .before .before .before .if4 .taken)) (c .before .before .before .before .before .before .before .before .before .before .before .before .before .before .before .before .before .before .before .before .before .before .before .before .before .before .before .before .before .before .if5 .left) (c .before .before .before .before .before .before .before .before .before .before .before .before .before .before .before .before .before .before .before .if6 .bars) (c .before .before .before .before .before .before .before .before .before .before .before .before .before .before .before .before .before .before .before .if6 .ready) (q .0) (q .1) (stepped (c .before .before .before .before .before .before .before .before .before .before .before .before .before .before .before .before .before) (c .before .before .posted .result) (c .before .handed .result) (rw (c .before .before .before .before .before .before .before .before .before .before .before .before .before .loop2 .inv .posting .kept .agents) at (c .before .before .posted .ensures _ (c .before .before .before .before .before .before .before .before .before .before .before .before .before .before .before .before .before .receive .ensures .ready))) (rw (c .before .before .before .before .before .before .before .before .before .before .before .before .before .loop2 .inv .posting .kept .agents) at (c .before .handed .ensures))) (recast _ _ (c .before .before .before .before .before .before .before .before .before .before .before .before .before .loop2 .inv)) (no-posts _ _ _ _ (c .before .before .before .before .before .before .before .before .before .before .before .before .is-empty .ensures .1) (c .before .before .before .before .before .before .before .before .before .before .before .if7 .left) (c .before .before .before .before .before .before .before .before .before .before .if9 .taken) (c .before .before .before .before .before .before .before .before .before .before .before .before .before .loop2 .inv .ready))
+    (record { head = head-moved _ _ _ _ (c .before .before .before .before .before .before .before .with-digit .ensures) (c .before .before .before .before .before .before .before .before .digit4 .ensures .0); count = c .before .before .before .before .before .one-less .ensures .0 }) _ (c .before .before .before .before .before .before .before .before .before .before .before .before .before .before .before .before .before .before .before .before .before .before .before .words-before .ensures .0) (c .before .before .before .before .before .before .before .before .before .before .before .before .before .before .before .before .before .receive .ensures .barring)
 
 with-digit-requires-2 : tie.Need-with-digit-requires-2 Inv-loop2 μ-loop2 Inv-loop μ-loop
 with-digit-requires-2 c κs = let b = visited (c .before .before .before .before .before .before .before .before .before .before .before .before .before .before .before .before .before .before .before .before .before) in (b .to-low, omega (arith, b .to-high), omega arith)
@@ -437,8 +446,8 @@ work-spec =
     sub-at
     cast-row
     sub-row
-    mul-heads
-    element-copy-out-heads
+    mul-digit
+    element-copy-out-digit
     digit-requires
     channel-at-requires
     place-at-requires
@@ -468,8 +477,8 @@ work-spec =
     first-requires
     digit-requires-2
     channel-at-requires-2
-    mul-digit
-    element-copy-out-digit
+    mul-digit-2
+    element-copy-out-digit-2
     digit-requires-3
     place-at-requires-2
     mul-t95
@@ -482,6 +491,9 @@ work-spec =
     loop2-again-2
     mul-o
     element-write-o
+    mul-heads
+    element-copy-out-heads
+    digit-requires-4
     add-with-digit
     with-digit-requires
     mul-o-2
