@@ -3,56 +3,28 @@ use Prim.Native.Nat.{ℕ}
 use mathlib.Core.Path.{_≡_, sym, ap, ap₂, _∙_, fun-ext}
 use mathlib.Core.List.{List, [], _∷_}
 use Rattle.agent_rules.specs.Message.{Message as Message′}
-use Rattle.agent_rules.specs.Counts.{Sort, Counts as Counts′, number, messagesIn, raised, counting}
+use Rattle.agent_rules.specs.Counts.{Sort, Counts as Counts′, messagesIn, counting}
 use Rattle.agent_rules.specs.Agent.{Bans, withCounts}
 use Rattle.agent_rules.specs.Receiving.{react, counted, receive}
-use Rattle.agent.specs.Abstract.{countOf, noneCounted, countsOf, agentOf, selfOf}
+use Rattle.agent.specs.Abstract.{noneCounted, countsOf, agentOf, selfOf}
 use Rattle.agent.specs.Posting.{postsLeft, stepOf}
-use Rattle.agent.specs.Entries.{StepsAs}
-use Rattle.agent.specs.Parts.{apart, agentIn, stepWith}
+use Rattle.agent.specs.Entries.{StepsAs, Raised, recounted}
+use Rattle.agent.specs.Parts.{apart, agentIn, postsOf, stepWith}
 use Rattle.agent.specs.declared.Agent.{Agent}
 use Rattle.agent.specs.declared.Bars.{Bars}
 use Rattle.agent.specs.declared.Counts.{Counts}
 use Rattle.agent.specs.declared.Own.{Own}
-use Rattle.agent.specs.declared.State.{State}
-use Rattle.agent.specs.declared.Step.{Step}
 use Rattle.agent.specs.declared.choosing.Done.{Done}
 use Rattle.agent.proofs.Uncounted.{receives}
 
--- put together again, with these counts
-abbrev pub agentWhole : State → List ℕ → Counts → Counts → Agent
-agentWhole s nogoods sent received =
-    record {
-      value = s .value;
-      last = s .last;
-      stored = s .stored;
-      listens = s .listens;
-      informs = s .informs;
-      view = record { digits = s .view };
-      nogoods = nogoods;
-      sent = sent;
-      received = received;
-    }
-
-abbrev pub stepWhole : Done → List ℕ → List ℕ → Counts → Counts → Step
-stepWhole d nogoods backs sent received =
-    record {
-      agent = agentWhole (d .state) nogoods sent received;
-      posts = d .posts;
-      backs = backs;
-      bars = d .state .bars;
-      verdict = d .verdict;
-    }
-
 module _ (own : Own) (bans : Bans) (a : Agent) (b : Bars) (from : ℕ) (m : Message′) (d : Done) (nogoods backs : List ℕ) (sent received : Counts)
-    (got : (x : Sort) → countOf received x ≡ raised (countOf (a .received) x) (number x (m ∷ [])))
-    (posted : (x : Sort) → countOf sent x ≡ raised (countOf (a .sent) x) (number x (messagesIn (postsLeft (d .posts) backs)))) where
-  counts : countsOf sent received ≡ counting (agentOf a .counts) (m ∷ []) (postsLeft (d .posts) backs)
+    (posted : Raised (a .sent) (messagesIn (postsLeft (postsOf d) backs)) sent) (got : Raised (a .received) (m ∷ []) received) where
+  counts : countsOf sent received ≡ counting (agentOf a .counts) (m ∷ []) (postsLeft (postsOf d) backs)
   unfolding countsOf counting agentOf
   counts = ap₂ (λ (f g : Sort → ℕ). record { sent = f; received = g }) (fun-ext λ x. posted x) (fun-ext λ x. got x)
 
   pub steps-counted : StepsAs own bans (stepWith d nogoods backs) (react (selfOf own) bans (agentIn (apart a b) (a .nogoods)) from m)
-      → StepsAs own bans (stepWhole d nogoods backs sent received) (receive (selfOf own) bans (agentOf a) from m)
+      → StepsAs own bans (recounted (stepWith d nogoods backs) sent received) (receive (selfOf own) bans (agentOf a) from m)
   unfolding stepOf agentOf counted
   steps-counted s =
       let whole = receives (selfOf own) bans (countsOf noneCounted noneCounted) (agentOf a) from m in
@@ -60,7 +32,7 @@ module _ (own : Own) (bans : Bans) (a : Agent) (b : Bars) (from : ℕ) (m : Mess
         step =
             ap (λ (c : Counts′). record {
               agent = withCounts (agentIn (d .state) nogoods) c;
-              sent = postsLeft (d .posts) backs;
+              sent = postsLeft (postsOf d) backs;
               verdict = d .verdict;
             }) counts
             ∙ ap (counted (agentOf a) (m ∷ [])) (s .step)

@@ -28,7 +28,7 @@ pub steps-quiet : (own : Own) (bans : Bans) (s : State) (nogoods backs : List �
     → Barring bans (assignment (s .view)) (s .bars)
     → StepsAs own bans
     (stepWith
-    record { state = s; posts = record { links = 0; told = told; value = s .value; next = 0; count = 0 }; verdict = false }
+    record { state = s; links = 0; told = told; count = 0; verdict = false }
     nogoods backs)
     (quiet (agentIn s nogoods) (newsTo (s .value) told))
 unfolding quiet stepOf postsLeft backsFrom assigned

@@ -35,7 +35,7 @@ use Rattle.agent.specs.declared.Posts.{Posts}
 
 -- ---- to a set
 
-half : (s k : ℕ) → s / 2 ^ suc k ≡ s / 2 ^ k / 2
+pub half : (s k : ℕ) → s / 2 ^ suc k ≡ s / 2 ^ k / 2
 half s k = rw (pow-suc 2 k, ← div-div-eq-div-mul s (2 ^ k) 2)
 
 pub ones-none : ones 0 ≡ 0

@@ -123,7 +123,9 @@ module _ (own : Own) (fits : OwnFits own) (refuser : ℕ) (s₀ : State) (nogood
         (stepWith
         record {
           state = withValue (withStored s stored) v last;
-          posts = record { links = links; told = told; value = v; next = 0; count = count };
+          links = links;
+          told = told;
+          count = count;
           verdict = verdict;
         }
         new backs)

@@ -22,6 +22,7 @@ use Rattle.agent.specs.Entries.{Able, ViewFits, Above, Below, Barring}
 use Rattle.agent.specs.declared.Agent.{Agent}
 use Rattle.agent.specs.declared.Bars.{Bars}
 use Rattle.agent.specs.declared.Own.{Own}
+use Rattle.agent.specs.declared.Posts.{Posts}
 use Rattle.agent.specs.declared.State.{State}
 use Rattle.agent.specs.declared.Step.{Step}
 use Rattle.agent.specs.declared.Taken.{Taken}
@@ -68,12 +69,16 @@ agentWith s nogoods =
 abbrev pub agentIn : State → List ℕ → Agent′
 agentIn s nogoods = agentOf (agentWith s nogoods)
 
+-- what a step that is done sends, less the words of its Backs
+abbrev pub postsOf : Done → Posts
+postsOf d = record { links = d .links; told = d .told; value = d .state .value; next = 0; count = d .count }
+
 -- the same of a step
 abbrev pub stepWith : Done → List ℕ → List ℕ → Step
 stepWith d nogoods backs =
     record {
       agent = agentWith (d .state) nogoods;
-      posts = d .posts;
+      posts = postsOf d;
       backs = backs;
       bars = d .state .bars;
       verdict = d .verdict;
@@ -148,7 +153,9 @@ ended s v told links count =
             view = s .view;
             bars = s .bars;
           };
-      posts = record { links = links; told = told; value = v; next = 0; count = count };
+      links = links;
+      told = told;
+      count = count;
       verdict = not (known v);
     }
 

@@ -18,7 +18,6 @@ ghost use Rattle.agent.specs.Entries.{OwnFits, Above, Below, Barring, St
 ghost use Rattle.agent.specs.Parts.{nogoodsOf, agentIn, listener, stepWith, Coherent, Sound, Refuser, leftFree, Barred, Blames, Reasoned, Chose, ended};
 use crate::Bars;
 use crate::Own;
-use crate::Posts;
 use crate::State;
 use packed::add;
 use packed::digit;
@@ -38,10 +37,13 @@ struct Choice {
     pub whole: u64,
 }
 
-// A step done: the agent less the words of its nogoods, what it sends less the words of its Backs, and whether the verdict "none" fell.
+// A step done: the agent less the words of its nogoods, whom it sends what, with so many Backs, and whether the verdict "none" fell. It is its own value
+// that it tells.
 pub(crate) struct Done {
     pub state: State,
-    pub posts: Posts,
+    pub links: u16,
+    pub told: u16,
+    pub count: u8,
     pub verdict: bool,
 }
 
@@ -120,16 +122,18 @@ fn give_reasons(
 {
     let mut reasoned = stored;
     let mut whole: u64 = 0;
+    let mut rest = stored;
     let mut i: u8 = 0;
     while i < tried {
         let mut lhs = nogoods[i as usize];
-        if (stored >> i) % 2 == 0 {
+        if rest % 2 == 0 {
             let k = blamed(nogoods, own, bars, reasoned, i + 1);
             lhs = with_digit(0, k, digit(view, k));
             nogoods[i as usize] = lhs;
             reasoned = reasoned | (1u8 << i);
         }
         whole = whole | lhs;
+        rest = rest / 2;
         i += 1;
     }
     Tried {
@@ -165,16 +169,11 @@ impl State {
     pub(crate) fn telling(self, told: u16) -> Done
         ensures { λ r. ⌜ ((own : Own) (bans : Bans) (nogoods backs : List ℕ) → OwnFits own → length backs ≡ 11 → Below own told → Barring bans (assignment (self .view)) (self .bars) → StepsAs own bans (stepWith r nogoods backs) (quiet (agentIn self nogoods) (newsTo (self .value) told))) ⌝ }
     {
-        let posts = Posts {
-            links: 0,
-            told: told,
-            value: self.value,
-            next: 0,
-            count: 0,
-        };
         Done {
             state: self,
-            posts: posts,
+            links: 0,
+            told: told,
+            count: 0,
             verdict: false,
         }
     }
@@ -207,16 +206,11 @@ impl State {
         if value != 0 {
             s.last = value;
         }
-        let posts = Posts {
-            links: links,
-            told: told,
-            value: value,
-            next: 0,
-            count: count,
-        };
         Done {
             state: s,
-            posts: posts,
+            links: links,
+            told: told,
+            count: count,
             verdict: value == 0,
         }
     }

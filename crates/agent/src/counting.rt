@@ -4,9 +4,10 @@ ghost use mathlib.Core.List.{List, [], _∷_};
 ghost use Prim.Native.Nat.{ℕ, _≤_};
 ghost use lib.Count.{ones};
 ghost use lib.Dec.{eqb};
-ghost use Rattle.agent_rules.specs.Counts.{Sort, eachSort, number, messagesIn, raised};
+ghost use Rattle.agent_rules.specs.Counts.{eachSort, messagesIn, raised};
 ghost use Rattle.agent.specs.Abstract.{messageOf, countOf};
 ghost use Rattle.agent.specs.Posting.{postsLeft, Ready};
+ghost use Rattle.agent.specs.Entries.{Raised};
 use crate::Counts;
 use crate::Message;
 use crate::Posts;
@@ -40,8 +41,8 @@ impl Counts {
     }
 
     // A message is handed over.
-    pub(crate) fn handed(self, m: Message) -> Counts
-        ensures { λ r. ⌜ ((x : Sort) → countOf r x ≡ raised (countOf self x) (number x (messageOf m ∷ []))) ⌝ }
+    pub fn handed(self, m: Message) -> Counts
+        ensures { λ r. ⌜ Raised self (messageOf m ∷ []) r ⌝ }
     {
         let mut c = self;
         match m {
@@ -59,9 +60,9 @@ impl Counts {
     }
 
     // The posts left are sent.
-    pub(crate) fn posted(self, p: Posts) -> Counts
+    pub fn posted(self, p: Posts) -> Counts
         requires { ⌜ p .next ≤ p .count ⌝ }
-        ensures { λ r. ⌜ ((backs : List ℕ) → Ready p backs → (x : Sort) → countOf r x ≡ raised (countOf self x) (number x (messagesIn (postsLeft p backs)))) ⌝ }
+        ensures { λ r. ⌜ ((backs : List ℕ) → Ready p backs → Raised self (messagesIn (postsLeft p backs)) r) ⌝ }
     {
         Counts {
             infos: raised_by_set(self.infos, p.told),

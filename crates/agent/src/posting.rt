@@ -2,7 +2,7 @@
 ghost use mathlib.Core.Path.{_≡_};
 ghost use mathlib.Core.Bool.{true, false};
 ghost use mathlib.Core.List.{List, [], _∷_};
-ghost use Prim.Native.Nat.{ℕ};
+ghost use Prim.Native.Nat.{ℕ, _≤_};
 ghost use Rattle.agent.specs.Abstract.{postOf};
 ghost use Rattle.agent.specs.Posting.{postsLeft, noneLeft, tailOf, Ready};
 use crate::Lhs;
@@ -58,6 +58,7 @@ impl Posts {
     // Those left after the first.
     pub fn rest(self) -> Posts
         requires { ⌜ noneLeft self ≡ false ⌝ }
+        requires { ⌜ self .next ≤ self .count ⌝ }
         ensures { λ r. ⌜ ((backs : List ℕ) → Ready self backs → Ready r backs × (postsLeft r backs ≡ tailOf (postsLeft self backs))) ⌝ }
     {
         let mut p = self;
@@ -65,7 +66,7 @@ impl Posts {
             p.links = without(self.links, first(self.links));
         } else if self.next < self.count {
             p.next = self.next + 1;
-        } else if self.told != 0 {
+        } else {
             p.told = without(self.told, first(self.told));
         }
         p

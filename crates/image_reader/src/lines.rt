@@ -101,7 +101,7 @@ pub fn places(s: &[u8], l: Layout) -> PlaceArray
     let lengths = l.lengths;
     let starts = l.starts;
     let nothing = Place {
-        message: Message::AddLink,
+        message: Message::Info(0),
     };
     let mut places = [nothing; 1056];
     let mut p: usize = 0;

@@ -10,7 +10,7 @@ use Rattle.agent_rules.specs.Agent.{Agent as Agent′, unusedAgent}
 unfoldable pub use Rattle.protocol.specs.Lines.{isChannel, channelAt}
 use Rattle.protocol.specs.Network.{Network as Network′}
 use Rattle.packed.specs.Packed.{assignment}
-use Rattle.agent.specs.declared.Message.the-variants.{AddLink}
+use Rattle.agent.specs.declared.Message.the-variants.{Info}
 use Rattle.agent.specs.Abstract.{messageOf, agentOf}
 use Rattle.network.specs.declared.Place.{Place}
 use Rattle.network.specs.declared.Network.{Network}
@@ -18,8 +18,9 @@ use Rattle.network.specs.declared.Network.{Network}
 unfoldable pub placeOf : Place → Message′
 placeOf p = messageOf (p .message)
 
+-- what stands in a place where nothing was put
 unfoldable pub noPlace : Place
-noPlace = record { message = AddLink }
+noPlace = record { message = Info 0 }
 
 -- the messages of a ring of eight places from `base` on, so many from `head` on, round and round
 unfoldable pub ring : List Place → ℕ → ℕ → ℕ → List Message′

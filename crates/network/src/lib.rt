@@ -77,7 +77,7 @@ pub fn empty() -> Network
     };
     let agents = [agent; 12];
     let place = Place {
-        message: Message::AddLink,
+        message: Message::Info(0),
     };
     let places = [place; 1056];
     Network {

@@ -82,8 +82,7 @@ pub fn work(r: Network, once: bool, sender: u8, receiver: u8, allowed: u64) -> A
             let to = visit.to;
             let at = to as usize - 1;
             let row = from as usize - 1;
-            let heads = o.heads[row];
-            let head = digit(heads, to);
+            let head = digit(o.heads[row], to);
             let place = o.places[place_at(channel_at(from, to), head, 0)];
             let message = place.message;
             let agent = o.agents[at];
@@ -103,7 +102,6 @@ pub fn work(r: Network, once: bool, sender: u8, receiver: u8, allowed: u64) -> A
             let step = agent.receive(own, mine, seen, from, message);
             let mut posts = step.posts;
             let backs = step.backs;
-            let ends = o.heads[at];
             let mut now = o.counts[at];
             let mut room = true;
             while !posts.is_empty() & room {
@@ -111,9 +109,8 @@ pub fn work(r: Network, once: bool, sender: u8, receiver: u8, allowed: u64) -> A
                 let message = p.message;
                 let waiting = digit(now, p.to);
                 if waiting < 8 {
-                    o.places[place_at(channel_at(to, p.to), digit(ends, p.to), waiting)] = Place {
-                        message: message,
-                    };
+                    let end = place_at(channel_at(to, p.to), digit(o.heads[at], p.to), waiting);
+                    o.places[end] = Place { message: message };
                     now = one_more(now, p.to);
                     posts = posts.rest();
                 } else {
@@ -122,9 +119,16 @@ pub fn work(r: Network, once: bool, sender: u8, receiver: u8, allowed: u64) -> A
             }
             if room {
                 o.counts[at] = now;
-                o.heads[row] = with_digit(heads, to, (head + 1) % 8);
+                let heads = o.heads[row];
+                o.heads[row] = with_digit(heads, to, (digit(heads, to) + 1) % 8);
                 o.counts[row] = one_less(o.counts[row], to);
-                let changed = step.agent;
+                let mut changed = step.agent;
+                // the counts, read only now
+                let held = o.agents[at];
+                let sent = held.sent.posted(step.posts);
+                let received = held.received.handed(message);
+                changed.sent = sent;
+                changed.received = received;
                 o.agents[at] = changed;
                 let barred = step.bars;
                 bars[at] = barred;
@@ -138,8 +142,7 @@ pub fn work(r: Network, once: bool, sender: u8, receiver: u8, allowed: u64) -> A
             if !missed {
                 made += 1;
             }
-            let held = o.counts;
-            let waits = waits(held, n);
+            let waits = waits(&o.counts, n);
             if o.verdict | (number != 0) | !waits | (left == 0) {
                 let ending = ending_at(once, o.verdict, waits, number);
                 if !once & (number != 5) {
@@ -153,6 +156,7 @@ pub fn work(r: Network, once: bool, sender: u8, receiver: u8, allowed: u64) -> A
                 };
             }
             left -= 1;
+            let held = o.counts;
             quota = held;
             missed = false;
             number = 10;

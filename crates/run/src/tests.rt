@@ -62,9 +62,9 @@ fn holds_some(row: u64) -> bool
 }
 
 // Something waits on a line of the agents 1 to n, where the rows are clean.
-pub fn waits(counts: [u64; 12], n: u8) -> bool
+pub fn waits(counts: &[u64; 12], n: u8) -> bool
     requires { ⌜ n ≤ 12 ⌝ }
-    ensures { λ b. ⌜ (Clean counts → b ≡ not (allTo n (λ i. allTo maxAgents (λ j. eqb (heldAt counts i j) 0)))) ⌝ }
+    ensures { λ b. ⌜ (Clean (now (counts .entry)) → b ≡ not (allTo n (λ i. allTo maxAgents (λ j. eqb (heldAt (now (counts .entry)) i j) 0)))) ⌝ }
 {
     let mut i: u8 = 0;
     while i < n {

@@ -91,7 +91,7 @@ fn nothing() -> Place
     ensures { λ p. ⌜ p ≡ noPlace ⌝ }
 {
     Place {
-        message: Message::AddLink,
+        message: Message::Info(0),
     }
 }
 

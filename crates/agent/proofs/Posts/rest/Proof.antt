@@ -16,7 +16,9 @@ add-p : tie.Need-add-p
 add-p c = search needs
 
 first-requires-2 : tie.Need-first-requires-2
-first-requires-2 c κs = search needs
+first-requires-2 c κs =
+    let n = news-left (c .before .before .before .before .args .self) (c .before .before .before .before .pre .0) (c .before .before .if1 .left) (omega (arith, c .if2 .left, c .before .before .before .before .pre .1)) in
+    omega (arith, n)
 
 without-requires-2 : tie.Need-without-requires-2
 without-requires-2 c κs = search needs
@@ -32,11 +34,8 @@ returns-2 c = λ backs r. back-rest (c .before .before .before .before .before .
 returns-3 : tie.Need-returns-3
 returns-3 c = λ backs r.
     let (low, here, lo, hi) = c .before .first2 .ensures in
-    news-rest (c .before .before .before .before .before .before .before .before .args .self) backs r (c .before .before .before .before .before .before .if1 .left) (omega (arith, c .before .before .before .before .if2 .left, r .next)) (c .before .first2 .result) low here lo hi (c .without2 .result)
+    news-rest (c .before .before .before .before .before .before .args .self) backs r (c .before .before .before .before .if1 .left) (omega (arith, c .before .before .if2 .left, r .next)) (c .before .first2 .result) low here lo hi (c .without2 .result)
     (c .without2 .ensures .0)
-
-returns-4 : tie.Need-returns-4
-returns-4 c = λ backs r. absurd (news-left (c .before .before .before .before .before .before .args .self) (c .before .before .before .before .before .before .pre) (c .before .before .before .before .if1 .left) (omega (arith, c .before .before .if2 .left, r .next)) (c .if3 .left))
 
 pub rest-spec : {M : Type 1} → statement M
 rest-spec =
@@ -49,5 +48,4 @@ rest-spec =
     without-requires-2
     returns
     returns-2
-    returns-3
-    returns-4)
+    returns-3)

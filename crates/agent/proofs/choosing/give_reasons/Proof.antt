@@ -1,8 +1,9 @@
 -- `give_reasons` gives the reasons of the values tried, and joins the left sides on the way.
 -- Value by value, upward. The invariant: the first i have theirs, and the figure is the union of that many.
-use Prim.Native.Nat.{_-_, _^_, _≤_, _<_}
-use mathlib.Core.Path.{_≡_}
+use Prim.Native.Nat.{_+_, _-_, _/_, _^_, _≤_, _<_}
+use mathlib.Core.Path.{_≡_, sym}
 use mathlib.Core.Logic.{⊎-elim}
+use native.Mathlib.Nat.{div-one}
 use native.Mathlib.Numerals.{add-one}
 use native.Mathlib.Omega.{arith}
 use lib.Bits.{or-lt}
@@ -12,20 +13,21 @@ use Rattle.agent_rules.specs.Shape.{maxNamed}
 use Rattle.packed.specs.Packed.{assignment}
 use Rattle.agent_rules.specs.Choosing.{union}
 use Rattle.agent.specs.Parts.{nogoodsOf, Reasoned}
+use Rattle.agent.proofs.Tallies.{half}
 use Rattle.agent.proofs.Reasons.{reasons-none, reasons-kept, barred-by, reasons-given, joined-none, joined-kept, joined-given}
 use Rattle.agent.proofs.choosing.give_reasons.Statement.{statement}
 use Rattle.agent.proofs.choosing.give_reasons.Tie as tie
 
 abbrev Inv-loop : tie.InvT-loop
-Inv-loop nogoods₀ own view bars stored tried reasoned₀ whole₀ i₀ nogoods reasoned whole i =
+Inv-loop nogoods₀ own view bars stored tried reasoned₀ whole₀ rest₀ i₀ nogoods reasoned whole rest i =
     (length nogoods ≡ 8) × (i ≤ tried) × Reasoned own (assignment view) bars i (nogoodsOf stored nogoods₀) (nogoodsOf reasoned nogoods)
-    × (assignment whole ≡ union i (nogoodsOf reasoned nogoods)) × (whole < 2 ^ 64)
+    × (assignment whole ≡ union i (nogoodsOf reasoned nogoods)) × (whole < 2 ^ 64) × (rest ≡ stored / 2 ^ i)
 
 abbrev μ-loop : tie.MeasureT-loop
-μ-loop nogoods₀ own view bars stored tried reasoned₀ whole₀ i₀ nogoods reasoned whole i = tried - i
+μ-loop nogoods₀ own view bars stored tried reasoned₀ whole₀ rest₀ i₀ nogoods reasoned whole rest i = tried - i
 
 loop-holds : tie.Need-loop-holds Inv-loop μ-loop
-loop-holds c = (c .pre .1 .0 .0, omega arith, reasons-none _ _ _ _ (c .pre .1 .1), joined-none _, omega arith)
+loop-holds c = (c .pre .1 .0 .0, omega arith, reasons-none _ _ _ _ (c .pre .1 .1), joined-none _, omega arith, sym (div-one _))
 
 cast-lhs : tie.Need-cast-lhs Inv-loop μ-loop
 cast-lhs c = search needs
@@ -35,9 +37,6 @@ mul-lhs c = search needs
 
 element-copy-out-lhs : tie.Need-element-copy-out-lhs Inv-loop μ-loop
 element-copy-out-lhs c = search needs
-
-shr-if1 : tie.Need-shr-if1 Inv-loop μ-loop
-shr-if1 c = search needs
 
 add-blamed : tie.Need-add-blamed Inv-loop μ-loop
 add-blamed c = search needs
@@ -53,7 +52,7 @@ blamed-requires c κs =
         omega (arith, room, start .pre .0 .few),
         rw (add-one (loop .i))
             (barred-by (start .args .own) (assignment (start .args .view)) (start .args .bars) (start .args .stored) (start .args .nogoods .now) (loop .i)
-            (start .pre .0) room (c .before .if1 .taken) (start .args .tried) (start .pre .1 .0 .2) (c .before .before .before .loop-test .taken)),
+            (start .pre .0) room (rw (loop .inv .5) at (c .before .if1 .taken)) (start .args .tried) (start .pre .1 .0 .2) (c .before .before .before .loop-test .taken)),
       ),
     )
 
@@ -92,12 +91,13 @@ loop-again c =
     let room : loop .i < own .domain = omega (arith, start .pre .1 .0 .1) in
     let few : loop .i < 8 = omega (arith, room, start .pre .0 .few) in
     let narrow : c .before .if1 .lhs < 2 ^ 64 = omega (arith, c .row-known .given) in
+    let half-left : loop .rest / 2 ≡ start .args .stored / 2 ^ (loop .i + 1) = rw (loop .inv .5, add-one (loop .i), half (start .args .stored) (loop .i)) in
     let wide = or-lt 64 (loop .whole) (c .before .if1 .lhs) (loop .inv .4) narrow in
     ⊎-elim
     (λ u.
     let is = rw (u .3 .ensures .0) at (u .4 .ensures) in
     let more =
-    reasons-given own view (start .args .bars) (start .args .stored) (start .args .nogoods .now) (loop .i) (start .pre .0) room (u .0 .taken) (u .2 .result)
+    reasons-given own view (start .args .bars) (start .args .stored) (start .args .nogoods .now) (loop .i) (start .pre .0) room (rw (loop .inv .5) at (u .0 .taken)) (u .2 .result)
     (u .4 .result) (loop .reasoned) (loop .nogoods) (loop .inv .0) (u .2 .ensures) is (loop .inv .2) in
     rw (u .5, u .6, u .7) (
       simp length-set (loop .inv .0),
@@ -106,15 +106,17 @@ loop-again c =
       joined-given own view (start .args .bars) (start .args .stored) (start .args .nogoods .now) (loop .i) (loop .reasoned) (loop .nogoods) (loop .whole)
           (u .4 .result) few (loop .inv .2) (loop .inv .3) (loop .inv .4) (rw (u .7) at narrow) (loop .inv .0) more,
       rw (u .7) at wide,
+      half-left,
     ))
     (λ u.
     rw (u .1, u .2) (
       loop .inv .0,
       omega arith,
-      reasons-kept own view (start .args .bars) (start .args .stored) (start .args .nogoods .now) (loop .i) (start .pre .0) room _ (u .0 .left) (loop .inv .2),
+      reasons-kept own view (start .args .bars) (start .args .stored) (start .args .nogoods .now) (loop .i) (start .pre .0) room _ (rw (loop .inv .5) at (u .0 .left)) (loop .inv .2),
       joined-kept own view (start .args .bars) (start .args .stored) (start .args .nogoods .now) (loop .i) (loop .reasoned) (loop .nogoods) (loop .whole)
-          _ few (loop .inv .2) (loop .inv .3) (loop .inv .4) narrow (u .0 .left) (u .3),
+          _ few (loop .inv .2) (loop .inv .3) (loop .inv .4) narrow (rw (loop .inv .5) at (u .0 .left)) (u .3),
       wide,
+      half-left,
     ))
     (c .before .if1 .came)
 
@@ -133,7 +135,6 @@ give-reasons-spec =
     cast-lhs
     mul-lhs
     element-copy-out-lhs
-    shr-if1
     add-blamed
     blamed-requires
     digit-requires

@@ -4,19 +4,23 @@ use Prim.Native.Nat.{_+_, _*_, _-_}
 use mathlib.Core.Bool.{not}
 use mathlib.Core.Path.{_≡_, refl, sym, ap, _∙_}
 use mathlib.Core.Logic.{⊎-elim, inl, inr}
+use mathlib.Core.List.{[], _∷_}
 use native.Mathlib.Omega.{arith}
 use lib.ListN.{length, getD, length-map}
 use borrow.Author.Needs.{needs}
 use borrow.Author.Tests.{not-true, not-false}
 use Rattle.base.proofs.Tests.{both}
 use Rattle.packed.specs.Packed.{assignment}
+use Rattle.agent_rules.specs.Counts.{messagesIn}
 use Rattle.agent.specs.Posting.{postsLeft}
+use Rattle.agent.specs.Entries.{Raised, recounted}
+use Rattle.agent.specs.declared.Counts.{Counts}
 use Rattle.protocol.specs.Shape.{inShape}
 use Rattle.protocol.specs.Run.{oneIf}
 use Rattle.network.specs.Abstract.{networkOf}
 use Rattle.network.proofs.Numbering.{Ends}
 use Rattle.network_laws.proofs.Changes.{FullArrays}
-use Rattle.network_laws.proofs.Handing.{Found, Stepped, bars-ask, step-asks, steps, storing}
+use Rattle.network_laws.proofs.Handing.{Found, headAt, Stepped, bars-ask, step-asks, steps, storing}
 use Rattle.network_laws.proofs.Stepping.{few-agents}
 use Rattle.run.specs.Lines.{ahead}
 use Rattle.run.specs.Working.{workBy}
@@ -28,6 +32,9 @@ use Rattle.run.proofs.Starting.{Rows, Began, broken, running, refused, 
 use Rattle.run.proofs.Visiting.{passes-over, line-channel, line-ends, here, finds}
 use Rattle.run.proofs.Storing.{
   Storing,
+  raisedStep,
+  raised-by,
+  recast,
   turns,
   storing-starts,
   turn-line,
@@ -46,11 +53,11 @@ use Rattle.run.proofs.engine.work.Statement.{statement}
 use Rattle.run.proofs.engine.work.Tie as tie
 
 abbrev Inv-loop2 : tie.InvT-loop2
-Inv-loop2 once sender receiver allowed o₀ n number from rest domains bans bars ready quota missed left made to at row heads head words step posts₀ backs ends now₀ room₀ o posts now room =
+Inv-loop2 once sender receiver allowed o₀ n number from rest domains bans bars ready quota missed left made to at row head message words step posts₀ backs now₀ room₀ o posts now room =
     Storing o₀ to step backs o posts now room
 
 abbrev μ-loop2 : tie.MeasureT-loop2
-μ-loop2 once sender receiver allowed o₀ n number from rest domains bans bars ready quota missed left made to at row heads head words step posts₀ backs ends now₀ room₀ o posts now room =
+μ-loop2 once sender receiver allowed o₀ n number from rest domains bans bars ready quota missed left made to at row head message words step posts₀ backs now₀ room₀ o posts now room =
     turns posts backs room
 
 abbrev Inv-loop : tie.InvT-loop
@@ -117,9 +124,16 @@ bars-now : (c : tie.Joined6 Inv-loop2 μ-loop2 Inv-loop μ-loop)
     × BarsOf (c .before .before .before .before .before .before .before .before .before .before .before .before .before .before .before .before .before .before .before .if1 .o .bans) (c .before .before .before .before .before .before .before .before .before .before .before .before .before .before .next-visit .result .to) (c .before .before .before .before .words-before .result) (getD (c .before .before .before .before .before .before .before .before .before .before .before .before .before .before .before .before .loop .o .agents) (c .before .before .before .before .before .before .before .before .before .before .before .before .before .before .next-visit .result .to - 1) noAgent) (getD (c .if6 .bars) (c .before .before .before .before .before .before .before .before .before .before .before .before .before .before .next-visit .result .to - 1) noBars)
 bars-now c = bars-ready (c .before .before .before .before .before .before .before .before .before .before .before .before .before .before .before .before .before .before .before .if1 .o .bans) (c .before .before .before .before .before .before .before .before .before .before .before .before .before .before .next-visit .result .to) (c .before .before .before .before .words-before .result) (visited (c .before .before .before .before .before .before .before .before .before .before .before .before) .to-low) (visited (c .before .before .before .before .before .before .before .before .before .before .before .before) .to-high) (c .before .before .before .before .words-before .ensures .0) (c .before .before .before .before .before .before .before .before .before .before .before .before .before .before .before .before .loop .o .agents) (c .before .before .before .before .before .before .before .before .before .before .before .before .before .before .before .before .loop .bars) (c .before .before .before .before .before .before .before .before .before .before .before .before .before .before .before .before .loop .ready) (alive (c .before .before .before .before .before .before .before .before .before .before .before .before) .beside) (alive (c .before .before .before .before .before .before .before .before .before .before .before .before) .barred) (c .if6 .bars) (c .if6 .ready) (readied c)
 
--- the receiver has made its step
-stepped : (c : tie.After-receive Inv-loop2 μ-loop2 Inv-loop μ-loop) → Stepped (c .before .before .before .before .before .before .before .before .before .before .before .before .before .before .before .before .before .before .loop .o) (c .before .before .before .before .before .before .before .before .before .before .before .before .before .before .before .before .next-visit .result .from) (c .before .before .before .before .before .before .before .before .before .before .before .before .before .before .before .before .next-visit .result .to) (c .before .before .before .before .before .before .before .before .before .place-at .result) (c .receive .result)
-stepped c = steps (finding (c .before .before .before .before .before .before .before .before .before)) noAgent _ _ (c .before .before .before .before .before .before .words-before .result) (alive (c .before .before .before .before .before .before .before .before .before .before .before .before .before .before) .owned) (alive (c .before .before .before .before .before .before .before .before .before .before .before .before .before .before) .table) (c .before .before .before .before .before .before .words-before .ensures .0) (c .receive .result) (c .receive .ensures)
+-- the receiver has made its step; with its counts raised, that is the definitions' step
+stepped : (c : tie.After-receive Inv-loop2 μ-loop2 Inv-loop μ-loop) (sent received : Counts)
+    → Raised (getD (c .before .before .before .before .before .before .before .before .before .before .before .before .before .before .before .before .before .before .loop .o .agents) (c .before .before .before .before .before .before .before .before .before .before .before .before .before .before .before .before .next-visit .result .to - 1) noAgent .sent) (messagesIn (postsLeft (c .receive .result .posts) (c .receive .result .backs))) sent
+    → Raised (getD (c .before .before .before .before .before .before .before .before .before .before .before .before .before .before .before .before .before .before .loop .o .agents) (c .before .before .before .before .before .before .before .before .before .before .before .before .before .before .before .before .next-visit .result .to - 1) noAgent .received) (headAt (c .before .before .before .before .before .before .before .before .before .before .before .before .before .before .before .before .before .before .loop .o) (c .before .before .before .before .before .before .before .before .before .place-at .result) ∷ []) received
+    → Stepped (c .before .before .before .before .before .before .before .before .before .before .before .before .before .before .before .before .before .before .loop .o) (c .before .before .before .before .before .before .before .before .before .before .before .before .before .before .before .before .next-visit .result .from) (c .before .before .before .before .before .before .before .before .before .before .before .before .before .before .before .before .next-visit .result .to) (c .before .before .before .before .before .before .before .before .before .place-at .result) (recounted (c .receive .result) sent received)
+stepped c sent received more handed = steps (finding (c .before .before .before .before .before .before .before .before .before)) noAgent _ _ (c .before .before .before .before .before .before .words-before .result) (alive (c .before .before .before .before .before .before .before .before .before .before .before .before .before .before) .owned) (alive (c .before .before .before .before .before .before .before .before .before .before .before .before .before .before) .table) (c .before .before .before .before .before .before .words-before .ensures .0) (recounted (c .receive .result) sent received) (c .receive .ensures .counted sent received more handed)
+
+-- .. and so with the counts that it is to have
+raises : (c : tie.After-receive Inv-loop2 μ-loop2 Inv-loop μ-loop) → Stepped (c .before .before .before .before .before .before .before .before .before .before .before .before .before .before .before .before .before .before .loop .o) (c .before .before .before .before .before .before .before .before .before .before .before .before .before .before .before .before .next-visit .result .from) (c .before .before .before .before .before .before .before .before .before .before .before .before .before .before .before .before .next-visit .result .to) (c .before .before .before .before .before .before .before .before .before .place-at .result) (raisedStep (getD (c .before .before .before .before .before .before .before .before .before .before .before .before .before .before .before .before .before .before .loop .o .agents) (c .before .before .before .before .before .before .before .before .before .before .before .before .before .before .before .before .next-visit .result .to - 1) noAgent) (headAt (c .before .before .before .before .before .before .before .before .before .before .before .before .before .before .before .before .before .before .loop .o) (c .before .before .before .before .before .before .before .before .before .place-at .result)) (c .receive .result))
+raises c = stepped c _ _ (raised-by _ _) (raised-by _ _)
 
 -- a round counts if nothing was missed
 counted : (c : tie.Joined10 Inv-loop2 μ-loop2 Inv-loop μ-loop) → c .if10 .made ≡ c .before .before .before .before .before .loop .made + oneIf (not (c .before .before .before .before .before .loop .missed))
@@ -161,11 +175,11 @@ cast-row c = let b = visited (c .before) in search needs
 sub-row : tie.Need-sub-row Inv-loop2 μ-loop2 Inv-loop μ-loop
 sub-row c = let b = visited (c .before) in search needs
 
-mul-heads : tie.Need-mul-heads Inv-loop2 μ-loop2 Inv-loop μ-loop
-mul-heads c = let b = visited (c .before) in search needs
+mul-digit : tie.Need-mul-digit Inv-loop2 μ-loop2 Inv-loop μ-loop
+mul-digit c = let b = visited (c .before) in search needs
 
-element-copy-out-heads : tie.Need-element-copy-out-heads Inv-loop2 μ-loop2 Inv-loop μ-loop
-element-copy-out-heads c = let b = visited (c .before) in search needs
+element-copy-out-digit : tie.Need-element-copy-out-digit Inv-loop2 μ-loop2 Inv-loop μ-loop
+element-copy-out-digit c = let b = visited (c .before) in search needs
 
 digit-requires : tie.Need-digit-requires Inv-loop2 μ-loop2 Inv-loop μ-loop
 digit-requires c κs = let b = visited (c .before .before) in (b .to-low, omega (arith, b .to-high))
@@ -191,8 +205,8 @@ element-copy-out-agent c = let b = visited (c .before .before .before .before .b
 words-before-requires : tie.Need-words-before-requires Inv-loop2 μ-loop2 Inv-loop μ-loop
 words-before-requires c κs = let b = visited (c .before .before .before .before .before .before .before) in (b .to-low, b .to-high)
 
-array-read-t74 : tie.Need-array-read-t74 Inv-loop2 μ-loop2 Inv-loop μ-loop
-array-read-t74 c = let b = visited (c .before .before .before .before .before .before .before .before) in search needs
+array-read-t77 : tie.Need-array-read-t77 Inv-loop2 μ-loop2 Inv-loop μ-loop
+array-read-t77 c = let b = visited (c .before .before .before .before .before .before .before .before) in search needs
 
 add-mine : tie.Need-add-mine Inv-loop2 μ-loop2 Inv-loop μ-loop
 add-mine c = let b = visited (c .before .before .before .before .before .before .before .before) in search needs
@@ -235,20 +249,14 @@ receive-requires c κs =
     let a = step-asks (finding (c .before .before .before .before .before .before .before .before)) noAgent _ _ (c .before .before .before .before .before .words-before .result) (alive (c .before .before .before .before .before .before .before .before .before .before .before .before .before) .owned) (alive (c .before .before .before .before .before .before .before .before .before .before .before .before .before) .table) (c .before .before .before .before .before .words-before .ensures .0) in
     (a .0, (a .1 .0, (a .1 .1, bars-now (c .before) .2)))
 
-mul-ends : tie.Need-mul-ends Inv-loop2 μ-loop2 Inv-loop μ-loop
-mul-ends c = let b = visited (c .before .before .before .before .before .before .before .before .before .before .before .before .before .before .before .before) in search needs
-
-element-copy-out-ends : tie.Need-element-copy-out-ends Inv-loop2 μ-loop2 Inv-loop μ-loop
-element-copy-out-ends c = let b = visited (c .before .before .before .before .before .before .before .before .before .before .before .before .before .before .before .before) in let z = c .before .before .before .before .before .before .before .before .before .before .before .before .before .before .before .before .before .before .before .before .loop .inv .sized .heads in search needs
-
 mul-now : tie.Need-mul-now Inv-loop2 μ-loop2 Inv-loop μ-loop
-mul-now c = let b = visited (c .before .before .before .before .before .before .before .before .before .before .before .before .before .before .before .before .before) in search needs
+mul-now c = let b = visited (c .before .before .before .before .before .before .before .before .before .before .before .before .before .before .before .before) in search needs
 
 element-copy-out-now : tie.Need-element-copy-out-now Inv-loop2 μ-loop2 Inv-loop μ-loop
-element-copy-out-now c = let b = visited (c .before .before .before .before .before .before .before .before .before .before .before .before .before .before .before .before .before) in let z = c .before .before .before .before .before .before .before .before .before .before .before .before .before .before .before .before .before .before .before .before .before .loop .inv .sized .counts in search needs
+element-copy-out-now c = let b = visited (c .before .before .before .before .before .before .before .before .before .before .before .before .before .before .before .before) in let z = c .before .before .before .before .before .before .before .before .before .before .before .before .before .before .before .before .before .before .before .before .loop .inv .sized .counts in search needs
 
 loop2-holds : tie.Need-loop2-holds Inv-loop2 μ-loop2 Inv-loop μ-loop
-loop2-holds c = storing-starts _ _ (c .before .before .before .before .receive .result) _ (storing (stepped (c .before .before .before .before))) (c .before .before .before .before .receive .ensures .ready)
+loop2-holds c = storing-starts _ _ (c .before .before .before .receive .result) _ (storing (raises (c .before .before .before))) (c .before .before .before .receive .ensures .ready)
 
 is-empty-requires : tie.Need-is-empty-requires Inv-loop2 μ-loop2 Inv-loop μ-loop
 is-empty-requires c κs = search needs
@@ -262,38 +270,44 @@ digit-requires-2 c κs = let b = turn-ends (c .before .before .before .before .l
 channel-at-requires-2 : tie.Need-channel-at-requires-2 Inv-loop2 μ-loop2 Inv-loop μ-loop
 channel-at-requires-2 c κs = turn-line (c .before .before .before .before .before .before .loop2 .inv) (c .before .before .first .result) (c .before .before .first .ensures)
 
+mul-digit-2 : tie.Need-mul-digit-2 Inv-loop2 μ-loop2 Inv-loop μ-loop
+mul-digit-2 c = let b = visited (c .before .before .before .before .before .before .before .before .before .before .before .before .before .before .before .before .before .before .before .before .before .before .before .before .before) in search needs
+
+element-copy-out-digit-2 : tie.Need-element-copy-out-digit-2 Inv-loop2 μ-loop2 Inv-loop μ-loop
+element-copy-out-digit-2 c = let b = visited (c .before .before .before .before .before .before .before .before .before .before .before .before .before .before .before .before .before .before .before .before .before .before .before .before .before) in let z = c .before .before .before .before .before .before .before .loop2 .inv .posting .sized .heads in search needs
+
 digit-requires-3 : tie.Need-digit-requires-3 Inv-loop2 μ-loop2 Inv-loop μ-loop
-digit-requires-3 c κs = let b = turn-ends (c .before .before .before .before .before .before .before .loop2 .inv) (c .before .before .before .first .result) (c .before .before .before .first .ensures) in (b .to-low, omega (arith, b .to-high))
+digit-requires-3 c κs = let b = turn-ends (c .before .before .before .before .before .before .before .before .loop2 .inv) (c .before .before .before .before .first .result) (c .before .before .before .before .first .ensures) in (b .to-low, omega (arith, b .to-high))
 
 place-at-requires-2 : tie.Need-place-at-requires-2 Inv-loop2 μ-loop2 Inv-loop μ-loop
-place-at-requires-2 c κs = (c .before .channel-at2 .ensures .1, c .digit3 .ensures .1, c .before .before .before .digit2 .ensures .1)
+place-at-requires-2 c κs = (c .before .before .channel-at2 .ensures .1, c .digit3 .ensures .1, c .before .before .before .before .digit2 .ensures .1)
 
-mul-t98 : tie.Need-mul-t98 Inv-loop2 μ-loop2 Inv-loop μ-loop
-mul-t98 c = search needs
+mul-t95 : tie.Need-mul-t95 Inv-loop2 μ-loop2 Inv-loop μ-loop
+mul-t95 c = search needs
 
 element-set-from-o : tie.Need-element-set-from-o Inv-loop2 μ-loop2 Inv-loop μ-loop
-element-set-from-o c = let z = c .before .before .before .before .before .before .before .before .before .loop2 .inv .posting .sized .places in search needs
+element-set-from-o c = let z = c .before .before .before .before .before .before .before .before .before .before .loop2 .inv .posting .sized .places in search needs
 
 one-more-requires-2 : tie.Need-one-more-requires-2 Inv-loop2 μ-loop2 Inv-loop μ-loop
-one-more-requires-2 c κs = let b = turn-ends (c .before .before .before .before .before .before .before .before .before .loop2 .inv) (c .before .before .before .before .before .first .result) (c .before .before .before .before .before .first .ensures) in (b .to-low, omega (arith, b .to-high), omega (arith, c .before .before .before .before .digit2 .ensures .0, c .before .before .before .if8 .taken))
+one-more-requires-2 c κs = let b = turn-ends (c .before .before .before .before .before .before .before .before .before .before .loop2 .inv) (c .before .before .before .before .before .before .first .result) (c .before .before .before .before .before .before .first .ensures) in (b .to-low, omega (arith, b .to-high), omega (arith, c .before .before .before .before .before .digit2 .ensures .0, c .before .before .before .before .if8 .taken))
 
 rest-requires : tie.Need-rest-requires Inv-loop2 μ-loop2 Inv-loop μ-loop
-rest-requires c κs = sym (c .before .before .before .before .before .before .before .before .before .is-empty .ensures .0) ∙ not-true _ (both (not (c .before .before .before .before .before .before .before .before .before .is-empty .result)) (c .before .before .before .before .before .before .before .before .before .before .loop2 .room) (c .before .before .before .before .before .before .before .before .if7 .taken) .0)
+rest-requires c κs = (sym (c .before .before .before .before .before .before .before .before .before .before .is-empty .ensures .0) ∙ not-true _ (both (not (c .before .before .before .before .before .before .before .before .before .before .is-empty .result)) (c .before .before .before .before .before .before .before .before .before .before .before .loop2 .room) (c .before .before .before .before .before .before .before .before .before .if7 .taken) .0), c .before .before .before .before .before .before .before .before .before .before .before .loop2 .inv .ready .next)
 
 loop2-less : tie.Need-loop2-less Inv-loop2 μ-loop2 Inv-loop μ-loop
-loop2-less c = turn-less (c .before .before .before .before .before .before .before .before .before .before .before .loop2 .inv) (c .before .before .before .before .before .before .before .first .result) (c .before .before .before .before .before .before .before .first .ensures) _ (c .rest .ensures (c .before .before .before .before .before .before .before .before .before .before .before .before .before .before .before .before .receive .result .backs) (c .before .before .before .before .before .before .before .before .before .before .before .loop2 .inv .ready))
+loop2-less c = turn-less (c .before .before .before .before .before .before .before .before .before .before .before .before .loop2 .inv) (c .before .before .before .before .before .before .before .before .first .result) (c .before .before .before .before .before .before .before .before .first .ensures) _ (c .rest .ensures (c .before .before .before .before .before .before .before .before .before .before .before .before .before .before .before .before .receive .result .backs) (c .before .before .before .before .before .before .before .before .before .before .before .before .loop2 .inv .ready))
 
 loop2-again : tie.Need-loop2-again Inv-loop2 μ-loop2 Inv-loop μ-loop
 loop2-again c =
-    turn-stores (c .before .before .before .before .before .before .before .before .before .before .before .loop2 .inv) (c .before .before .before .before .before .before .before .first .result) (c .before .before .before .before .before .before .before .first .ensures)
+    turn-stores (c .before .before .before .before .before .before .before .before .before .before .before .before .loop2 .inv) (c .before .before .before .before .before .before .before .before .first .result) (c .before .before .before .before .before .before .before .before .first .ensures)
     (record {
-      channel = c .before .before .before .before .channel-at2 .ensures .0;
-      head = c .before .before .before .digit3 .ensures .0;
-      waiting = c .before .before .before .before .before .before .digit2 .ensures .0;
+      channel = c .before .before .before .before .before .channel-at2 .ensures .0;
+      head = rw (c .before .before .before .before .before .before .before .before .before .before .before .before .loop2 .inv .posting .kept .heads) at (c .before .before .before .digit3 .ensures .0);
+      waiting = c .before .before .before .before .before .before .before .digit2 .ensures .0;
       place = c .before .before .place-at2 .ensures .0;
       next = c .before .one-more2 .ensures;
     })
-    (c .before .before .before .before .before .if8 .taken) (c .rest .result) (c .rest .ensures (c .before .before .before .before .before .before .before .before .before .before .before .before .before .before .before .before .receive .result .backs) (c .before .before .before .before .before .before .before .before .before .before .before .loop2 .inv .ready))
+    (c .before .before .before .before .before .before .if8 .taken) (c .rest .result) (c .rest .ensures (c .before .before .before .before .before .before .before .before .before .before .before .before .before .before .before .before .receive .result .backs) (c .before .before .before .before .before .before .before .before .before .before .before .before .loop2 .inv .ready))
 
 loop2-less-2 : tie.Need-loop2-less-2 Inv-loop2 μ-loop2 Inv-loop μ-loop
 loop2-less-2 c = full-less _ _ _ (both (not (c .before .before .before .before .before .is-empty .result)) (c .before .before .before .before .before .before .loop2 .room) (c .before .before .before .before .if7 .taken) .1)
@@ -302,95 +316,116 @@ loop2-again-2 : tie.Need-loop2-again-2 Inv-loop2 μ-loop2 Inv-loop μ-loop
 loop2-again-2 c = turn-full (c .before .before .before .before .before .before .loop2 .inv) (c .before .before .first .result) (c .before .before .first .ensures) _ (c .before .digit2 .ensures .0) (c .if8 .left)
 
 mul-o : tie.Need-mul-o Inv-loop2 μ-loop2 Inv-loop μ-loop
-mul-o c = let b = visited (c .before .before .before .before .before .before .before .before .before .before .before .before .before .before .before .before .before .before .before .before .before .before) in search needs
+mul-o c = let b = visited (c .before .before .before .before .before .before .before .before .before .before .before .before .before .before .before .before .before .before .before .before .before) in search needs
 
 element-write-o : tie.Need-element-write-o Inv-loop2 μ-loop2 Inv-loop μ-loop
-element-write-o c = let b = visited (c .before .before .before .before .before .before .before .before .before .before .before .before .before .before .before .before .before .before .before .before .before .before) in let z = c .before .before .before .loop2 .inv .posting .sized .counts in search needs
+element-write-o c = let b = visited (c .before .before .before .before .before .before .before .before .before .before .before .before .before .before .before .before .before .before .before .before .before) in let z = c .before .before .before .loop2 .inv .posting .sized .counts in search needs
+
+mul-heads : tie.Need-mul-heads Inv-loop2 μ-loop2 Inv-loop μ-loop
+mul-heads c = let b = visited (c .before .before .before .before .before .before .before .before .before .before .before .before .before .before .before .before .before .before .before .before .before) in search needs
+
+element-copy-out-heads : tie.Need-element-copy-out-heads Inv-loop2 μ-loop2 Inv-loop μ-loop
+element-copy-out-heads c = let b = visited (c .before .before .before .before .before .before .before .before .before .before .before .before .before .before .before .before .before .before .before .before .before) in let z = c .before .before .before .loop2 .inv .posting .sized .heads in search needs
+
+digit-requires-4 : tie.Need-digit-requires-4 Inv-loop2 μ-loop2 Inv-loop μ-loop
+digit-requires-4 c κs = let b = visited (c .before .before .before .before .before .before .before .before .before .before .before .before .before .before .before .before .before .before .before .before .before .before) in (b .to-low, omega (arith, b .to-high))
 
 add-with-digit : tie.Need-add-with-digit Inv-loop2 μ-loop2 Inv-loop μ-loop
-add-with-digit c = let d = c .before .before .before .before .before .before .before .before .before .before .before .before .before .before .before .before .before .before .before .digit .ensures .1 in search needs
+add-with-digit c = let d = c .digit4 .ensures .1 in search needs
 
 with-digit-requires : tie.Need-with-digit-requires Inv-loop2 μ-loop2 Inv-loop μ-loop
-with-digit-requires c κs = let b = visited (c .before .before .before .before .before .before .before .before .before .before .before .before .before .before .before .before .before .before .before .before .before .before) in (b .to-low, omega (arith, b .to-high), omega arith)
+with-digit-requires c κs = let b = visited (c .before .before .before .before .before .before .before .before .before .before .before .before .before .before .before .before .before .before .before .before .before .before .before) in (b .to-low, omega (arith, b .to-high), omega arith)
 
 mul-o-2 : tie.Need-mul-o-2 Inv-loop2 μ-loop2 Inv-loop μ-loop
-mul-o-2 c = let b = visited (c .before .before .before .before .before .before .before .before .before .before .before .before .before .before .before .before .before .before .before .before .before .before .before) in search needs
+mul-o-2 c = let b = visited (c .before .before .before .before .before .before .before .before .before .before .before .before .before .before .before .before .before .before .before .before .before .before .before .before) in search needs
 
 element-write-o-2 : tie.Need-element-write-o-2 Inv-loop2 μ-loop2 Inv-loop μ-loop
-element-write-o-2 c = let b = visited (c .before .before .before .before .before .before .before .before .before .before .before .before .before .before .before .before .before .before .before .before .before .before .before) in let z = c .before .before .before .before .loop2 .inv .posting .sized .heads in search needs
+element-write-o-2 c = let b = visited (c .before .before .before .before .before .before .before .before .before .before .before .before .before .before .before .before .before .before .before .before .before .before .before .before) in let z = c .before .before .before .before .before .before .loop2 .inv .posting .sized .heads in search needs
 
 mul-one-less : tie.Need-mul-one-less Inv-loop2 μ-loop2 Inv-loop μ-loop
-mul-one-less c = let b = visited (c .before .before .before .before .before .before .before .before .before .before .before .before .before .before .before .before .before .before .before .before .before .before .before) in search needs
+mul-one-less c = let b = visited (c .before .before .before .before .before .before .before .before .before .before .before .before .before .before .before .before .before .before .before .before .before .before .before .before) in search needs
 
 element-copy-out-one-less : tie.Need-element-copy-out-one-less Inv-loop2 μ-loop2 Inv-loop μ-loop
-element-copy-out-one-less c = let b = visited (c .before .before .before .before .before .before .before .before .before .before .before .before .before .before .before .before .before .before .before .before .before .before .before) in let z = c .before .before .before .before .loop2 .inv .posting .sized .counts in search needs
+element-copy-out-one-less c = let b = visited (c .before .before .before .before .before .before .before .before .before .before .before .before .before .before .before .before .before .before .before .before .before .before .before .before) in let z = c .before .before .before .before .before .before .loop2 .inv .posting .sized .counts in search needs
 
 one-less-requires : tie.Need-one-less-requires Inv-loop2 μ-loop2 Inv-loop μ-loop
-one-less-requires c κs = let b = visited (c .before .before .before .before .before .before .before .before .before .before .before .before .before .before .before .before .before .before .before .before .before .before .before .before) in (b .to-low, omega (arith, b .to-high), waits-still {all = postsLeft (c .before .before .before .before .before .before .before .before .before .before .receive .result .posts) (c .before .before .before .before .before .before .before .before .before .before .receive .result .backs)} (finding (c .before .before .before .before .before .before .before .before .before .before .before .before .before .before .before .before .before .before .before)) (c .before .before .before .before .before .loop2 .inv .posting))
+one-less-requires c κs = let b = visited (c .before .before .before .before .before .before .before .before .before .before .before .before .before .before .before .before .before .before .before .before .before .before .before .before .before) in (b .to-low, omega (arith, b .to-high), waits-still {all = postsLeft (c .before .before .before .before .before .before .before .before .before .before .before .receive .result .posts) (c .before .before .before .before .before .before .before .before .before .before .before .receive .result .backs)} (finding (c .before .before .before .before .before .before .before .before .before .before .before .before .before .before .before .before .before .before .before .before)) (c .before .before .before .before .before .before .before .loop2 .inv .posting))
 
 mul-o-3 : tie.Need-mul-o-3 Inv-loop2 μ-loop2 Inv-loop μ-loop
-mul-o-3 c = let b = visited (c .before .before .before .before .before .before .before .before .before .before .before .before .before .before .before .before .before .before .before .before .before .before .before .before .before) in search needs
+mul-o-3 c = let b = visited (c .before .before .before .before .before .before .before .before .before .before .before .before .before .before .before .before .before .before .before .before .before .before .before .before .before .before) in search needs
 
 element-write-o-3 : tie.Need-element-write-o-3 Inv-loop2 μ-loop2 Inv-loop μ-loop
-element-write-o-3 c = let b = visited (c .before .before .before .before .before .before .before .before .before .before .before .before .before .before .before .before .before .before .before .before .before .before .before .before .before) in let z = c .before .before .before .before .before .before .loop2 .inv .posting .sized .counts in search needs
+element-write-o-3 c = let b = visited (c .before .before .before .before .before .before .before .before .before .before .before .before .before .before .before .before .before .before .before .before .before .before .before .before .before .before) in let z = c .before .before .before .before .before .before .before .before .loop2 .inv .posting .sized .counts in search needs
+
+mul-held : tie.Need-mul-held Inv-loop2 μ-loop2 Inv-loop μ-loop
+mul-held c = let b = visited (c .before .before .before .before .before .before .before .before .before .before .before .before .before .before .before .before .before .before .before .before .before .before .before .before .before .before .before) in search needs
+
+element-copy-out-held : tie.Need-element-copy-out-held Inv-loop2 μ-loop2 Inv-loop μ-loop
+element-copy-out-held c = let b = visited (c .before .before .before .before .before .before .before .before .before .before .before .before .before .before .before .before .before .before .before .before .before .before .before .before .before .before .before) in let z = c .before .before .before .before .before .before .before .before .before .loop2 .inv .posting .sized .agents in search needs
+
+posted-requires : tie.Need-posted-requires Inv-loop2 μ-loop2 Inv-loop μ-loop
+posted-requires c κs = c .before .before .before .before .before .before .before .before .before .before .before .before .before .before .receive .ensures .ready .next
+
+handed-requires : tie.Need-handed-requires Inv-loop2 μ-loop2 Inv-loop μ-loop
+handed-requires c κs = search needs
 
 mul-changed : tie.Need-mul-changed Inv-loop2 μ-loop2 Inv-loop μ-loop
-mul-changed c = let b = visited (c .before .before .before .before .before .before .before .before .before .before .before .before .before .before .before .before .before .before .before .before .before .before .before .before .before .before) in search needs
+mul-changed c = let b = visited (c .before .before .before .before .before .before .before .before .before .before .before .before .before .before .before .before .before .before .before .before .before .before .before .before .before .before .before .before .before .before) in search needs
 
 element-set-from-changed : tie.Need-element-set-from-changed Inv-loop2 μ-loop2 Inv-loop μ-loop
-element-set-from-changed c = let b = visited (c .before .before .before .before .before .before .before .before .before .before .before .before .before .before .before .before .before .before .before .before .before .before .before .before .before .before) in let z = c .before .before .before .before .before .before .before .loop2 .inv .posting .sized .agents in search needs
+element-set-from-changed c = let b = visited (c .before .before .before .before .before .before .before .before .before .before .before .before .before .before .before .before .before .before .before .before .before .before .before .before .before .before .before .before .before .before) in let z = c .before .before .before .before .before .before .before .before .before .before .before .before .loop2 .inv .posting .sized .agents in search needs
 
 mul-bars-2 : tie.Need-mul-bars-2 Inv-loop2 μ-loop2 Inv-loop μ-loop
-mul-bars-2 c = let b = visited (c .before .before .before .before .before .before .before .before .before .before .before .before .before .before .before .before .before .before .before .before .before .before .before .before .before .before .before) in search needs
+mul-bars-2 c = let b = visited (c .before .before .before .before .before .before .before .before .before .before .before .before .before .before .before .before .before .before .before .before .before .before .before .before .before .before .before .before .before .before .before) in search needs
 
 array-set-from-bars-2 : tie.Need-array-set-from-bars-2 Inv-loop2 μ-loop2 Inv-loop μ-loop
-array-set-from-bars-2 c = let b = visited (c .before .before .before .before .before .before .before .before .before .before .before .before .before .before .before .before .before .before .before .before .before .before .before .before .before .before .before) in let z = bars-now (c .before .before .before .before .before .before .before .before .before .before .before .before .before .before .before) .0 in search needs
+array-set-from-bars-2 c = let b = visited (c .before .before .before .before .before .before .before .before .before .before .before .before .before .before .before .before .before .before .before .before .before .before .before .before .before .before .before .before .before .before .before) in let z = bars-now (c .before .before .before .before .before .before .before .before .before .before .before .before .before .before .before .before .before .before .before) .0 in search needs
 
 loop-less-2 : tie.Need-loop-less-2 Inv-loop2 μ-loop2 Inv-loop μ-loop
-loop-less-2 c = visit-less _ _ _ (c .before .before .before .before .before .before .before .before .before .before .before .before .before .before .before .before .before .before .before .before .before .before .before .before .before .before .before .before .before .next-visit .ensures) (not-true _ (c .before .before .before .before .before .before .before .before .before .before .before .before .before .before .before .before .before .before .before .before .before .before .before .before .before .before .before .if4 .taken))
+loop-less-2 c = visit-less _ _ _ (c .before .before .before .before .before .before .before .before .before .before .before .before .before .before .before .before .before .before .before .before .before .before .before .before .before .before .before .before .before .before .before .before .before .next-visit .ensures) (not-true _ (c .before .before .before .before .before .before .before .before .before .before .before .before .before .before .before .before .before .before .before .before .before .before .before .before .before .before .before .before .before .before .before .if4 .taken))
 
 loop-again-2 : tie.Need-loop-again-2 Inv-loop2 μ-loop2 Inv-loop μ-loop
 loop-again-2 c =
-    let q = bars-now (c .before .before .before .before .before .before .before .before .before .before .before .before .before .before .before) in
-    stored-goes (c .before .before .before .before .before .before .before .before .before .before .before .before .before .before .before .before .before .before .before .before .before .before .before .before .before .before .before .before .before .before .before .loop .inv) (c .before .before .before .before .before .before .before .before .before .before .before .before .before .before .before .before .before .before .before .before .before .before .before .before .before .before .before .before .before .next-visit .result) (c .before .before .before .before .before .before .before .before .before .before .before .before .before .before .before .before .before .before .before .before .before .before .before .before .before .before .before .before .before .next-visit .ensures) (not-true _ (c .before .before .before .before .before .before .before .before .before .before .before .before .before .before .before .before .before .before .before .before .before .before .before .before .before .before .before .if4 .taken)) (c .before .before .before .before .before .before .before .before .before .before .before .before .before .before .before .before .before .before .before .before .before .before .before .before .before .before .if5 .left) (c .before .before .before .before .before .before .before .before .before .before .before .before .before .before .before .if6 .bars) (c .before .before .before .before .before .before .before .before .before .before .before .before .before .before .before .if6 .ready) (q .0) (q .1) (stepped (c .before .before .before .before .before .before .before .before .before .before .before .before .before)) (c .before .before .before .before .before .before .before .before .loop2 .inv) (no-posts _ _ _ _ (c .before .before .before .before .before .before .before .is-empty .ensures .1) (c .before .before .before .before .before .before .if7 .left) (c .before .before .before .before .before .if9 .taken) (c .before .before .before .before .before .before .before .before .loop2 .inv .ready))
-    (record { head = head-moved _ _ _ _ _ _ (c .before .before .before .before .with-digit .ensures) (c .before .before .before .before .before .before .before .before .before .before .before .before .before .before .before .before .before .before .before .before .before .before .before .before .digit .ensures .0) (c .before .before .before .before .before .before .before .before .loop2 .inv .posting .kept .heads); count = c .before .before .one-less .ensures .0 }) _ (c .before .before .before .before .before .before .before .before .before .before .before .before .before .before .before .before .before .before .before .words-before .ensures .0) (c .before .before .before .before .before .before .before .before .before .before .before .before .before .receive .ensures .barring)
+    let q = bars-now (c .before .before .before .before .before .before .before .before .before .before .before .before .before .before .before .before .before .before .before) in
+    stored-goes (c .before .before .before .before .before .before .before .before .before .before .before .before .before .before .before .before .before .before .before .before .before .before .before .before .before .before .before .before .before .before .before .before .before .before .before .loop .inv) (c .before .before .before .before .before .before .before .before .before .before .before .before .before .before .before .before .before .before .before .before .before .before .before .before .before .before .before .before .before .before .before .before .before .next-visit .result) (c .before .before .before .before .before .before .before .before .before .before .before .before .before .before .before .before .before .before .before .before .before .before .before .before .before .before .before .before .before .before .before .before .before .next-visit .ensures) (not-true _ (c .before .before .before .before .before .before .before .before .before .before .before .before .before .before .before .before .before .before .before .before .before .before .before .before .before .before .before .before .before .before .before .if4 .taken)) (c .before .before .before .before .before .before .before .before .before .before .before .before .before .before .before .before .before .before .before .before .before .before .before .before .before .before .before .before .before .before .if5 .left) (c .before .before .before .before .before .before .before .before .before .before .before .before .before .before .before .before .before .before .before .if6 .bars) (c .before .before .before .before .before .before .before .before .before .before .before .before .before .before .before .before .before .before .before .if6 .ready) (q .0) (q .1) (stepped (c .before .before .before .before .before .before .before .before .before .before .before .before .before .before .before .before .before) (c .before .before .posted .result) (c .before .handed .result) (rw (c .before .before .before .before .before .before .before .before .before .before .before .before .before .loop2 .inv .posting .kept .agents) at (c .before .before .posted .ensures _ (c .before .before .before .before .before .before .before .before .before .before .before .before .before .before .before .before .before .receive .ensures .ready))) (rw (c .before .before .before .before .before .before .before .before .before .before .before .before .before .loop2 .inv .posting .kept .agents) at (c .before .handed .ensures))) (recast _ _ (c .before .before .before .before .before .before .before .before .before .before .before .before .before .loop2 .inv)) (no-posts _ _ _ _ (c .before .before .before .before .before .before .before .before .before .before .before .before .is-empty .ensures .1) (c .before .before .before .before .before .before .before .before .before .before .before .if7 .left) (c .before .before .before .before .before .before .before .before .before .before .if9 .taken) (c .before .before .before .before .before .before .before .before .before .before .before .before .before .loop2 .inv .ready))
+    (record { head = head-moved _ _ _ _ (c .before .before .before .before .before .before .before .with-digit .ensures) (c .before .before .before .before .before .before .before .before .digit4 .ensures .0); count = c .before .before .before .before .before .one-less .ensures .0 }) _ (c .before .before .before .before .before .before .before .before .before .before .before .before .before .before .before .before .before .before .before .before .before .before .before .words-before .ensures .0) (c .before .before .before .before .before .before .before .before .before .before .before .before .before .before .before .before .before .receive .ensures .barring)
 
 with-digit-requires-2 : tie.Need-with-digit-requires-2 Inv-loop2 μ-loop2 Inv-loop μ-loop
-with-digit-requires-2 c κs = let b = visited (c .before .before .before .before .before .before .before .before .before .before .before .before .before .before .before .before .before .before .before .before .before .before) in (b .to-low, omega (arith, b .to-high), omega arith)
+with-digit-requires-2 c κs = let b = visited (c .before .before .before .before .before .before .before .before .before .before .before .before .before .before .before .before .before .before .before .before .before) in (b .to-low, omega (arith, b .to-high), omega arith)
 
 loop-less-3 : tie.Need-loop-less-3 Inv-loop2 μ-loop2 Inv-loop μ-loop
-loop-less-3 c = let b = visited (c .before .before .before .before .before .before .before .before .before .before .before .before .before .before .before .before .before .before .before .before .before .before .before) in passed-less _ _ _ (c .before .before .before .before .before .before .before .before .before .before .before .before .before .before .before .before .before .before .before .before .before .before .before .before .before .next-visit .ensures) (not-true _ (c .before .before .before .before .before .before .before .before .before .before .before .before .before .before .before .before .before .before .before .before .before .before .before .if4 .taken)) (b .to-low) (omega (arith, b .to-high)) _ (c .with-digit2 .ensures)
+loop-less-3 c = let b = visited (c .before .before .before .before .before .before .before .before .before .before .before .before .before .before .before .before .before .before .before .before .before .before) in passed-less _ _ _ (c .before .before .before .before .before .before .before .before .before .before .before .before .before .before .before .before .before .before .before .before .before .before .before .before .next-visit .ensures) (not-true _ (c .before .before .before .before .before .before .before .before .before .before .before .before .before .before .before .before .before .before .before .before .before .before .if4 .taken)) (b .to-low) (omega (arith, b .to-high)) _ (c .with-digit2 .ensures)
 
 loop-again-3 : tie.Need-loop-again-3 Inv-loop2 μ-loop2 Inv-loop μ-loop
-loop-again-3 c = let q = bars-now (c .before .before .before .before .before .before .before .before .before .before .before) in stored-jams (c .before .before .before .before .before .before .before .before .before .before .before .before .before .before .before .before .before .before .before .before .before .before .before .before .before .before .before .loop .inv) (c .before .before .before .before .before .before .before .before .before .before .before .before .before .before .before .before .before .before .before .before .before .before .before .before .before .next-visit .result) (c .before .before .before .before .before .before .before .before .before .before .before .before .before .before .before .before .before .before .before .before .before .before .before .before .before .next-visit .ensures) (not-true _ (c .before .before .before .before .before .before .before .before .before .before .before .before .before .before .before .before .before .before .before .before .before .before .before .if4 .taken)) (c .before .before .before .before .before .before .before .before .before .before .before .before .before .before .before .before .before .before .before .before .before .before .if5 .left) (c .before .before .before .before .before .before .before .before .before .before .before .if6 .bars) (c .before .before .before .before .before .before .before .before .before .before .before .if6 .ready) (q .0) (q .1) (stepped (c .before .before .before .before .before .before .before .before .before)) (c .before .before .before .before .loop2 .inv) (c .before .if9 .left) (c .with-digit2 .ensures)
+loop-again-3 c = let q = bars-now (c .before .before .before .before .before .before .before .before .before .before) in stored-jams (c .before .before .before .before .before .before .before .before .before .before .before .before .before .before .before .before .before .before .before .before .before .before .before .before .before .before .loop .inv) (c .before .before .before .before .before .before .before .before .before .before .before .before .before .before .before .before .before .before .before .before .before .before .before .before .next-visit .result) (c .before .before .before .before .before .before .before .before .before .before .before .before .before .before .before .before .before .before .before .before .before .before .before .before .next-visit .ensures) (not-true _ (c .before .before .before .before .before .before .before .before .before .before .before .before .before .before .before .before .before .before .before .before .before .before .if4 .taken)) (c .before .before .before .before .before .before .before .before .before .before .before .before .before .before .before .before .before .before .before .before .before .if5 .left) (c .before .before .before .before .before .before .before .before .before .before .if6 .bars) (c .before .before .before .before .before .before .before .before .before .before .if6 .ready) (q .0) (q .1) (raises (c .before .before .before .before .before .before .before .before)) (recast _ _ (c .before .before .before .before .loop2 .inv)) (c .before .if9 .left) (c .with-digit2 .ensures)
 
 add-made : tie.Need-add-made Inv-loop2 μ-loop2 Inv-loop μ-loop
 add-made c = let f = c .before .before .before .before .before .loop .inv .few in search needs
 
 waits-requires : tie.Need-waits-requires Inv-loop2 μ-loop2 Inv-loop μ-loop
-waits-requires c κs = c .before .before .before .before .before .before .loop .inv .agents
+waits-requires c κs = c .before .before .before .before .before .before .before .loop .inv .agents
 
 ending-at-requires : tie.Need-ending-at-requires Inv-loop2 μ-loop2 Inv-loop μ-loop
 ending-at-requires c κs = search needs
 
 returns : tie.Need-returns Inv-loop2 μ-loop2 Inv-loop μ-loop
 returns c =
-    let w = work-stops (c .before .before .before .before .before .before .before .before .before .before .loop .inv) (c .before .before .before .before .before .before .before .before .next-visit .result) (c .before .before .before .before .before .before .before .before .next-visit .ensures) (not-false _ (c .before .before .before .before .before .before .if4 .left)) _ (counted (c .before .before .before .before .before)) _ (c .before .before .before .waits .ensures) (c .before .before .if11 .taken) _ (c .before .ending-at .ensures) 0 (inl (c .if12 .taken, refl)) in
-    (rw (← began-network (began (c .before .before .before .before .before .before .before .before .before .before .before .before .before))) w, λ e. absurd (omega arith))
+    let w = work-stops (c .before .before .before .before .before .before .before .before .before .before .before .loop .inv) (c .before .before .before .before .before .before .before .before .before .next-visit .result) (c .before .before .before .before .before .before .before .before .before .next-visit .ensures) (not-false _ (c .before .before .before .before .before .before .before .if4 .left)) _ (counted (c .before .before .before .before .before .before)) _ (c .before .before .before .waits .ensures) (c .before .before .if11 .taken) _ (c .before .ending-at .ensures) 0 (inl (c .if12 .taken, refl)) in
+    (rw (← began-network (began (c .before .before .before .before .before .before .before .before .before .before .before .before .before .before))) w, λ e. absurd (omega arith))
 
 returns-2 : tie.Need-returns-2 Inv-loop2 μ-loop2 Inv-loop μ-loop
 returns-2 c =
-    let w = work-stops (c .before .before .before .before .before .before .before .before .before .before .loop .inv) (c .before .before .before .before .before .before .before .before .next-visit .result) (c .before .before .before .before .before .before .before .before .next-visit .ensures) (not-false _ (c .before .before .before .before .before .before .if4 .left)) _ (counted (c .before .before .before .before .before)) _ (c .before .before .before .waits .ensures) (c .before .before .if11 .taken) _ (c .before .ending-at .ensures) _ (inr (c .if12 .left, refl)) in
-    (rw (← began-network (began (c .before .before .before .before .before .before .before .before .before .before .before .before .before))) w, λ e. let u = stops-untouched (c .before .before .before .before .before .before .before .before .before .before .loop .inv) (c .before .before .before .before .before .before .before .before .next-visit .result) (c .before .before .before .before .before .before .before .before .next-visit .ensures) (not-false _ (c .before .before .before .before .before .before .if4 .left)) _ (counted (c .before .before .before .before .before)) _ (c .before .before .before .waits .ensures) (c .before .before .if11 .taken) _ (c .before .ending-at .ensures) _ (inr (c .if12 .left, refl)) e in u .0 ∙ began-untouched (began (c .before .before .before .before .before .before .before .before .before .before .before .before .before)) (u .1))
+    let w = work-stops (c .before .before .before .before .before .before .before .before .before .before .before .loop .inv) (c .before .before .before .before .before .before .before .before .before .next-visit .result) (c .before .before .before .before .before .before .before .before .before .next-visit .ensures) (not-false _ (c .before .before .before .before .before .before .before .if4 .left)) _ (counted (c .before .before .before .before .before .before)) _ (c .before .before .before .waits .ensures) (c .before .before .if11 .taken) _ (c .before .ending-at .ensures) _ (inr (c .if12 .left, refl)) in
+    (rw (← began-network (began (c .before .before .before .before .before .before .before .before .before .before .before .before .before .before))) w, λ e. let u = stops-untouched (c .before .before .before .before .before .before .before .before .before .before .before .loop .inv) (c .before .before .before .before .before .before .before .before .before .next-visit .result) (c .before .before .before .before .before .before .before .before .before .next-visit .ensures) (not-false _ (c .before .before .before .before .before .before .before .if4 .left)) _ (counted (c .before .before .before .before .before .before)) _ (c .before .before .before .waits .ensures) (c .before .before .if11 .taken) _ (c .before .ending-at .ensures) _ (inr (c .if12 .left, refl)) e in u .0 ∙ began-untouched (began (c .before .before .before .before .before .before .before .before .before .before .before .before .before .before)) (u .1))
 
 sub-left : tie.Need-sub-left Inv-loop2 μ-loop2 Inv-loop μ-loop
-sub-left c = let f = round-left (c .before .before .before .before .before .before .before .before .loop .inv) (c .before .before .before .before .before .before .next-visit .result) (c .before .before .before .before .before .before .next-visit .ensures) (not-false _ (c .before .before .before .before .if4 .left)) _ (counted (c .before .before .before)) _ (c .before .waits .ensures) (c .if11 .left) in search needs
+sub-left c = let f = round-left (c .before .before .before .before .before .before .before .before .before .loop .inv) (c .before .before .before .before .before .before .before .next-visit .result) (c .before .before .before .before .before .before .before .next-visit .ensures) (not-false _ (c .before .before .before .before .before .if4 .left)) _ (counted (c .before .before .before .before)) _ (c .before .waits .ensures) (c .if11 .left) in search needs
 
 loop-less-4 : tie.Need-loop-less-4 Inv-loop2 μ-loop2 Inv-loop μ-loop
-loop-less-4 c = round-less _ _ _ _ _ (round-left (c .before .before .before .before .before .before .before .before .loop .inv) (c .before .before .before .before .before .before .next-visit .result) (c .before .before .before .before .before .before .next-visit .ensures) (not-false _ (c .before .before .before .before .if4 .left)) _ (counted (c .before .before .before)) _ (c .before .waits .ensures) (c .if11 .left)) (c .before .before .before .before .before .before .before .before .loop .inv .agents)
+loop-less-4 c = round-less _ _ _ _ _ (round-left (c .before .before .before .before .before .before .before .before .before .before .loop .inv) (c .before .before .before .before .before .before .before .before .next-visit .result) (c .before .before .before .before .before .before .before .before .next-visit .ensures) (not-false _ (c .before .before .before .before .before .before .if4 .left)) _ (counted (c .before .before .before .before .before)) _ (c .before .before .waits .ensures) (c .before .if11 .left)) (c .before .before .before .before .before .before .before .before .before .before .loop .inv .agents)
 
 loop-again-4 : tie.Need-loop-again-4 Inv-loop2 μ-loop2 Inv-loop μ-loop
-loop-again-4 c = round-begins (c .before .before .before .before .before .before .before .before .loop .inv) (c .before .before .before .before .before .before .next-visit .result) (c .before .before .before .before .before .before .next-visit .ensures) (not-false _ (c .before .before .before .before .if4 .left)) _ (counted (c .before .before .before)) _ (c .before .waits .ensures) (c .if11 .left)
+loop-again-4 c = round-begins (c .before .before .before .before .before .before .before .before .before .before .loop .inv) (c .before .before .before .before .before .before .before .before .next-visit .result) (c .before .before .before .before .before .before .before .before .next-visit .ensures) (not-false _ (c .before .before .before .before .before .before .if4 .left)) _ (counted (c .before .before .before .before .before)) _ (c .before .before .waits .ensures) (c .before .if11 .left)
 
 pub work-spec : {M : Type 1} → statement M
 work-spec =
@@ -412,8 +447,8 @@ work-spec =
     sub-at
     cast-row
     sub-row
-    mul-heads
-    element-copy-out-heads
+    mul-digit
+    element-copy-out-digit
     digit-requires
     channel-at-requires
     place-at-requires
@@ -422,7 +457,7 @@ work-spec =
     mul-agent
     element-copy-out-agent
     words-before-requires
-    array-read-t74
+    array-read-t77
     add-mine
     mul-mine
     sub-mine
@@ -436,8 +471,6 @@ work-spec =
     mul-seen
     array-copy-out-seen
     receive-requires
-    mul-ends
-    element-copy-out-ends
     mul-now
     element-copy-out-now
     loop2-holds
@@ -445,9 +478,11 @@ work-spec =
     first-requires
     digit-requires-2
     channel-at-requires-2
+    mul-digit-2
+    element-copy-out-digit-2
     digit-requires-3
     place-at-requires-2
-    mul-t98
+    mul-t95
     element-set-from-o
     one-more-requires-2
     rest-requires
@@ -457,6 +492,9 @@ work-spec =
     loop2-again-2
     mul-o
     element-write-o
+    mul-heads
+    element-copy-out-heads
+    digit-requires-4
     add-with-digit
     with-digit-requires
     mul-o-2
@@ -466,6 +504,10 @@ work-spec =
     one-less-requires
     mul-o-3
     element-write-o-3
+    mul-held
+    element-copy-out-held
+    posted-requires
+    handed-requires
     mul-changed
     element-set-from-changed
     mul-bars-2

@@ -11,10 +11,10 @@ use Rattle.run.proofs.tests.waits.Statement.{statement}
 use Rattle.run.proofs.tests.waits.Tie as tie
 
 abbrev Inv-loop : tie.InvT-loop
-Inv-loop n counts i₀ i = (i ≤ n) × (Clean counts → allTo i (idleRow counts) ≡ true)
+Inv-loop counts n i₀ i = (i ≤ n) × (Clean counts → allTo i (idleRow counts) ≡ true)
 
 abbrev μ-loop : tie.MeasureT-loop
-μ-loop n counts i₀ i = n - i
+μ-loop counts n i₀ i = n - i
 
 loop-holds : tie.Need-loop-holds Inv-loop μ-loop
 unfolding allTo
@@ -26,14 +26,14 @@ cast-holds-some c = search needs
 mul-holds-some : tie.Need-mul-holds-some Inv-loop μ-loop
 mul-holds-some c = search needs
 
-array-read-holds-some : tie.Need-array-read-holds-some Inv-loop μ-loop
-array-read-holds-some c = search needs
+element-copy-out-holds-some : tie.Need-element-copy-out-holds-some Inv-loop μ-loop
+element-copy-out-holds-some c = search needs
 
 holds-some-requires : tie.Need-holds-some-requires Inv-loop μ-loop
 holds-some-requires c κs = search needs
 
 returns : tie.Need-returns Inv-loop μ-loop
-returns c clean = row-waits _ clean (c .before .before .before .loop .i) _ (c .before .holds-some .ensures) _ (c .before .before .loop-test .taken) (c .if1 .taken)
+returns c clean = row-waits _ clean (c .before .before .before .before .loop .i) _ (c .before .holds-some .ensures) _ (c .before .before .before .loop-test .taken) (c .if1 .taken)
 
 add-i : tie.Need-add-i Inv-loop μ-loop
 add-i c = search needs
@@ -43,8 +43,8 @@ loop-less c = search needs
 
 loop-again : tie.Need-loop-again Inv-loop μ-loop
 loop-again c = (
-  omega (arith, c .before .before .loop-test .taken),
-  λ clean. row-passes _ clean (c .before .before .before .loop .i) _ (c .before .holds-some .ensures) (c .if1 .left) (c .before .before .before .loop .inv .1 clean),
+  omega (arith, c .before .before .before .loop-test .taken),
+  λ clean. row-passes _ clean (c .before .before .before .before .loop .i) _ (c .before .holds-some .ensures) (c .if1 .left) (c .before .before .before .before .loop .inv .1 clean),
 )
 
 returns-2 : tie.Need-returns-2 Inv-loop μ-loop
@@ -59,7 +59,7 @@ waits-spec =
     loop-holds
     cast-holds-some
     mul-holds-some
-    array-read-holds-some
+    element-copy-out-holds-some
     holds-some-requires
     returns
     add-i
