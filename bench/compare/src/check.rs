@@ -6,9 +6,9 @@ use std::path::Path;
 use std::process::{Command, Stdio};
 
 use plain::random::Random;
-use plain::{Rule, PROGRAM_ROUNDS};
+use plain::{Rule, MAX_IMAGE, PROGRAM_ROUNDS};
 
-use crate::images::{damaged, image, network, play};
+use crate::images::{damaged, image, network, play, small_image};
 use crate::sheets;
 use crate::sides::{Plain, Proved, Side};
 
@@ -65,7 +65,9 @@ pub fn images(measured: &[(String, Vec<u8>)]) -> Result<usize, String> {
         for (rule, rounds) in Rule::BOTH.into_iter().flat_map(|rule| [0, 1, 10, 1_000].map(|k| (rule, k))) {
             let mut network = network(rule, sheet, rounds);
             for _ in 0..10 {
-                compared.on_image(&format!("{name}, {rounds} rounds"), &image(&network), &mut random)?;
+                let name = format!("{name}, {rounds} rounds");
+                compared.on_image(&name, &image(&network), &mut random)?;
+                compared.on_image(&format!("{name}, small"), &small_image(&network), &mut random)?;
                 play(&mut network, 200, &mut random);
             }
         }
@@ -75,6 +77,7 @@ pub fn images(measured: &[(String, Vec<u8>)]) -> Result<usize, String> {
         let mut network = network(Rule::BOTH[number % 2], sheet, random.below(20) as u64);
         play(&mut network, 60, &mut random);
         compared.on_image(&format!("random sheet {number}"), &image(&network), &mut random)?;
+        compared.on_image(&format!("random sheet {number}, small"), &small_image(&network), &mut random)?;
     }
     Ok(compared.count)
 }
@@ -96,35 +99,56 @@ impl Compared {
         Ok(())
     }
 
-    /// An image is read, and written back the same; so are bytes close to it, if they are one.
+    /// An image is read, written back the same in its own form, and moved to the other form and
+    /// back; so are bytes close to it, if they are one.
     fn on_image(&mut self, name: &str, image: &[u8], random: &mut Random) -> Result<(), String> {
+        let small = image[0] == 2;
         self.same(name, |side| side.read(image))?;
-        if self.written(name, image, image.len())? != image {
+        if self.written(name, image, small, image.len())? != image {
             return Err(format!("{name}: the image is written back as another"));
         }
+        let other = self.written(name, image, !small, MAX_IMAGE)?;
+        let there = self.moved(name, image, MAX_IMAGE)?;
+        let back = self.moved(name, &there.1[..there.0], image.len())?;
+        if there.1 != other || back.1 != image {
+            return Err(format!("{name}: the image is moved to another"));
+        }
         for room in [0, random.below(image.len()), image.len() - 1, image.len() + 100] {
-            self.written(name, image, room)?;
+            self.written(name, image, small, room)?;
+            self.moved(name, image, room)?;
         }
         for _ in 0..8 {
             let bytes = damaged(image, random);
             self.same(name, |side| side.read(&bytes))?;
-            self.written(name, &bytes, bytes.len() + 40)?;
+            self.written(name, &bytes, small, bytes.len() + 40)?;
+            self.moved(name, &bytes, MAX_IMAGE)?;
         }
         Ok(())
     }
 
     /// Both leave the same buffer, of so many bytes.
-    fn written(&mut self, name: &str, image: &[u8], room: usize) -> Result<Vec<u8>, String> {
+    fn written(&mut self, name: &str, image: &[u8], small: bool, room: usize) -> Result<Vec<u8>, String> {
         let (mut one, mut other) = (vec![0xa5; room], vec![0xa5; room]);
         for times in 0..3 {
-            let proved = self.proved.write(image, times, &mut one);
-            let plain = self.plain.write(image, times, &mut other);
+            let proved = self.proved.write(image, small, times, &mut one);
+            let plain = self.plain.write(image, small, times, &mut other);
             self.count += 1;
             if proved != plain || one != other {
                 return Err(format!("{name}: written differently, {proved} and {plain}, {room} bytes lent"));
             }
         }
         Ok(one)
+    }
+
+    /// The same of an image moved to the other form; gives what is answered, too.
+    fn moved(&mut self, name: &str, image: &[u8], room: usize) -> Result<(usize, Vec<u8>), String> {
+        let (mut one, mut other) = (vec![0xa5; room], vec![0xa5; room]);
+        let (proved, plain) = (self.proved.moved(image, &mut one), self.plain.moved(image, &mut other));
+        self.count += 1;
+        if proved != plain || one != other {
+            return Err(format!("{name}: moved differently, {proved} and {plain}, {room} bytes lent"));
+        }
+        Ok((proved as usize, one))
     }
 
     fn same(&mut self, name: &str, ask: impl Fn(&mut dyn Side) -> u64) -> Result<(), String> {

@@ -11,6 +11,14 @@ pub fn image(network: &Network) -> Vec<u8> {
     buffer
 }
 
+/// The image of a network in the second form.
+pub fn small_image(network: &Network) -> Vec<u8> {
+    let mut buffer = vec![0; MAX_IMAGE];
+    let length = network.write_small_image(&mut buffer).expect("in shape, and room");
+    buffer.truncate(length);
+    buffer
+}
+
 /// The network of a sheet after so many rounds of a run.
 pub fn network(rule: Rule, sheet: &[u8], rounds: u64) -> Network {
     let mut network = Network::start_sheet(rule.number(), sheet).expect("an accepted sheet");

@@ -42,7 +42,7 @@ fn main() -> Result<(), String> {
     let long = &open[open.len() - 1].1;
     let deepest = &deep[deep.len() - 1].1;
     let small = sheets::random(20_000, 5, 4, 20, 0, 7);
-    println!("\n{:<58} {:>12} {:>12} {:>7}", "what, and for each", "Rust", "ours", "ratio");
+    println!("\n{:<62} {:>12} {:>12} {:>7}", "what, and for each", "Rust", "ours", "ratio");
     for rule in Rule::BOTH {
         let under = format!("rule {}", rule.number());
         run_row(&format!("long run, 12 scanners, 8 slots, 100,000 rounds, {under}"), rule, long);
@@ -95,7 +95,7 @@ fn both(work: impl Fn(&mut dyn Side) -> u64) -> Times {
 
 fn row(what: &str, times: Times, parts: usize) {
     let each = times.each(parts);
-    println!("{what:<58} {:>12} {:>12} {:>7.3}", time(each.plain), time(each.proved), times.ratio());
+    println!("{what:<62} {:>12} {:>12} {:>7.3}", time(each.plain), time(each.proved), times.ratio());
 }
 
 /// A whole run, and the same for each delivery.
@@ -118,17 +118,25 @@ fn delivery_row(what: &str, sheet: &[u8]) {
     row(what, both(|side| side.deliver(Rule::Loud.number(), sheet, &calls)), calls.len() / 2);
 }
 
-/// The image after so many rounds, written over and over into the same buffer, and read.
+/// The image after so many rounds, in both forms: written over and over into the same buffer, read,
+/// and moved to the other form.
 fn image_rows(what: &str, sheet: &[u8], rounds: u64) {
     const TIMES: u64 = 1_000;
-    let image = images::image(&images::network(Rule::Loud, sheet, rounds));
-    let what = format!("an image, {what}, {} bytes", image.len());
-    let write = |side: &mut dyn Side| {
-        let mut buffer = [0; MAX_IMAGE];
-        side.write(&image, TIMES, black_box(&mut buffer))
-    };
-    row(&format!("writing {what}"), both(write), TIMES as usize);
-    row(&format!("reading {what}"), both(|side| side.read(&image)), 1);
+    let network = images::network(Rule::Loud, sheet, rounds);
+    for (small, image) in [(false, images::image(&network)), (true, images::small_image(&network))] {
+        let what = format!("an image, {what}, form {}, {} bytes", 1 + u8::from(small), image.len());
+        let write = |side: &mut dyn Side| {
+            let mut buffer = [0; MAX_IMAGE];
+            side.write(&image, small, TIMES, black_box(&mut buffer))
+        };
+        let moved = |side: &mut dyn Side| {
+            let mut buffer = [0; MAX_IMAGE];
+            side.moved(&image, black_box(&mut buffer))
+        };
+        row(&format!("writing {what}"), both(write), TIMES as usize);
+        row(&format!("reading {what}"), both(|side| side.read(&image)), 1);
+        row(&format!("moving {what}"), both(moved), 1);
+    }
 }
 
 fn program_row(what: &str, plain: &Path, proved: &Path, input: &[u8]) -> Result<(), String> {

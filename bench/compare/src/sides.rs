@@ -19,8 +19,11 @@ pub trait Side {
     fn counts(&mut self, rule: u8, sheet: &[u8], rounds: u64, agent: usize) -> u64;
     /// Reading an image.
     fn read(&mut self, image: &[u8]) -> u64;
-    /// Reading an image once, and writing what it gives so many times into the same buffer.
-    fn write(&mut self, image: &[u8], times: u64, buffer: &mut [u8]) -> u64;
+    /// Reading an image once, and writing what it gives so many times into the same buffer, in the
+    /// second form or in the first.
+    fn write(&mut self, image: &[u8], small: bool, times: u64, buffer: &mut [u8]) -> u64;
+    /// Moving an image to the other form.
+    fn moved(&mut self, image: &[u8], buffer: &mut [u8]) -> u64;
 }
 
 mod entry {
@@ -47,10 +50,12 @@ mod entry {
         pub fn bench_entry_write(
             image: *const u8,
             length: usize,
+            small: bool,
             times: u64,
             buffer: *mut u8,
             room: usize,
         ) -> u64;
+        pub fn bench_entry_move(image: *const u8, length: usize, buffer: *mut u8, room: usize) -> u64;
     }
 }
 
@@ -83,9 +88,14 @@ impl Side for Proved {
         unsafe { entry::bench_entry_read(image.as_ptr(), image.len()) }
     }
 
-    fn write(&mut self, image: &[u8], times: u64, buffer: &mut [u8]) -> u64 {
+    fn write(&mut self, image: &[u8], small: bool, times: u64, buffer: &mut [u8]) -> u64 {
         let (start, room) = (buffer.as_mut_ptr(), buffer.len());
-        unsafe { entry::bench_entry_write(image.as_ptr(), image.len(), times, start, room) }
+        unsafe { entry::bench_entry_write(image.as_ptr(), image.len(), small, times, start, room) }
+    }
+
+    fn moved(&mut self, image: &[u8], buffer: &mut [u8]) -> u64 {
+        let (start, room) = (buffer.as_mut_ptr(), buffer.len());
+        unsafe { entry::bench_entry_move(image.as_ptr(), image.len(), start, room) }
     }
 }
 
@@ -206,18 +216,29 @@ impl Side for Plain {
     }
 
     #[inline(never)]
-    fn write(&mut self, image: &[u8], times: u64, buffer: &mut [u8]) -> u64 {
+    fn write(&mut self, image: &[u8], small: bool, times: u64, buffer: &mut [u8]) -> u64 {
         // What is no image gives the empty network.
         let _ = self.network.read_image_over(image);
         let mut answer = 0;
         for _ in 0..times {
-            answer = match self.network.write_image(buffer) {
-                Ok(length) => length as u64,
-                Err(rejection) => u64::from(rejection.number()),
-            };
+            answer = length_or_number(if small {
+                self.network.write_small_image(buffer)
+            } else {
+                self.network.write_image(buffer)
+            });
         }
         answer
     }
+
+    #[inline(never)]
+    fn moved(&mut self, image: &[u8], buffer: &mut [u8]) -> u64 {
+        length_or_number(self.network.move_image(image, buffer))
+    }
+}
+
+/// What a writer answers, in one number.
+fn length_or_number(answer: Result<usize, Rejection>) -> u64 {
+    answer.map_or_else(|rejection| u64::from(rejection.number()), |length| length as u64)
 }
 
 /// A number mixed into a sum.

@@ -1,7 +1,8 @@
 //! The image of a network (rail): written into a lent buffer, and read back.
 //!
 //! Header, bans, agents 1 to n, heads of all 132 channels, messages. Numbers are low byte first.
-//! A network has one image; bytes that are read are the image of a network in shape.
+//! A network has one image in each of two forms; bytes that are read are the image of a network in
+//! shape. The second form has two lhs values in a byte, and agents and messages laid by place.
 
 use crate::agent::{Agent, Counts};
 use crate::assignment::{AgentSet, Assignment, MAX_AGENTS, MAX_DOMAIN, ONES};
@@ -11,8 +12,10 @@ use crate::problem::{domain_mask, row};
 use crate::rule::Rule;
 use crate::Rejection;
 
-/// The first byte of an image.
+/// The first byte of an image in the first form.
 const FORM: u8 = 1;
+/// The first byte of an image in the second form.
+const SECOND: u8 = 2;
 /// 1, n, the rule, the verdict, twelve domains.
 const HEADER: usize = 16;
 /// Eight bytes for each of 66 pairs.
@@ -23,6 +26,9 @@ const AGENT: usize = 170;
 const HEADS: usize = 2 * 132;
 /// Kind, value, the index of the next message, lhs.
 const MESSAGE: usize = 16;
+
+/// A message of the second form: two values of the lhs in a byte.
+const PACKED: usize = 10;
 
 /// The longest image, of twelve agents with eight messages on each channel.
 pub const MAX_IMAGE: usize = HEADER + BANS + AGENT * MAX_AGENTS + HEADS + MESSAGE * CAPACITY * 132;
@@ -136,10 +142,114 @@ impl Agent {
     }
 }
 
+// ---- the second form
+
+/// The bytes of all records laid by place: the first byte of all, then the second.
+#[inline(always)]
+fn lay<const WIDTH: usize>(records: &[u8], places: &mut [u8]) {
+    let (records, count) = (records.as_chunks::<WIDTH>().0, records.len() / WIDTH);
+    for (place, bytes) in places.chunks_exact_mut(count.max(1)).enumerate() {
+        for (byte, record) in bytes.iter_mut().zip(records) {
+            *byte = record[place];
+        }
+    }
+}
+
+/// Bytes laid by place, as records again.
+#[inline(always)]
+fn gather_records<const WIDTH: usize>(places: &[u8], records: &mut [u8]) {
+    let count = places.len() / WIDTH;
+    for (place, bytes) in places.chunks_exact(count.max(1)).enumerate() {
+        for (&byte, record) in bytes.iter().zip(records.as_chunks_mut::<WIDTH>().0) {
+            record[place] = byte;
+        }
+    }
+}
+
+fn pack(message: &[u8; MESSAGE], packed: &mut [u8; PACKED]) {
+    packed[..4].copy_from_slice(&message[..4]);
+    for (byte, pair) in packed[4..].iter_mut().zip(message[4..].as_chunks::<2>().0) {
+        *byte = pair[0] | pair[1] << 4;
+    }
+}
+
+fn unpack(packed: &[u8; PACKED], message: &mut [u8; MESSAGE]) {
+    message[..4].copy_from_slice(&packed[..4]);
+    for (&byte, pair) in packed[4..].iter().zip(message[4..].as_chunks_mut::<2>().0) {
+        *pair = [byte & 15, byte >> 4];
+    }
+}
+
+/// The second form of an image in the first, at the buffer's beginning; gives its length.
+fn write_second(image: &[u8], buffer: &mut [u8]) -> Result<usize, Rejection> {
+    let n = usize::from(image[1]);
+    let (agents, heads, messages) = (HEADER + BANS, fixed_length(n) - HEADS, fixed_length(n));
+    let count = (image.len() - messages) / MESSAGE;
+    let length = messages + PACKED * count;
+    let small = buffer.get_mut(..length).ok_or(Rejection::Buffer)?;
+    small[..agents].copy_from_slice(&image[..agents]);
+    small[0] = SECOND;
+    lay::<AGENT>(&image[agents..heads], &mut small[agents..heads]);
+    small[heads..messages].copy_from_slice(&image[heads..messages]);
+    let mut packed = [0; PACKED * CAPACITY * 132];
+    let packed = &mut packed[..PACKED * count];
+    for (message, place) in image[messages..].as_chunks().0.iter().zip(packed.as_chunks_mut().0) {
+        pack(message, place);
+    }
+    lay::<PACKED>(packed, &mut small[messages..]);
+    Ok(length)
+}
+
+/// What bytes of the second form are in the first, at the buffer's beginning: each of them says one
+/// byte or two, so nothing is lost. Gives the length, where there can be one.
+fn write_first(small: &[u8], image: &mut [u8; MAX_IMAGE]) -> Option<usize> {
+    let n = usize::from(*small.get(1)?);
+    let (agents, heads, messages) = (HEADER + BANS, fixed_length(n) - HEADS, fixed_length(n));
+    let places = small.get(messages..)?;
+    let count = places.len() / PACKED;
+    if n > MAX_AGENTS || places.len() % PACKED != 0 || count > CAPACITY * 132 {
+        return None;
+    }
+    image[..agents].copy_from_slice(&small[..agents]);
+    image[0] = FORM;
+    gather_records::<AGENT>(&small[agents..heads], &mut image[agents..heads]);
+    image[heads..messages].copy_from_slice(&small[heads..messages]);
+    let mut packed = [0; PACKED * CAPACITY * 132];
+    let packed = &mut packed[..PACKED * count];
+    gather_records::<PACKED>(places, packed);
+    for (place, message) in packed.as_chunks().0.iter().zip(image[messages..].as_chunks_mut().0) {
+        unpack(place, message);
+    }
+    Some(messages + MESSAGE * count)
+}
+
+impl Network {
+    /// As `write_image`, in the second form.
+    pub fn write_small_image(&self, buffer: &mut [u8]) -> Result<usize, Rejection> {
+        let mut image = [0; MAX_IMAGE];
+        let length = self.write_image(&mut image)?;
+        write_second(&image[..length], buffer)
+    }
+
+    /// The image of the same network in the other form. The network read is left here.
+    pub fn move_image(&mut self, image: &[u8], buffer: &mut [u8]) -> Result<usize, Rejection> {
+        if image.first() != Some(&SECOND) {
+            self.read_first_over(image)?;
+            return write_second(image, buffer);
+        }
+        let mut first = [0; MAX_IMAGE];
+        let length = write_first(image, &mut first).ok_or(Rejection::Image)?;
+        self.read_first_over(&first[..length])?;
+        let to = buffer.get_mut(..length).ok_or(Rejection::Buffer)?;
+        to.copy_from_slice(&first[..length]);
+        Ok(length)
+    }
+}
+
 // ---- reading
 
 impl Network {
-    /// The network of an image.
+    /// The network of an image of either form.
     pub fn read_image(image: &[u8]) -> Result<Network, Rejection> {
         let mut network = Network::EMPTY;
         network.read_image_over(image)?;
@@ -148,6 +258,16 @@ impl Network {
 
     /// As `read_image`, over a network already there. After a refusal it is the empty one.
     pub fn read_image_over(&mut self, image: &[u8]) -> Result<(), Rejection> {
+        if image.first() != Some(&SECOND) {
+            return self.read_first_over(image);
+        }
+        let mut first = [0; MAX_IMAGE];
+        // What cannot be one in the first form is no image: no bytes are none either.
+        let length = write_first(image, &mut first).unwrap_or(0);
+        self.read_first_over(&first[..length])
+    }
+
+    fn read_first_over(&mut self, image: &[u8]) -> Result<(), Rejection> {
         let read = self.read_parts(image).filter(|()| self.has_shape());
         read.ok_or_else(|| {
             *self = Network::EMPTY;

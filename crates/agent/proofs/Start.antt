@@ -99,7 +99,7 @@ news-left : (informs : ℕ) → postsLeft (news informs) no-backs ≡ newsTo 1 i
 unfolding postsLeft backsFrom
 news-left informs = rw links-none
 
-pub none-counted : (x : Sort) → countOf noneCounted x ≡ 0
+none-counted : (x : Sort) → countOf noneCounted x ≡ 0
 unfolding countOf
 none-counted Infos = refl
 none-counted Backs = refl

@@ -1,7 +1,7 @@
 -- What the entries give: numbers made of what the definitions work out, all that is made of it in one number.
 use Prim.Native.Nat.{ℕ, zero, suc, _+_, _*_, _%_}
 use mathlib.Core.Path.{_≡_}
-use mathlib.Core.Bool.{true, false}
+use mathlib.Core.Bool.{Bool, true, false}
 use mathlib.Core.List.{List}
 use lib.Dec.{eqb, ltb}
 use lib.ListN.{length, getD}
@@ -15,7 +15,8 @@ use Rattle.protocol.specs.Run.{Ending, None, Plan, Jammed, Open, Broken, Ran, r
 use Rattle.packed.specs.Packed.{assignment}
 use Rattle.image_format.specs.Image.{byteFor}
 use Rattle.image_format.specs.Reading.{Loaded}
-use Rattle.image_format.specs.Writing.{store}
+use Rattle.image_forms.specs.Forms.{Form, First, Second}
+use Rattle.image_forms.specs.Writing.{store}
 use Rattle.network.specs.declared.Network.{Network as Rail}
 use Rattle.network.specs.Abstract.{networkOf}
 
@@ -117,17 +118,28 @@ readTo (suc k) w = agentMixed (readTo k w) (w .agents (suc k))
 unfoldable pub readFor : Loaded → ℕ
 readFor l = readTo 12 (l .network) % 4294967296 * 16 + l .number
 
--- ---- writing: a network's image, written into the same buffer so many times
+-- ---- writing: a network's image in one of the forms, written into the same buffer so many times
 
-unfoldable pub writtenTo : ℕ → Network → List ℕ → Written
-writtenTo zero w buffer = untouched 0 buffer
-writtenTo (suc k) w buffer = store w (writtenTo k w buffer .buffer)
+-- the second form, or the first
+unfoldable pub formFor : Bool → Form
+formFor true = Second
+formFor false = First
+
+unfoldable pub writtenTo : Form → ℕ → Network → List ℕ → Written
+writtenTo form zero w buffer = untouched 0 buffer
+writtenTo form (suc k) w buffer = store form w (writtenTo form k w buffer .buffer)
 
 -- the length written, or the number that refuses
 unfoldable pub lengthFor : Written → ℕ
 lengthFor x = elim (eqb (x .number) 0) [ true ↦ x .length | false ↦ x .number ]
 
 -- the last answer, and the buffer as it is left
-pub record WritesFor (w : Network) (times : ℕ) (before : List ℕ) (r : ℕ) (after : List ℕ) : Type 0 where
-  pub answer : r ≡ lengthFor (writtenTo times w before)
-  pub buffer : after ≡ writtenTo times w before .buffer
+pub record WritesFor (form : Form) (w : Network) (times : ℕ) (before : List ℕ) (r : ℕ) (after : List ℕ) : Type 0 where
+  pub answer : r ≡ lengthFor (writtenTo form times w before)
+  pub buffer : after ≡ writtenTo form times w before .buffer
+
+-- ---- moving: the answer of the mover, and the buffer as it is left
+
+pub record MovesFor (x : Written) (r : ℕ) (after : List ℕ) : Type 0 where
+  pub answer : r ≡ lengthFor x
+  pub buffer : after ≡ x .buffer

@@ -8,8 +8,11 @@ ghost use Rattle.protocol.specs.Network.{Started as Started′, startSheet};
 ghost use Rattle.network.specs.Abstract.{networkOf};
 ghost use Rattle.run.specs.Answers.{endingOf};
 ghost use Rattle.agent.specs.Abstract.{countsOf, agentOf};
-ghost use Rattle.image_format.specs.Reading.{load};
-ghost use Rattle.bench_entry.specs.Giving.{wordFor, WaitsFor, endingDigit, settledFor, playedTo, Playing, playedFor, countMixed, countsMixed, countsFor, agentMixed, readFor, WritesFor};
+ghost use Rattle.lent.specs.Abstract.{writtenOf};
+ghost use Rattle.image_forms.specs.Reading.{load};
+ghost use Rattle.image_forms.specs.Writing.{store};
+ghost use Rattle.image_forms.specs.Moving.{move};
+ghost use Rattle.bench_entry.specs.Giving.{wordFor, WaitsFor, endingDigit, settledFor, playedTo, Playing, playedFor, countMixed, countsMixed, countsFor, agentMixed, readFor, formFor, WritesFor, MovesFor};
 use agent::Agent;
 use agent::Counts;
 use lent::Written;
@@ -188,7 +191,7 @@ fn agent_mixed(sum: u64, a: Agent) -> u64
 pub extern "C" fn bench_entry_read(image: &[u8]) -> u64
     ensures { λ r. ⌜ r ≡ readFor (load (now (image .entry))) ⌝ }
 {
-    let loaded = image_reader::load(image);
+    let loaded = image_mover::load(image);
     let agents = loaded.network.agents;
     let ruled = loaded.network.count as u64 * 31 + loaded.network.rule as u64;
     let mut sum: u64 = ruled * 31 + loaded.network.verdict as u64;
@@ -201,12 +204,23 @@ pub extern "C" fn bench_entry_read(image: &[u8]) -> u64
     (sum % 4294967296) * 16 + loaded.number as u64
 }
 
-// Reading an image once, and writing what it gives so many times into the same buffer: the length of the last, or the number that refuses it.
-#[no_mangle]
-pub extern "C" fn bench_entry_write(image: &[u8], times: u64, out: &mut [u8]) -> u64
-    ensures { λ r. ⌜ WritesFor (load (now (image .entry)) .network) times (now (out .entry)) r (now (out .exit)) ⌝ }
+// The image in the second form, or in the first.
+fn stored(r: Network, small: bool, out: &mut [u8]) -> Written
+    ensures { λ w. ⌜ writtenOf w (now (out .exit)) ≡ store (formFor small) (networkOf r) (now (out .entry)) ⌝ }
 {
-    let loaded = image_reader::load(image);
+    if small {
+        return image_mover::store_small(r, out);
+    }
+    image_writer::store(r, out)
+}
+
+// Reading an image once, and writing what it gives so many times into the same buffer, in the second form or the first: the length of the last, or the
+// number that refuses it.
+#[no_mangle]
+pub extern "C" fn bench_entry_write(image: &[u8], small: bool, times: u64, out: &mut [u8]) -> u64
+    ensures { λ r. ⌜ WritesFor (formFor small) (load (now (image .entry)) .network) times (now (out .entry)) r (now (out .exit)) ⌝ }
+{
+    let loaded = image_mover::load(image);
     let network = loaded.network;
     let mut last = Written {
         number: 0,
@@ -214,11 +228,23 @@ pub extern "C" fn bench_entry_write(image: &[u8], times: u64, out: &mut [u8]) ->
     };
     let mut k: u64 = 0;
     while k < times {
-        last = image_writer::store(network, out);
+        last = stored(network, small, out);
         k += 1;
     }
     if last.number != 0 {
         return last.number as u64;
     }
     last.length as u64
+}
+
+// Moving an image to the other form: the length written, or the number that refuses it.
+#[no_mangle]
+pub extern "C" fn bench_entry_move(image: &[u8], out: &mut [u8]) -> u64
+    ensures { λ r. ⌜ MovesFor (move (now (image .entry)) (now (out .entry))) r (now (out .exit)) ⌝ }
+{
+    let w = image_mover::move_image(image, out);
+    if w.number != 0 {
+        return w.number as u64;
+    }
+    w.length as u64
 }

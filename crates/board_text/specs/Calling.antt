@@ -9,7 +9,7 @@ use Rattle.problem.specs.Sheet.{longestSheet}
 use Rattle.protocol.specs.Network.{startSheet}
 use Rattle.protocol.specs.Delivery.{deliver}
 use Rattle.protocol.specs.Run.{run}
-use Rattle.image_format.specs.Reading.{load}
+use Rattle.image_forms.specs.Reading.{load}
 use Rattle.dispatch_rules.specs.Dispatch.{Dispatcher, withNetwork, pick, dispatcher}
 use Rattle.dispatch.specs.declared.Dispatcher.{Dispatcher as Record}
 use Rattle.dispatch.specs.Abstract.{line, dispatcherOf}

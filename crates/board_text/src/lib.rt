@@ -78,7 +78,7 @@ fn put_rule(o: Out, rule: u8) -> Out {
 pub fn begin_image(o: Out, image: &[u8]) -> Begun
     ensures { λ b. ⌜ LoadsAs (now (image .entry)) (b .number) (b .dispatcher) ⌝ }
 {
-    let loaded = image_reader::load(image);
+    let loaded = image_mover::load(image);
     let network = loaded.network;
     let number = loaded.number;
     let out = put_loaded(o, number, network);

@@ -4,6 +4,8 @@ ghost use mathlib.Core.Bool.{true};
 ghost use Rattle.board_text.specs.Options.{
   noOptions,
   withStage,
+  withImage,
+  withSmall,
   isOption,
   kindOf,
   withKind,
@@ -29,12 +31,14 @@ pub enum Stage {
     Wrong,
 }
 
-// The rule, 1 where no option gives it; whether one gave it; whether the file is an image, which a program that draws may be told.
+// The rule, 1 where no option gives it; whether one gave it; whether the file is an image, which a program that draws may be told; whether the image
+// to be written is the smaller one, which a program that does not draw may be told.
 pub struct Options {
     pub draws: bool,
     pub rule: u8,
     pub ruled: bool,
     pub image: bool,
+    pub small: bool,
     pub stage: Stage,
 }
 
@@ -42,6 +46,7 @@ pub struct Options {
 pub enum Kind {
     Rule,
     Image,
+    Small,
     Unknown,
     File,
 }
@@ -54,6 +59,7 @@ pub fn no_options(draws: bool) -> Options
         rule: 1,
         ruled: false,
         image: false,
+        small: false,
         stage: Stage::Words,
     }
 }
@@ -68,12 +74,39 @@ fn at_stage(o: Options, stage: Stage) -> Options
         rule: o.rule,
         ruled: o.ruled,
         image: o.image,
+        small: o.small,
         stage: stage,
     }
 }
 
+fn with_image(o: Options) -> Options
+    ensures { λ r. ⌜ r ≡ withImage o ⌝ }
+{
+    Options {
+        draws: o.draws,
+        rule: o.rule,
+        ruled: o.ruled,
+        image: true,
+        small: o.small,
+        stage: Stage::Words,
+    }
+}
+
+fn with_small(o: Options) -> Options
+    ensures { λ r. ⌜ r ≡ withSmall o ⌝ }
+{
+    Options {
+        draws: o.draws,
+        rule: o.rule,
+        ruled: o.ruled,
+        image: o.image,
+        small: true,
+        stage: Stage::Words,
+    }
+}
+
 // A word that begins with two dashes. A file with such a name is given as `./--name`.
-fn is_option(word: &[u8]) -> bool
+pub fn is_option(word: &[u8]) -> bool
     ensures { λ b. ⌜ b ≡ isOption (now (word .entry)) ⌝ }
 {
     if word.len() < 2 {
@@ -91,6 +124,9 @@ fn kind_of(word: &[u8]) -> Kind
     if check::same(word, b"--image") {
         return Kind::Image;
     }
+    if check::same(word, b"--small") {
+        return Kind::Small;
+    }
     if is_option(word) {
         Kind::Unknown
     } else {
@@ -98,7 +134,7 @@ fn kind_of(word: &[u8]) -> Kind
     }
 }
 
-// The second of `--rule` and `--image` is not understood: an image holds its rule.
+// The second of `--rule` and `--image` is not understood: an image holds its rule. Nor is a second `--small`.
 fn with_kind(o: Options, kind: Kind) -> Options
     ensures { λ r. ⌜ r ≡ withKind o kind ⌝ }
 {
@@ -114,13 +150,13 @@ fn with_kind(o: Options, kind: Kind) -> Options
             if taken | !o.draws {
                 return at_stage(o, Stage::Wrong);
             }
-            Options {
-                draws: o.draws,
-                rule: o.rule,
-                ruled: o.ruled,
-                image: true,
-                stage: Stage::Words,
+            with_image(o)
+        }
+        Kind::Small => {
+            if o.small | o.draws {
+                return at_stage(o, Stage::Wrong);
             }
+            with_small(o)
         }
         Kind::Unknown => at_stage(o, Stage::Wrong),
         Kind::File => at_stage(o, Stage::File),
@@ -142,6 +178,7 @@ fn with_rule(o: Options, n: Number) -> Options
         rule: rule as u8,
         ruled: true,
         image: o.image,
+        small: o.small,
         stage: Stage::Words,
     }
 }

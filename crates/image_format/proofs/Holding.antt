@@ -57,13 +57,20 @@ not-in s p k e plain out =
     test (s k) (λ h. out (b .0) (implied (s k) (p k) (allTo-at maxNamed _ e k (b .0) (b .1)) h)) (λ h. h))
     plain
 
-not-named : (l : Assignment) (p : ℕ → ℕ → Bool) (k : ℕ) → eachNamed l p ≡ true → PlainLhs l → (1 ≤ k → p k (l k) ≡ true → l k ≡ 0) → l k ≡ 0
+-- an agent that is named passes, and any other has the value 0
+pub if-named : {C : Type 0} (l : Assignment) (p : ℕ → ℕ → Bool) (k : ℕ) → eachNamed l p ≡ true → PlainLhs l → (l k ≡ 0 → C)
+    → (1 ≤ k → p k (l k) ≡ true → C) → C
 unfolding eachNamed
-not-named l p k e plain out =
+if-named l p k e plain zero out =
     test (within maxNamed k)
     (λ n. let b = within-true maxNamed k n in
-    test (known (l k)) (λ h. out (b .0) (implied (known (l k)) (p k (l k)) (allTo-at maxNamed _ e k (b .0) (b .1)) h)) (λ h. unknown-zero (l k) h))
-    (plain k)
+    test (known (l k))
+    (λ h. out (b .0) (implied (known (l k)) (p k (l k)) (allTo-at maxNamed _ e k (b .0) (b .1)) h))
+    (λ h. zero (unknown-zero (l k) h)))
+    (λ n. zero (plain k n))
+
+not-named : (l : Assignment) (p : ℕ → ℕ → Bool) (k : ℕ) → eachNamed l p ≡ true → PlainLhs l → (1 ≤ k → p k (l k) ≡ true → l k ≡ 0) → l k ≡ 0
+not-named l p k e plain out = if-named l p k e plain (λ z. z) out
 
 -- ---- an agent of 1 to n
 

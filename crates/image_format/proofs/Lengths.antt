@@ -157,7 +157,7 @@ one-line w plain i j =
     (λ e. rw (e, plain .channels i j (no-line i j e)))
     (λ e. rw e (omega arith))
 
-total-waiting : (w : Network) → Plain w → total (allLines w) ≡ waiting w
+pub total-waiting : (w : Network) → Plain w → total (allLines w) ≡ waiting w
 unfolding allLines waiting
 total-waiting w plain =
     total-gathered maxAgents _ ∙ sum-same maxAgents _ _ (λ i _ _. total-gathered maxAgents _ ∙ sum-same maxAgents _ _ (λ j _ _. one-line w plain i j))

@@ -76,6 +76,17 @@ unfolding total
 total-most [] h = omega arith
 total-most (l ∷ ls) h = omega (arith, h .0 .few, total-most ls (h .1))
 
+-- what holds of each line holds of all
+pub all-lines : (w : Network) (P : List Message → Type 0)
+    → ((i j : ℕ) → within maxAgents i ≡ true → within maxAgents j ≡ true → P (w .channel i j)) → All P (allLines w)
+unfolding allLines
+all-lines w P h =
+    gather-all P _ maxAgents 1
+    (λ i a b. gather-all P _ maxAgents 1
+    (λ j c d. test (eqb i j)
+    (λ e. rw e tt)
+    (λ e. rw e (h i j (to-within _ i a (omega arith)) (to-within _ j c (omega arith)), tt))))
+
 module _ (w : Network) (plain : Plain w) (p : Parts w) where
   agents-back : (i : ℕ) → agentsIn (w .problem .count) (image w) i ≡ w .agents i
   unfolding agentsIn
@@ -93,24 +104,20 @@ module _ (w : Network) (plain : Plain w) (p : Parts w) where
       n = w .problem .count
 
   all-held : All HeldLine (allLines w)
-  unfolding allLines
-  all-held =
-      gather-all HeldLine _ maxAgents 1
-      (λ i a b. gather-all HeldLine _ maxAgents 1
-      (λ j c d. test (eqb i j)
-      (λ e. rw e tt)
-      (λ e. rw e (held i j (to-within _ i a (omega arith)) (to-within _ j c (omega arith)), tt))))
-    where
-      held : (i j : ℕ) → within maxAgents i ≡ true → within maxAgents j ≡ true → HeldLine (w .channel i j)
-      held i j a b = line-held w i j (within-true maxAgents j b .1) (p .channels i j a b) (plain .messages i j)
+  all-held = all-lines w HeldLine (λ i j a b. line-held w i j (within-true maxAgents j b .1) (p .channels i j a b) (plain .messages i j))
+
+  -- "at most eight messages" each of 132 lines
+  pub few-wait : total (allLines w) ≤ 1056
+  unfolding lineCount capacity
+  few-wait = omega (arith, total-most (allLines w) all-held, lines-count w)
 
   lines-read : linesIn lineCount (drop (headsStart (w .problem .count)) (image w)) (drop (messagesStart (w .problem .count)) (image w)) ≡ allLines w
-  unfolding lineCount capacity
+  unfolding lineCount
   lines-read =
       let h = sections w .heads in
       let m = sections w .messages in
       rw (h .is, m .is, ← lines-count w)
-      (lines-back 0 (allLines w) (h .rest) (m .rest) (omega (arith, total-most (allLines w) all-held, lines-count w)) all-held)
+      (lines-back 0 (allLines w) (h .rest) (m .rest) (omega (arith, few-wait)) all-held)
 
   channel-back : (i j : ℕ) → channelIn (allLines w) i j ≡ w .channel i j
   unfolding channelIn

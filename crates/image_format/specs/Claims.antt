@@ -9,24 +9,24 @@ use Rattle.problem.specs.Problem.{maxAgents}
 use Rattle.protocol.specs.Network.{Network, emptyNetwork}
 use Rattle.protocol.specs.Shape.{inShape}
 use Rattle.image_format.specs.Image.{image}
-use Rattle.image_format.specs.Reading.{messageLength, messagesStart, badImage, load}
+use Rattle.image_format.specs.Reading.{messageLength, messagesStart, badImage, loadFirst}
 use Rattle.image_format.specs.Plain.{Plain}
 
 -- "Reading the image of a rail in shape gives that rail."
-abbrev pub ReadsBack : Type 0
-ReadsBack = (w : Network) → Plain w → inShape w ≡ true → load (image w) ≡ record { number = 0; network = w }
+abbrev pub ReadsFirst : Type 0
+ReadsFirst = (w : Network) → Plain w → inShape w ≡ true → loadFirst (image w) ≡ record { number = 0; network = w }
 
 -- "An image is the image of one rail"
-abbrev pub OneRail : Type 0
-OneRail = (w v : Network) → Plain w → Plain v → inShape w ≡ true → inShape v ≡ true → image w ≡ image v → w ≡ v
+abbrev pub OneFirst : Type 0
+OneFirst = (w v : Network) → Plain w → Plain v → inShape w ≡ true → inShape v ≡ true → image w ≡ image v → w ≡ v
 
 -- Bytes that are read are the image of what they give, a network in shape; others are refused with 13 and give the empty network.
-pub record OnlyImages (s : List ℕ) : Type 0 where
-  pub taken : load s .number ≡ 0 → (image (load s .network) ≡ s) × (inShape (load s .network) ≡ true) × Plain (load s .network)
-  pub refused : ((w : Network) → Plain w → inShape w ≡ true → image w ≡ s → ⊥) → load s ≡ record { number = badImage; network = emptyNetwork }
+pub record OnlyFirst (s : List ℕ) : Type 0 where
+  pub taken : loadFirst s .number ≡ 0 → (image (loadFirst s .network) ≡ s) × (inShape (loadFirst s .network) ≡ true) × Plain (loadFirst s .network)
+  pub refused : ((w : Network) → Plain w → inShape w ≡ true → image w ≡ s → ⊥) → loadFirst s ≡ record { number = badImage; network = emptyNetwork }
 
-abbrev pub ReadsOnlyImages : Type 0
-ReadsOnlyImages = (s : List ℕ) → OnlyImages s
+abbrev pub ReadsOnlyFirst : Type 0
+ReadsOnlyFirst = (s : List ℕ) → OnlyFirst s
 
 -- how many messages wait
 unfoldable pub waiting : Network → ℕ

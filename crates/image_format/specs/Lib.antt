@@ -1,7 +1,6 @@
 pub mod Bytes
 pub mod Image
 pub mod Reading
-pub mod Writing
 pub mod Plain
 pub mod Claims
 pub mod Cases

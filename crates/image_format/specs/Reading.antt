@@ -158,6 +158,6 @@ pub record Loaded : Type 0 where
 unfoldable pub isImage : List ℕ → Bool
 isImage s = inShape (parse s) && sameNumbers (image (parse s)) s
 
--- "The reader takes bytes exactly if they are the image of a rail in shape, and gives that rail; otherwise 13 and the empty rail."
-unfoldable pub load : List ℕ → Loaded
-load s = elim (isImage s) [ true ↦ record { number = 0; network = parse s } | false ↦ record { number = badImage; network = emptyNetwork } ]
+-- what reading gives of bytes in the first form: the network that they are the image of, or 13 and the empty network
+unfoldable pub loadFirst : List ℕ → Loaded
+loadFirst s = elim (isImage s) [ true ↦ record { number = 0; network = parse s } | false ↦ record { number = badImage; network = emptyNetwork } ]

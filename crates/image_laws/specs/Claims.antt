@@ -11,8 +11,8 @@ use Rattle.protocol.specs.Shape.{inShape}
 use Rattle.protocol.specs.Run.{idle}
 use Rattle.theorems.specs.Calls.{Call, leftByAll, triedByAll, madeByAll, Stretch, linesOf, markedIn, AllFull}
 use Rattle.theorems.specs.Claims.{mostRounds}
-use Rattle.image_format.specs.Image.{image}
 use Rattle.image_format.specs.Plain.{Plain}
+use Rattle.image_forms.specs.Forms.{Form, imageIn}
 use Rattle.image_laws.specs.Entries.{Entry, Stored, readBy, leftByEntries, readByEntries, triedByEntries, madeByEntries, callsIn}
 
 -- Every network reached from the start holds nothing outside its arrays, and is in shape: so it is one that an image gives back.
@@ -26,8 +26,8 @@ pub record Carried (entries : List Entry) (w : Network) : Type 0 where
   pub makes : madeByEntries entries w ≡ madeByAll (callsIn entries) w
   pub reads : All (λ number. number ≡ 0) (readByEntries entries w)
 
--- "Whatever is claimed of a list of calls is claimed of the list with writes and reads of the rail between its calls": what the claims speak of, the
--- network left, the tries and the full rounds made, is the same.
+-- "Whatever is claimed of a list of calls is claimed of the list with writes and reads of the rail between its calls", each in either form: what the
+-- claims speak of, the network left, the tries and the full rounds made, is the same.
 abbrev pub CarriesAcross : ℕ → Problem → Type 0
 CarriesAcross rule p = (entries : List Entry) → Carried entries (start rule p)
 
@@ -62,7 +62,8 @@ StaysPlain = (w : Network) (calls : List Call) → Plain w → Plain (leftByAll 
 abbrev pub CarriesAcrossAnywhere : Type 0
 CarriesAcrossAnywhere = (w : Network) → Plain w → inShape w ≡ true → (entries : List Entry) → Carried entries w
 
--- A buffer with room for the image is written and read, and the read answers 0.
+-- A buffer with room for the image in a form is written and read, and the read answers 0.
 abbrev pub ReadsWithRoom : Type 0
 ReadsWithRoom =
-    (w : Network) → Plain w → inShape w ≡ true → (buffer : List ℕ) → length (image w) ≤ length buffer → readBy (Stored buffer) w ≡ 0 ∷ []
+    (form : Form) (w : Network) → Plain w → inShape w ≡ true → (buffer : List ℕ) → length (imageIn form w) ≤ length buffer
+    → readBy (Stored form buffer) w ≡ 0 ∷ []

@@ -14,25 +14,25 @@ use Rattle.problem.specs.Sheet.{headerLength, recordLength, maxRecords, longest
 use Rattle.protocol.specs.Network.{emptyNetwork}
 use Rattle.protocol.specs.Shape.{inShape}
 use Rattle.image_format.specs.Image.{image}
-use Rattle.image_format.specs.Reading.{parse, badImage, isImage, load}
+use Rattle.image_format.specs.Reading.{parse, badImage, isImage, loadFirst}
 use Rattle.image_reader.proofs.Written.{image-fits}
 
-too-long : (s : List ℕ) → 19744 < length s → load s ≡ record { number = badImage; network = emptyNetwork }
-unfolding isImage load
+too-long : (s : List ℕ) → 19744 < length s → loadFirst s ≡ record { number = badImage; network = emptyNetwork }
+unfolding isImage loadFirst
 too-long s long =
     test (inShape (parse s))
     (λ shape. test (sameNumbers (image (parse s)) s)
     (λ same.
     let e : length (image (parse s)) ≡ length s = ap length (same-numbers (image (parse s)) s same) in
     absurd (omega (arith, image-fits (parse s) shape)))
-    (λ other. rw (shape, other, load)))
-    (λ broken. rw (broken, load))
+    (λ other. rw (shape, other, loadFirst)))
+    (λ broken. rw (broken, loadFirst))
 
-pub load-cut : (input : List ℕ) → load (take (suc longestSheet) input) ≡ load input
+pub load-first-cut : (input : List ℕ) → loadFirst (take (suc longestSheet) input) ≡ loadFirst input
 unfolding headerLength recordLength maxRecords longestSheet
-load-cut input =
+load-first-cut input =
     test (leb (length input) 33817)
-    (λ t. ap load (take-all 33817 input (leb-true (length input) 33817 t)))
+    (λ t. ap loadFirst (take-all 33817 input (leb-true (length input) 33817 t)))
     (λ t.
     let long : 33817 < length input = leb-false (length input) 33817 t in
     let cut : length (take 33817 input) ≡ 33817 = length-take-le 33817 input (omega arith) in

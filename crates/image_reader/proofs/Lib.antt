@@ -14,6 +14,6 @@ mod Narrowing
 pub mod Owned
 pub mod Plainness
 mod Comparing
-mod Written
+pub mod Written
 mod Loading
 pub mod Cut

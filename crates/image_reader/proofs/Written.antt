@@ -23,7 +23,8 @@ use Rattle.protocol.specs.Delivery.{rejectionNumber}
 use Rattle.protocol.specs.Shape.{capacity, hasRoom, oneRequest, channelInShape, inShape}
 use Rattle.image_format.specs.Image.{headerBytes, banBytes, agentBytes, allLines, headsFrom, messagesFrom, image}
 use Rattle.image_format.specs.Reading.{headerLength, bansLength, agentLength, messageLength, lineCount}
-use Rattle.image_format.specs.Writing.{store}
+use Rattle.image_forms.specs.Forms.{First, imageIn}
+use Rattle.image_forms.specs.Writing.{store}
 use Rattle.image_format.proofs.Lengths.{header-length, bans-length, agents-length, heads-length, lines-count, total, messages-length}
 use Rattle.image_format.proofs.Parsing.{parts}
 use Rattle.lent.specs.declared.Written.{Written}
@@ -76,16 +77,16 @@ module _ (w : Network) (shape : inShape w ≡ true) where
 
 -- ---- what is written
 
-module _ (w : Network) (buffer new : List ℕ) (answer : Written) (long : length buffer ≡ 19744) (e : writtenOf answer new ≡ store w buffer) where
-  number-is : answer .number ≡ store w buffer .number
+module _ (w : Network) (buffer new : List ℕ) (answer : Written) (long : length buffer ≡ 19744) (e : writtenOf answer new ≡ store First w buffer) where
+  number-is : answer .number ≡ store First w buffer .number
   unfolding writtenOf
   number-is = ap (λ (x : Written′). x .number) e
 
-  written : inShape w ≡ true → store w buffer ≡ record { number = 0; length = length (image w); buffer = image w ++ drop (length (image w)) buffer }
-  unfolding store put
+  written : inShape w ≡ true → store First w buffer ≡ record { number = 0; length = length (image w); buffer = image w ++ drop (length (image w)) buffer }
+  unfolding store imageIn put
   written t = rw (t, store, le-leb (length (image w)) (length buffer) (omega (arith, image-fits w t)), put)
 
-  unwritten : inShape w ≡ false → store w buffer .number ≡ 5
+  unwritten : inShape w ≡ false → store First w buffer .number ≡ 5
   unfolding store untouched rejectionNumber
   unwritten t = rw (t, store)
 

@@ -1,4 +1,4 @@
-// Reads a rail's image: from any bytes at all to the network that they are the image of, or to 13. docs/RULES.md, 'The image'.
+// Reads a rail's image in the first form: from any bytes at all to the network that they are the image of, or to 13. docs/RULES.md, 'The image'.
 ghost use mathlib.Core.Path.{_≡_};
 ghost use mathlib.Core.Bool.{_&&_};
 ghost use Prim.Native.Nat.{_≤_};
@@ -9,14 +9,14 @@ ghost use Rattle.protocol.specs.Shape.{inShape};
 ghost use Rattle.network.specs.Abstract.{networkOf};
 ghost use Rattle.network.specs.Empty.{emptyRecord};
 ghost use Rattle.image_format.specs.Image.{image};
-ghost use Rattle.image_format.specs.Reading.{parse, badImage, load as loadBy};
+ghost use Rattle.image_format.specs.Reading.{parse, badImage, loadFirst};
 ghost use Rattle.image_reader.specs.Narrow.{narrow};
 use image_writer::store;
 use network::Network;
 use network::empty;
 
 mod agents;
-mod bytes;
+pub mod bytes;
 mod lines;
 mod table;
 
@@ -72,7 +72,7 @@ fn is_image(r: Network, s: &[u8]) -> bool
     same(&buffer[..length], s)
 }
 
-fn refused() -> Loaded
+pub fn refused() -> Loaded
     ensures { λ l. ⌜ (l .number ≡ badImage) × (networkOf (l .network) ≡ emptyNetwork) × (l .network ≡ emptyRecord) ⌝ }
 {
     let nothing = empty();
@@ -82,9 +82,9 @@ fn refused() -> Loaded
     }
 }
 
-// The network whose image the bytes are, if they are the image of one in shape.
-pub fn load(s: &[u8]) -> Loaded
-    ensures { λ l. ⌜ (l .number ≡ loadBy (now (s .entry)) .number) × (networkOf (l .network) ≡ loadBy (now (s .entry)) .network) ⌝ }
+// The network whose image in the first form the bytes are, if they are the image of one in shape.
+pub fn load_first(s: &[u8]) -> Loaded
+    ensures { λ l. ⌜ (l .number ≡ loadFirst (now (s .entry)) .number) × (networkOf (l .network) ≡ loadFirst (now (s .entry)) .network) ⌝ }
     ensures { λ l. ⌜ ((l .number ≡ 0 → ⊥) → l .network ≡ emptyRecord) ⌝ }
 {
     if s.len() < 808 {

@@ -1,7 +1,7 @@
-mod Puts
-mod Firsts
+pub mod Puts
+pub mod Firsts
 mod Records
 mod BanTable
 mod Numbered
 mod Chains
-mod Stored
+pub mod Stored

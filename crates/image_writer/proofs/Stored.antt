@@ -20,7 +20,8 @@ use Rattle.network.specs.declared.Network.{Network}
 use Rattle.network.specs.Abstract.{problemOf, networkOf}
 use Rattle.image_format.specs.Image.{slots, firstForm, byteFor, headerBytes, banBytes, agentBytes, allLines, headsFrom, messagesFrom, image}
 use Rattle.image_format.specs.Reading.{headerLength, bansLength, agentLength}
-use Rattle.image_format.specs.Writing.{store}
+use Rattle.image_forms.specs.Forms.{Form, imageIn}
+use Rattle.image_forms.specs.Writing.{store}
 use Rattle.image_format.proofs.Lengths.{header-length, bans-length, agents-length}
 use Rattle.lent.proofs.Within.{Within, put-within, untouched-within}
 use Rattle.image_writer.specs.Puts.{Puts}
@@ -28,21 +29,21 @@ use Rattle.image_writer.proofs.Chains.{heads-long}
 
 -- ---- the tests
 
-module _ (w : Network′) (buffer : List ℕ) where
-  pub stores-broken : inShape w ≡ false → store w buffer ≡ record { number = 5; length = 0; buffer = buffer }
+module _ (form : Form) (w : Network′) (buffer : List ℕ) where
+  pub stores-broken : inShape w ≡ false → store form w buffer ≡ record { number = 5; length = 0; buffer = buffer }
   unfolding store untouched rejectionNumber
   stores-broken e = rw (e, store)
 
-  pub stores-short : inShape w ≡ true → length buffer < length (image w) → store w buffer ≡ record { number = 12; length = 0; buffer = buffer }
+  pub stores-short : inShape w ≡ true → length buffer < length (imageIn form w) → store form w buffer ≡ record { number = 12; length = 0; buffer = buffer }
   unfolding store put untouched shortBuffer
-  stores-short e h = rw (e, store, lt-leb (length (image w)) (length buffer) h, put)
+  stores-short e h = rw (e, store, lt-leb (length (imageIn form w)) (length buffer) h, put)
 
-  pub stores : (count next : ℕ) (new : List ℕ) → inShape w ≡ true → length (image w) ≤ length buffer → Puts buffer 0 count (image w) new next
-      → store w buffer ≡ record { number = 0; length = next; buffer = new }
+  pub stores : (count next : ℕ) (new : List ℕ) → inShape w ≡ true → length (imageIn form w) ≤ length buffer → Puts buffer 0 count (imageIn form w) new next
+      → store form w buffer ≡ record { number = 0; length = next; buffer = new }
   unfolding store put
   stores count next new e h p =
-      let n : next ≡ length (image w) = omega (arith, p .behind, p .long) in
-      rw (e, store, le-leb (length (image w)) (length buffer) h, put, n, p .buffer) (rw zero-add)
+      let n : next ≡ length (imageIn form w) = omega (arith, p .behind, p .long) in
+      rw (e, store, le-leb (length (imageIn form w)) (length buffer) h, put, n, p .buffer) (rw zero-add)
 
 -- ---- the length
 
@@ -72,9 +73,9 @@ pub header-put : (r : Network) → length (r .domains) ≡ 12 → firstForm ∷ 
 unfolding headerBytes slots domain maxAgents gather networkOf problemOf
 header-put r e = ap (λ (l : List ℕ). firstForm ∷ r .count ∷ r .rule ∷ byteFor (r .verdict) ∷ l) (sym (gather-list 12 (r .domains) 0 e))
 
-pub store-within : (w : Network′) (buffer : List ℕ) → Within (store w buffer)
+pub store-within : (form : Form) (w : Network′) (buffer : List ℕ) → Within (store form w buffer)
 unfolding store
-store-within w buffer =
+store-within form w buffer =
     test (inShape w)
-    (λ t. rw (t, store) (put-within (image w) buffer))
+    (λ t. rw (t, store) (put-within (imageIn form w) buffer))
     (λ t. rw (t, store) (untouched-within (rejectionNumber BadShape) buffer))

@@ -4,14 +4,15 @@ ghost use Prim.Native.Nat.{_≤_};
 ghost use lib.ListN.{length, take};
 ghost use Rattle.network.specs.Abstract.{networkOf};
 ghost use Rattle.lent.specs.Abstract.{writtenOf};
-ghost use Rattle.image_format.specs.Writing.{store as storeBy};
+ghost use Rattle.image_forms.specs.Forms.{First};
+ghost use Rattle.image_forms.specs.Writing.{store as storeBy};
 use lent::Written;
 use network::Network;
 use network::in_shape;
 
 mod agents;
 mod bans;
-mod bytes;
+pub mod bytes;
 mod header;
 mod lines;
 mod messages;
@@ -26,7 +27,7 @@ use messages::put_messages;
 // "The writer tests 5, then 12, where the buffer is shorter than the image; in both the buffer is untouched." The image's length is known before anything is
 // written.
 pub fn store(r: Network, out: &mut [u8]) -> Written
-    ensures { λ w. ⌜ writtenOf w (now (out .exit)) ≡ storeBy (networkOf r) (now (out .entry)) ⌝ }
+    ensures { λ w. ⌜ writtenOf w (now (out .exit)) ≡ storeBy First (networkOf r) (now (out .entry)) ⌝ }
     ensures { λ w. ⌜ (w .length ≤ length (now (out .exit))) × (w .length ≡ length (take (w .length) (now (out .exit)))) ⌝ }
 {
     if !in_shape(r) {

@@ -1,18 +1,28 @@
-// Tries images on rails that random deliveries left, under both rules. Each is written and held to a second layout, byte for byte, the bytes behind it
-// included; read, and written again; refused with zeros behind it, and in another layout; written into a buffer one byte short; and, out of shape, not
-// written at all. Of some images every byte is changed and every beginning is cut off: what is read of that writes back to the same bytes, or is refused
-// with 13. At the end stands how much was tried.
+// Tries images on rails that random deliveries left, under both rules. Each is written in both forms and held to a second layout, byte for byte, the bytes
+// behind it included; read, and written again; moved to the other form; refused with zeros behind it, and in another layout; written into a buffer one
+// byte short; and, out of shape, not written at all. Of some images every byte is changed and every beginning is cut off: what is read of that writes back
+// to the same bytes, or is refused with 13. At the end stands how much was tried.
+ghost use mathlib.Core.Path.{_≡_};
+ghost use Prim.Native.Nat.{_≤_};
+ghost use lib.ListN.{length, take};
+
 mod layout;
+mod smaller;
 mod turned;
 
-use image_reader::load;
+use image_mover::load;
+use image_mover::move_image;
+use image_mover::store_small;
 use image_writer::store;
 use layout::laid_out;
+use lent::Written;
 use network::Network;
 use random_rails::drafts::drawn;
 use random_rails::draws::next;
 use random_rails::draws::pick;
 use random_rails::rails::listed;
+use smaller::laid_small;
+use smaller::small_length;
 use turned::turned;
 use words::printing::Out;
 
@@ -26,8 +36,10 @@ struct Tally {
     at_verdict: u64,
     messages: u64,
     turned: u64,
+    moved: u64,
     changed: u64,
     cut: u64,
+    small_changed: u64,
     failed: u64,
 }
 
@@ -62,6 +74,16 @@ fn untouched_from(s: &[u8], at: usize) -> bool {
     true
 }
 
+// In the second form, or in the first.
+fn stored(r: Network, small: bool, out: &mut [u8]) -> Written
+    ensures { λ w. ⌜ (w .length ≤ length (now (out .exit))) × (w .length ≡ length (take (w .length) (now (out .exit)))) ⌝ }
+{
+    if small {
+        return store_small(r, out);
+    }
+    store(r, out)
+}
+
 // The image as the writer has it and as it is laid out a second time.
 fn written_right(r: Network) -> bool {
     let mut ours = [170u8; LENT];
@@ -72,22 +94,29 @@ fn written_right(r: Network) -> bool {
 }
 
 // The rail is not written into so many first bytes: this number, and no length.
-fn refused_in(r: Network, lent: &mut [u8], length: usize, number: u8) -> bool {
+fn refused_in(r: Network, small: bool, lent: &mut [u8], length: usize, number: u8) -> bool {
     if lent.len() < length {
         return false;
     }
-    let w = store(r, &mut lent[..length]);
+    let w = stored(r, small, &mut lent[..length]);
     w.number == number && w.length == 0
 }
 
 // And the buffer is as it was.
-fn refused_right(r: Network, length: usize, number: u8) -> bool {
+fn refused_right(r: Network, small: bool, length: usize, number: u8) -> bool {
     let mut lent = [170u8; LENT];
-    let refused = refused_in(r, &mut lent, length, number);
+    let refused = refused_in(r, small, &mut lent, length, number);
     refused && untouched_from(&lent, 0)
 }
 
-// These bytes are refused, or they are the image of what they give.
+fn begins_with(s: &[u8], b: u8) -> bool {
+    if s.len() == 0 {
+        return false;
+    }
+    s[0] == b
+}
+
+// These bytes are refused, or they are the image of what they give, in the form that they begin with.
 fn read_right(s: &[u8]) -> bool {
     let l = load(s);
     let r = l.network;
@@ -95,7 +124,7 @@ fn read_right(s: &[u8]) -> bool {
         return l.number == 13 && r.count == 0;
     }
     let mut again = [170u8; LENT];
-    let w = store(r, &mut again);
+    let w = stored(r, begins_with(s, 2), &mut again);
     let n = w.length;
     if LENT < n {
         return false;
@@ -142,8 +171,96 @@ fn not_written_right(r: Network, n: usize) -> bool {
     if n == 0 {
         return false;
     }
-    refused_right(r, n - 1, 12) && refused_right(out_of_shape(r), LENT, 5)
+    refused_right(r, false, n - 1, 12) && refused_right(out_of_shape(r), false, LENT, 5)
 }
+
+// ---- the second form
+
+// These bytes are moved into so many first bytes of a buffer, and what stands there is `other`; the rest is as it was.
+fn moved_to(s: &[u8], other: &[u8]) -> bool {
+    let mut out = [170u8; LENT];
+    let w = move_image(s, &mut out);
+    let n = w.length;
+    if LENT < n {
+        return false;
+    }
+    w.number == 0 && check::same(&out[..n], other) && untouched_from(&out, n)
+}
+
+// They are not moved into so many first bytes: this number, and no length.
+fn unmoved_in(s: &[u8], lent: &mut [u8], length: usize, number: u8) -> bool {
+    if lent.len() < length {
+        return false;
+    }
+    let w = move_image(s, &mut lent[..length]);
+    w.number == number && w.length == 0
+}
+
+fn unmoved(s: &[u8], length: usize, number: u8) -> bool {
+    let mut lent = [170u8; LENT];
+    let refused = unmoved_in(s, &mut lent, length, number);
+    refused && untouched_from(&lent, 0)
+}
+
+// There and back; a byte short; and what is no image is told so before that.
+fn moves_right(first: &[u8], second: &[u8]) -> bool {
+    let n = first.len();
+    let m = second.len();
+    if n < 2 {
+        return false;
+    }
+    if m < 2 {
+        return false;
+    }
+    moved_to(first, second)
+        && moved_to(second, first)
+        && unmoved(first, m - 1, 12)
+        && unmoved(second, n - 1, 12)
+        && unmoved(&first[1..], 0, 13)
+        && unmoved(&second[..1], 0, 13)
+}
+
+// Written as it is laid out a second time, the bytes behind it untouched.
+fn small_written_right(r: Network, second: &[u8]) -> bool {
+    let mut ours = [170u8; LENT];
+    let w = store_small(r, &mut ours);
+    let n = w.length;
+    if LENT < n {
+        return false;
+    }
+    w.number == 0 && check::same(&ours[..n], second) && untouched_from(&ours, n)
+}
+
+// All of this for the first n bytes of one buffer and the first m of another, behind which zeros stand.
+fn small_right(r: Network, first: &[u8], n: usize, second: &[u8], m: usize) -> bool {
+    if first.len() < n {
+        return false;
+    }
+    if second.len() < m {
+        return false;
+    }
+    if m == 0 {
+        return false;
+    }
+    small_written_right(r, &second[..m])
+        && moves_right(&first[..n], &second[..m])
+        && taken_right(second, m)
+        && refused_right(r, true, m - 1, 12)
+        && refused_right(out_of_shape(r), true, LENT, 5)
+}
+
+fn with_small(t: Tally, r: Network, count: u64) -> Tally {
+    let mut first = [0u8; LENT];
+    let mut second = [0u8; LENT];
+    let n = laid_out(r, &mut first);
+    laid_small(&first, r.count, count, &mut second);
+    let m = small_length(r.count, count);
+    let mut o = with_failed(t, !small_right(r, &first, n, &second, m));
+    o.moved = plus_more(t.moved, 2);
+    o
+}
+
+// ---- all of one rail
 
 // The image in another layout, where there is one, is refused.
 fn with_turned(t: Tally, r: Network) -> Tally {
@@ -165,8 +282,9 @@ fn with_rail(t: Tally, r: Network) -> Tally {
     o.rails = one_more(t.rails);
     o.by_rule_2 = more_if(t.by_rule_2, r.rule == 2);
     o.at_verdict = more_if(t.at_verdict, r.verdict);
-    o.messages = plus_more(t.messages, messages_in(n, r.count));
-    with_turned(o, r)
+    let count = messages_in(n, r.count);
+    o.messages = plus_more(t.messages, count);
+    with_turned(with_small(o, r, count), r)
 }
 
 // ---- damage
@@ -214,13 +332,31 @@ fn with_all_damage(t: Tally, image: &mut [u8]) -> Tally {
     with_changes(o, image, 255)
 }
 
+// The changes alone, counted by themselves.
+fn with_small_damage(t: Tally, image: &mut [u8]) -> Tally {
+    let o = with_changes(t, image, 1);
+    let o = with_changes(o, image, 128);
+    let mut o = with_changes(o, image, 255);
+    o.small_changed = plus_more(t.small_changed, 3 * (image.len() % 65536) as u64);
+    o.changed = t.changed;
+    o
+}
+
 fn with_damage(t: Tally, r: Network) -> Tally {
     let mut image = [0u8; LENT];
     let n = laid_out(r, &mut image);
     if LENT < n {
         return with_failed(t, true);
     }
-    with_all_damage(t, &mut image[..n])
+    let count = messages_in(n, r.count);
+    let mut second = [0u8; LENT];
+    laid_small(&image, r.count, count, &mut second);
+    let m = small_length(r.count, count);
+    if LENT < m {
+        return with_failed(t, true);
+    }
+    let o = with_small_damage(t, &mut second[..m]);
+    with_all_damage(o, &mut image[..n])
 }
 
 // ---- the rails
@@ -262,8 +398,10 @@ fn report(t: Tally) {
         .line(b"of these with the verdict: ", t.at_verdict)
         .line(b"messages on their lines ", t.messages)
         .line(b"in another layout ", t.turned)
+        .line(b"moved to the other form ", t.moved)
         .line(b"bytes changed ", t.changed)
         .line(b"beginnings cut off ", t.cut)
+        .line(b"bytes of the second form changed ", t.small_changed)
         .number(t.failed)
         .put(b" failed\n");
 }
@@ -275,8 +413,10 @@ fn main() {
         at_verdict: 0,
         messages: 0,
         turned: 0,
+        moved: 0,
         changed: 0,
         cut: 0,
+        small_changed: 0,
         failed: 0,
     };
     let mut state: u64 = 20261116;

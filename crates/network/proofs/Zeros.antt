@@ -11,12 +11,11 @@ use Rattle.base.proofs.Arrays.{getD-same, map-replicate}
 use Rattle.base.proofs.Bits.{bit-of-zero}
 use Rattle.problem.specs.Problem.{maxAgents, maxPairs, noBans, emptyProblem}
 use Rattle.agent_rules.specs.Message.{nobody}
-use Rattle.agent_rules.specs.Counts.{noCounts}
+use Rattle.agent_rules.specs.Counts.{Sort, Infos, Backs, AddLinks, noCounts}
 use Rattle.agent_rules.specs.Agent.{Agent as Agent′, unusedAgent, noNogoods}
 use Rattle.protocol.specs.Network.{emptyNetwork}
 use Rattle.packed.specs.Packed.{members}
-use Rattle.agent.specs.Abstract.{assigned, nogoodAt, agentOf, countsOf}
-use Rattle.agent.proofs.Start.{none-counted}
+use Rattle.agent.specs.Abstract.{assigned, nogoodAt, countOf, noneCounted, agentOf, countsOf}
 use Rattle.packed.proofs.Digits.{nobody-assigned}
 use Rattle.network.specs.Abstract.{isChannel, ring, rowOf, channelOf, problemOf, agentsOf, networkOf}
 use Rattle.network.specs.Empty.{emptyAgent, emptyRecord}
@@ -26,6 +25,12 @@ no-nogoods : (v : ℕ) → fromOne none (nogoodAt 0 (replicate 8 0)) v ≡ none
 unfolding fromOne nogoodAt
 no-nogoods zero = refl
 no-nogoods (suc v) = rw (bit-of-zero v, nogoodAt)
+
+no-counts : (x : Sort) → countOf noneCounted x ≡ 0
+unfolding countOf
+no-counts Infos = refl
+no-counts Backs = refl
+no-counts AddLinks = refl
 
 zero-agent : agentOf emptyAgent ≡ unusedAgent
 unfolding emptyAgent agentOf unusedAgent noNogoods assigned countsOf noCounts
@@ -38,7 +43,7 @@ zero-agent =
       informs = fun-ext {f = members 0} {g = λ k. false} no-members i;
       view = nobody-assigned i;
       nogoods = fun-ext no-nogoods i;
-      counts = record { sent = fun-ext none-counted i; received = fun-ext none-counted i };
+      counts = record { sent = fun-ext no-counts i; received = fun-ext no-counts i };
     }
 
 zero-agents : (k : ℕ) → agentsOf (map agentOf (replicate 12 emptyAgent)) k ≡ unusedAgent

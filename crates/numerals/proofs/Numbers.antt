@@ -29,7 +29,7 @@ pub is-number : (s : List ℕ) → 0 < length s → every isDigit s ≡ true →
 unfolding numberIn isNumber
 is-number s l d = rw (lt-ltb 0 (length s) l, d, numberIn)
 
-value-grows : (v : ℕ) (s : List ℕ) → v ≤ valueFrom v s
+pub value-grows : (v : ℕ) (s : List ℕ) → v ≤ valueFrom v s
 unfolding valueFrom
 value-grows v [] = omega arith
 value-grows v (b ∷ s) = omega (arith, value-grows (10 * v + (b - 48)) s)

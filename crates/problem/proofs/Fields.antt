@@ -21,6 +21,7 @@ use Rattle.problem.proofs.Range.{no-words, words-add, none-long, Ranged
 
 pub record HeaderFits (s : List ℕ) : Type 0 where
   pub count : countInRange (withoutBans s) ≡ true
+  pub edition : within 2 (editionIn s) ≡ true
   pub records : recordsIn s ≤ maxRecords
   pub domains : allTo maxAgents (domainInRange (withoutBans s)) ≡ true
   pub first : firstIn s ≤ recordsIn s
@@ -37,6 +38,7 @@ header-fits s h =
     let at-1 = both (countInRange (withoutBans s)) (within 2 (editionIn s)) (at-4 .0) in
     record {
       count = at-1 .0;
+      edition = at-1 .1;
       records = leb-true _ _ (at-4 .1);
       domains = at-8 .1;
       first = leb-true _ _ (at-first .1);

@@ -50,7 +50,7 @@ unfolding rowsBan
 rows-same edition [] p t i j v w = refl
 rows-same edition (row ∷ rows) p t i j v w = rw (bans-same edition p t row i j v w, rows-same edition rows p t i j v w)
 
-rows-table : (edition : ℕ) (rows : List Row) (p : Problem) (t : List ℕ)
+pub rows-table : (edition : ℕ) (rows : List Row) (p : Problem) (t : List ℕ)
     → withTable p (withRows edition rows (withTable p t) .bans) ≡ withRows edition rows (withTable p t)
 unfolding withTable withBans withRow withRows
 rows-table edition [] p t = refl

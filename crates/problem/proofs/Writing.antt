@@ -2,17 +2,18 @@
 -- The header reads back as it was written; the walk goes through the records in their order, each leading to the one after it.
 use mathlib.Core.Path.{_≡_, refl, sym, ap, _∙_}
 use mathlib.Core.Bool.{true}
-use mathlib.Core.List.{List, [], _∷_, _++_, append-assoc}
-use Prim.Native.Nat.{ℕ, suc, _+_, _-_, _*_, _/_, _%_, _≤_, _<_}
+use mathlib.Core.List.{List, [], _∷_, _++_, map, append-assoc}
+use Prim.Native.Nat.{ℕ, zero, suc, _+_, _-_, _*_, _/_, _%_, _≤_, _<_}
 use native.Mathlib.Omega.{arith}
 use lib.ListN.{length, getD, drop, length-append}
 use lib.Seq.{take-at, drop-append-add, getD-append-add, getD-drop, drop-drop}
-use borrow.Author.Tests.{eq-eqb, le-leb}
+use borrow.Author.Tests.{eq-eqb, ne-eqb, le-leb}
 use Rattle.base.specs.Finite.{within, allTo, every}
 use Rattle.base.proofs.Tests.{both, to-both}
 use Rattle.problem.specs.Problem.{Problem, maxAgents, banned, withTable, withBans, noBans, countInRange, domainInRange, inRange}
 use Rattle.problem.specs.Row.{Row, rowGood, withRow, withRows, rowsBan}
 use Rattle.problem.specs.Sheet.{Valid, headerLength, recordLength, maxRecords, byteAt, wordFrom, agentsIn, editionIn, recordsIn, firstIn, domainsIn, withoutBans, headerGood, rowAt, rowOf, nextOf, recordStart, recordGood, decode}
+use Rattle.problem.specs.Chain.{chainFrom, rowsIn}
 use Rattle.problem.specs.Writing.{twoBytes, headerBytes, rowBytes, indexAfter, chained, written}
 use Rattle.problem.proofs.Range.{Ranged, ranged, bare-ranged, to-count, to-domains}
 use Rattle.problem.proofs.Bans.{none-banned}
@@ -36,7 +37,7 @@ module _ (e : ℕ) (p : Problem) (rows : List Row) (long : length (p .domains) �
   unfolding agentsIn byteAt written headerBytes
   reads-count = refl
 
-  reads-edition : editionIn (written e p rows) ≡ e
+  pub reads-edition : editionIn (written e p rows) ≡ e
   unfolding editionIn byteAt written headerBytes
   reads-edition = refl
 
@@ -172,6 +173,27 @@ module _ (s : List ℕ) (p : Problem) where
       free-goes s (suc r) (withTable p t) steps (omega arith) (λ z. omega arith) on
       ∙ rw (reads-next s rest row next r here, reads-row s rest row next r here)
       (walk-writes rows (steps - 1) (suc r) _ (behind-row s rest row next r here) (omega arith) (g .1) (omega arith))
+
+-- ---- the chain
+
+-- from record r on, the rows that are left
+chain-writes : (s : List ℕ) (rows : List Row) (steps r : ℕ) → drop (24 + 8 * r) s ≡ chained r rows → length rows < steps
+    → map (rowOf s) (chainFrom steps s (indexAfter r rows)) ≡ rows
+unfolding indexAfter chained chainFrom
+chain-writes s rows zero r here more = absurd (omega arith)
+chain-writes s [] (suc steps) r here more = refl
+chain-writes s (row ∷ rows) (suc steps) r here more =
+    let rest = chained (suc r) rows in
+    let next = indexAfter (suc r) rows in
+    rw (ne-eqb (suc r) 0 (λ z. omega arith), chainFrom, reads-next s rest row next r here, reads-row s rest row next r here)
+    (ap (λ (l : List Row). row ∷ l) (chain-writes s rows steps (suc r) (behind-row s rest row next r here) (omega arith)))
+
+-- what the records on the chain say, in its order, is what was written
+pub reads-rows : (e : ℕ) (p : Problem) (rows : List Row) → length (p .domains) ≡ maxAgents → rowsIn (written e p rows) ≡ rows
+unfolding rowsIn
+reads-rows e p rows long =
+    rw (reads-first e p rows long, reads-records e p rows long)
+    (chain-writes (written e p rows) rows (suc (length rows)) 0 (records-there e p rows long) (omega arith))
 
 -- ---- the whole
 

@@ -3,5 +3,6 @@ mod Table
 mod Gaps
 mod Pairs
 mod Bands
-mod Records
-mod Walking
+pub mod Records
+pub mod Walking
+pub mod Outcomes

@@ -75,7 +75,7 @@ short-more s r t g short =
     short-set t _ _ short
     (bits-below _ _ _ _ (rw (same (rowOf s r .lower)) (f .lowers .1)) (rw (same (rowOf s r .higher)) (f .highers .1)) (short _))
 
-next-there : (s : List ℕ) (r : ℕ) → 1 ≤ r → wordFrom s (20 + 8 * r) ≡ nextOf s r
+pub next-there : (s : List ℕ) (r : ℕ) → 1 ≤ r → wordFrom s (20 + 8 * r) ≡ nextOf s r
 unfolding nextOf
 next-there s r l = let on : 20 + 8 * r ≡ 16 + 8 * r + 4 = omega arith in rw (on, start-at r l)
 

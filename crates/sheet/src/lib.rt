@@ -5,7 +5,7 @@ ghost use Rattle.problem.specs.Sheet.{decode};
 ghost use Rattle.sheet.specs.Abstract.{outcome, outcomeOf, Sized};
 
 mod bans;
-mod header;
+pub mod header;
 pub mod index;
 mod record;
 mod walk;

@@ -1,7 +1,7 @@
 -- A sheet of one edition: the first check that decides; and what a writer answers for each outcome.
 -- Each opens a definition once, with the tests that led there.
 use Prim.Native.Nat.{ℕ, _≤_, _<_}
-use mathlib.Core.Path.{_≡_, refl, sym, ap, _∙_}
+use mathlib.Core.Path.{_≡_, refl}
 use mathlib.Core.Logic.{_≢_}
 use mathlib.Core.Bool.{true, false}
 use mathlib.Core.List.{List}
@@ -11,9 +11,9 @@ use Rattle.base.specs.Lent.{untouched, put}
 use Rattle.problem.specs.Problem.{Problem, inRange}
 use Rattle.problem.specs.Sheet.{Decoded, Valid, Invalid, BadLength, BadHeader, headerLength, maxRecords, editionIn, decode}
 use Rattle.problem.specs.Writing.{written}
-use Rattle.problem.proofs.Checks.{fault-some}
 use Rattle.problem.proofs.Range.{to-range}
 use Rattle.sheet.specs.Abstract.{Outcome, outcome}
+use Rattle.sheet.proofs.Outcomes.{valid}
 use Rattle.turn_rules.specs.Bans.{banRows}
 use Rattle.turn_rules.specs.Gaps.{sayable, gapRows}
 use Rattle.turn_rules.specs.Turning.{notSayable, decodeAs, bansFrom, gapsFrom, banSheet, gapSheet, putTurned, toBans, toGaps}
@@ -38,12 +38,6 @@ module _ (edition : ℕ) (s : List ℕ) where
   as-same h e = rw (le-ltb (length s) 24 h, decodeAs, eq-eqb (editionIn s) edition e)
 
 -- ---- its outcome
-
--- number 0: the problem
-valid : (d : Decoded) (o : Outcome) → o ≡ outcome d → o .number ≡ 0 → d ≡ Valid (o .problem)
-unfolding outcome
-valid (Valid p) o e z = rw e
-valid (Invalid f) o e z = absurd (fault-some f (ap (λ (o : Outcome). o .number) (sym e) ∙ z))
 
 accepted-as : (edition : ℕ) (s : List ℕ) (o : Outcome) → o ≡ outcome (decodeAs edition s) → o .number ≡ 0 → decodeAs edition s ≡ Valid (o .problem)
 accepted-as edition s o e z = valid (decodeAs edition s) o e z

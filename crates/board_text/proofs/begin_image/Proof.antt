@@ -1,8 +1,9 @@
 -- The reader's contract, for the whole input, and a dispatcher that begins with its network. Assumes nothing.
 use mathlib.Core.Path.{_≡_, sym, ap, _∙_}
-use Rattle.image_format.specs.Reading.{Loaded, load}
+use Rattle.image_format.specs.Reading.{Loaded}
+use Rattle.image_forms.specs.Reading.{load}
 use Rattle.dispatch_rules.specs.Dispatch.{dispatcher}
-use Rattle.image_reader.proofs.Cut.{load-cut}
+use Rattle.image_mover.proofs.Cut.{load-cut}
 use borrow.Author.Needs.{needs}
 use Rattle.board_text.proofs.begin_image.Statement.{statement}
 use Rattle.board_text.proofs.begin_image.Tie as tie

@@ -5,10 +5,10 @@ use Rattle.image.proofs.play.Statement.{statement}
 use Rattle.image.proofs.play.Tie as tie
 
 abbrev Inv-loop : tie.InvT-loop
-Inv-loop first s₀ end i₀ s i = Unit {0}
+Inv-loop small first s₀ end i₀ s i = Unit {0}
 
 abbrev μ-loop : tie.MeasureT-loop
-μ-loop first s₀ end i₀ s i = end - i
+μ-loop small first s₀ end i₀ s i = end - i
 
 arg-count-requires : tie.Need-arg-count-requires Inv-loop μ-loop
 arg-count-requires c κs = search needs

@@ -11,6 +11,7 @@ use Rattle.lent.proofs.Within.{counted}
 use Rattle.network.specs.Abstract.{problemOf, networkOf}
 use Rattle.network_laws.proofs.Stepping.{few-agents}
 use Rattle.image_format.specs.Image.{image}
+use Rattle.image_forms.specs.Forms.{First, imageIn}
 use Rattle.image_writer.proofs.Puts.{puts-then, puts-as}
 use Rattle.image_writer.proofs.Stored.{stores-broken, stores-short, stores, store-within, image-long, header-put}
 use Rattle.image_writer.proofs.store.Statement.{statement}
@@ -24,8 +25,8 @@ unfolding writtenOf
 returns c =
     let a = c .before .before .before .args in
     let w = networkOf (a .t1) in
-    let e = sym (stores-broken w (a .out .now) (sym (c .before .in-shape .ensures) ∙ not-true _ (c .if1 .taken))) in
-    (e, counted _ _ e (store-within w (a .out .now)))
+    let e = sym (stores-broken First w (a .out .now) (sym (c .before .in-shape .ensures) ∙ not-true _ (c .if1 .taken))) in
+    (e, counted _ _ e (store-within First w (a .out .now)))
 
 cast-length : tie.Need-cast-length
 cast-length c = search needs
@@ -46,14 +47,14 @@ add-length-2 : tie.Need-add-length-2
 add-length-2 c = search needs
 
 returns-2 : tie.Need-returns-2
-unfolding writtenOf networkOf problemOf
+unfolding writtenOf imageIn networkOf problemOf
 returns-2 c =
     let a = c .before .before .before .before .before .before .before .args in
     let w = networkOf (a .t1) in
     let shape = sym (c .before .before .before .before .before .in-shape .ensures) ∙ not-false _ (c .before .before .before .before .if1 .left) in
     let held = c .before .waiting .ensures .0 (a .t1) refl in
-    let e = sym (stores-short w (a .out .now) shape (omega (arith, c .if2 .taken, held, image-long w))) in
-    (e, counted _ _ e (store-within w (a .out .now)))
+    let e = sym (stores-short First w (a .out .now) shape (omega (arith, c .if2 .taken, held, image-long w))) in
+    (e, counted _ _ e (store-within First w (a .out .now)))
 
 put-header-requires : tie.Need-put-header-requires
 put-header-requires c κs = search needs
@@ -94,7 +95,7 @@ same-length : tie.Need-same-length
 same-length c = search needs
 
 returns-3 : tie.Need-returns-3
-unfolding writtenOf image networkOf problemOf
+unfolding writtenOf image imageIn networkOf problemOf
 returns-3 c =
     let s = c .before .before .before .before .before .before .before .before .before .before .before .before .before .before .before .before .before .before .before .before .before .before .before .before .before .before .before .before .before .before .before .before .before .before in
     let r = s .args .t1 in
@@ -107,8 +108,8 @@ returns-3 c =
     let shape = sym (c .before .before .before .before .before .before .before .before .before .before .before .before .before .before .before .before .before .before .before .before .before .before .before .before .before .before .before .before .before .before .before .before .in-shape .ensures) ∙ not-false _ (c .before .before .before .before .before .before .before .before .before .before .before .before .before .before .before .before .before .before .before .before .before .before .before .before .before .before .before .before .before .before .before .if1 .left) in
     let held = c .before .before .before .before .before .before .before .before .before .before .before .before .before .before .before .before .before .before .before .before .before .before .before .before .before .before .before .before .waiting .ensures .0 r refl in
     let room : length (image w) ≤ length (s .args .out .now) = omega (arith, held, image-long w, c .before .before .before .before .before .before .before .before .before .before .before .before .before .before .before .before .before .before .before .before .before .before .before .before .before .before .before .if2 .left) in
-    let e = sym (stores w (s .args .out .now) _ _ _ shape room (puts-then (puts-then (puts-then (puts-then header bans) agents) heads) messages)) in
-    (e, counted _ _ e (store-within w (s .args .out .now)))
+    let e = sym (stores First w (s .args .out .now) _ _ _ shape room (puts-then (puts-then (puts-then (puts-then header bans) agents) heads) messages)) in
+    (e, counted _ _ e (store-within First w (s .args .out .now)))
 
 pub store-spec : {M : Type 1} → statement M
 store-spec =

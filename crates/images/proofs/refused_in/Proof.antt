@@ -9,14 +9,14 @@ use Rattle.images.proofs.refused_in.Tie as tie
 returns : tie.Need-returns
 returns c = search needs
 
-slice-relend-prefix-store : tie.Need-slice-relend-prefix-store
-slice-relend-prefix-store c = search needs
+slice-relend-prefix-stored : tie.Need-slice-relend-prefix-stored
+slice-relend-prefix-stored c = search needs
 
-slice-aggregate-store : tie.Need-slice-aggregate-store
-slice-aggregate-store c = sym (length-take-le _ _ (omega arith))
+slice-aggregate-stored : tie.Need-slice-aggregate-stored
+slice-aggregate-stored c = sym (length-take-le _ _ (omega arith))
 
-store-requires : tie.Need-store-requires
-store-requires c κs = search needs
+stored-requires : tie.Need-stored-requires
+stored-requires c κs = search needs
 
 same-length : tie.Need-same-length
 same-length c = search needs
@@ -35,9 +35,9 @@ refused-in-spec =
     tie.close
     (tie.spec
     returns
-    slice-relend-prefix-store
-    slice-aggregate-store
-    store-requires
+    slice-relend-prefix-stored
+    slice-aggregate-stored
+    stored-requires
     same-length
     returns-2
     same-length-2

@@ -1,4 +1,4 @@
--- `load` answers as the definition does.
+-- `load_first` answers as the definition does.
 -- Bytes that are too few, or have too many agents, are no image; for others what is read decides, written again.
 use mathlib.Core.Path.{refl, sym, ap, _∙_}
 use native.Mathlib.Omega.{arith}
@@ -8,8 +8,8 @@ use Rattle.image_reader.proofs.Owned.{network-fits}
 use Rattle.image_reader.proofs.Plainness.{networkOf-plain}
 use Rattle.image_reader.proofs.Loading.{too-short, too-many, not-taken, taken}
 use borrow.Author.Needs.{needs}
-use Rattle.image_reader.proofs.load.Statement.{statement}
-use Rattle.image_reader.proofs.load.Tie as tie
+use Rattle.image_reader.proofs.load_first.Statement.{statement}
+use Rattle.image_reader.proofs.load_first.Tie as tie
 
 refused-requires : tie.Need-refused-requires
 refused-requires c κs = search needs
@@ -53,5 +53,5 @@ returns-4 c =
     let e = taken (c .before .before .before .before .before .before .before .args .s .now) _ (c .before .before .candidate .ensures) plain (sym (c .before .is-image .ensures) ∙ not-false _ (c .if3 .left)) in
     ((sym (ap (λ (l : Loaded). l .number) e), sym (ap (λ (l : Loaded). l .network) e)), λ n. absurd (n refl))
 
-pub load-spec : {M : Type 1} → statement M
-load-spec = tie.close (tie.spec refused-requires returns shared-slice-read-if2 refused-requires-2 returns-2 candidate-requires is-image-requires refused-requires-3 returns-3 returns-4)
+pub load-first-spec : {M : Type 1} → statement M
+load-first-spec = tie.close (tie.spec refused-requires returns shared-slice-read-if2 refused-requires-2 returns-2 candidate-requires is-image-requires refused-requires-3 returns-3 returns-4)

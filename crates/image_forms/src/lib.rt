@@ -1,0 +1,1 @@
+// The two forms of a rail's image: definitions and theorems, no code.
