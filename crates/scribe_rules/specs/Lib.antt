@@ -1,0 +1,9 @@
+pub mod Words
+pub mod Statements
+pub mod Drafts
+pub mod Reading
+pub mod Telling
+pub mod Faults
+pub mod Printing
+pub mod Claims
+pub mod Cases

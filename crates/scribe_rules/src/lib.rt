@@ -1,0 +1,1 @@
+// Definitions of sheets as text; no code.

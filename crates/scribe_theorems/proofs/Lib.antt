@@ -1,0 +1,22 @@
+mod Front
+mod Gaps
+mod Tests
+mod Bans
+mod Records
+mod Slots
+mod Drafts
+mod Reading
+mod Sheets
+mod Decimals
+mod Spacing
+mod Figures
+mod Saying
+mod Told
+mod Rows
+mod Counts
+mod Taking
+mod Rereading
+mod Short
+mod Sources
+mod Again
+pub mod Theorems

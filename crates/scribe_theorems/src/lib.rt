@@ -1,0 +1,1 @@
+// Theorems about sheets as text; no code.

@@ -1,0 +1,4 @@
+mod Rooms
+mod Signs
+mod Chains
+mod Answers
