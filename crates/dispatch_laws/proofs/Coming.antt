@@ -6,7 +6,7 @@ use mathlib.Core.Option.{Option, none, some}
 use Rattle.protocol.specs.Network.{Network}
 use Rattle.protocol.specs.Run.{Line}
 use Rattle.theorems.specs.Calls.{Call, leftBy, leftByAll}
-use Rattle.dispatch_rules.specs.Dispatch.{Dispatcher, withNetwork, pick}
+use Rattle.dispatch_rules.specs.Dispatch.{Dispatcher, pick}
 use Rattle.dispatch_rules.proofs.Theorems.{picks-deliver}
 use Rattle.dispatch_laws.specs.Steps.{Step, Called, Picked, leftByStep, leftBySteps, deliveryOf, callsBy, callsIn}
 use Rattle.dispatch_laws.specs.Claims.{PicksAreCalls}

@@ -2,7 +2,7 @@
 -- large stays so.
 use Prim.Native.Nat.{ℕ, suc, _+_, _*_, _-_, _^_, _≤_, _<_}
 use mathlib.Core.Path.{_≡_, refl, sym, ap, _∙_}
-use mathlib.Core.Bool.{Bool, true, false, _&&_, and-true, and-false, false≢true}
+use mathlib.Core.Bool.{true, false, _&&_, and-true, and-false, false≢true}
 use mathlib.Core.List.{List, []}
 use native.Mathlib.Numerals.{add-one}
 use native.Mathlib.Omega.{arith}

@@ -6,7 +6,7 @@ use mathlib.Core.List.{List, map}
 use native.Mathlib.Omega.{arith}
 use lib.ListN.{length, set, length-map, length-take}
 use borrow.Author.Tests.{lt-ltb, le-ltb}
-use Rattle.base.specs.Finite.{within, every}
+use Rattle.base.specs.Finite.{within}
 use Rattle.problem.specs.Problem.{maxAgents, maxDomain}
 use Rattle.problem.specs.Row.{Row}
 use Rattle.sheet_writer.specs.Rows.{rowIn, rowsIn}
