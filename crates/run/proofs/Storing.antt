@@ -10,16 +10,12 @@ use lib.Seq.{getD-set-other}
 use Rattle.base.specs.Finite.{at}
 use Rattle.base.proofs.Search.{at-other}
 use Rattle.base.proofs.Tests.{test, eq-test}
-use Rattle.agent_rules.specs.Message.{Message as Message′, Post as Post′}
-use Rattle.agent_rules.specs.Counts.{Infos, Backs, AddLinks, number, messagesIn, raised}
+use Rattle.agent_rules.specs.Message.{Post as Post′}
 use Rattle.packed.specs.Packed.{assignment}
-use Rattle.agent.specs.declared.Agent.{Agent}
-use Rattle.agent.specs.declared.Counts.{Counts}
 use Rattle.agent.specs.declared.Post.{Post}
 use Rattle.agent.specs.declared.Posts.{Posts}
 use Rattle.agent.specs.declared.Step.{Step}
-use Rattle.agent.specs.Abstract.{countOf, postOf}
-use Rattle.agent.specs.Entries.{Raised, recounted}
+use Rattle.agent.specs.Abstract.{postOf}
 use Rattle.agent.specs.Posting.{postsLeft, tailOf, Ready}
 use Rattle.protocol.specs.Run.{oneIf}
 use Rattle.network.specs.declared.Network.{Network}
@@ -34,26 +30,6 @@ pub record Storing (o₀ : Network) (j : ℕ) (step : Step) (backs : List ℕ) (
   pub posting : Posting o₀ j (postsLeft (step .posts) (step .backs)) (postsLeft posts backs) o now
   pub ready : Ready posts backs
   pub stops : room ≡ false → rowFits (heldAt (o₀ .counts) j) (postsLeft (step .posts) (step .backs)) ≡ false
-
--- what the receiver counts is no part of it
-pub recast : {o₀ : Network} {j : ℕ} {step : Step} {backs : List ℕ} {o : Network} {posts : Posts} {now : ℕ} {room : Bool} (sent received : Counts)
-    → Storing o₀ j step backs o posts now room → Storing o₀ j (recounted step sent received) backs o posts now room
-recast sent received h = record { posting = h .posting; ready = h .ready; stops = h .stops }
-
--- the counts raised, sort by sort
-abbrev pub raisedBy : Counts → List Message′ → Counts
-raisedBy c ms =
-    record { infos = raised (c .infos) (number Infos ms); backs = raised (c .backs) (number Backs ms); links = raised (c .links) (number AddLinks ms) }
-
-pub raised-by : (c : Counts) (ms : List Message′) → Raised c ms (raisedBy c ms)
-unfolding countOf
-raised-by c ms Infos = refl
-raised-by c ms Backs = refl
-raised-by c ms AddLinks = refl
-
--- agent a's step with its counts raised by the message handed over and what it sends
-abbrev pub raisedStep : Agent → Message′ → Step → Step
-raisedStep a m t = recounted t (raisedBy (a .sent) (messagesIn (postsLeft (t .posts) (t .backs)))) (raisedBy (a .received) (m ∷ []))
 
 -- so many turns are left
 abbrev pub turns : Posts → List ℕ → Bool → ℕ

@@ -122,13 +122,7 @@ pub fn work(r: Network, once: bool, sender: u8, receiver: u8, allowed: u64) -> A
                 let heads = o.heads[row];
                 o.heads[row] = with_digit(heads, to, (digit(heads, to) + 1) % 8);
                 o.counts[row] = one_less(o.counts[row], to);
-                let mut changed = step.agent;
-                // the counts, read only now
-                let held = o.agents[at];
-                let sent = held.sent.posted(step.posts);
-                let received = held.received.handed(message);
-                changed.sent = sent;
-                changed.received = received;
+                let changed = step.agent;
                 o.agents[at] = changed;
                 let barred = step.bars;
                 bars[at] = barred;

@@ -1,8 +1,8 @@
 -- `receive` is the rule of the message's kind.
--- The message is taken in by its kind, then what is left to do is done; with any counts raised by what was handed over and is sent it is the rule's step.
+-- The message is taken in by its kind, then what is left to do is done, and what was handed over and is sent is counted.
 use borrow.Author.Needs.{needs}
 use mathlib.Core.Logic.{⊎-elim}
-use mathlib.Core.Path.{_≡_, refl}
+use mathlib.Core.Path.{_≡_, refl, sym, _∙_}
 use borrow.Enum.Known.{lives-at}
 use Rattle.problem.specs.Problem.{maxAgents}
 use Rattle.agent_rules.specs.Message.{Message as Message′, AddLink as AddLink′}
@@ -74,11 +74,15 @@ taken : (c : tie.At-match-came)
 unfolding messageOf react
 taken c =
     ⊎-elim
-    (λ u. rw (u .5, u .6, u .1 .given .1) (rw (c .before .apart .ensures) at (u .4 .ensures)))
+    (λ u. rw (u .6, u .7, u .1 .given .1) (rw (c .before .apart .ensures) at (u .4 .ensures)))
     (⊎-elim
-    (λ u. rw (u .6, u .7, u .1 .given .1, ← u .4 .ensures) (rw (c .before .apart .ensures) at (u .5 .ensures)))
-    (λ u. rw (u .3, u .4, link record { before = c .before; match = u .0 }) (rw (c .before .apart .ensures) at (u .2 .ensures) _ _ (handed (c .before .before .before .before) _ (rw (link record { before = c .before; match = u .0 }))))))
+    (λ u. rw (u .7, u .8, u .1 .given .1, ← u .4 .ensures) (rw (c .before .apart .ensures) at (u .5 .ensures)))
+    (λ u. rw (u .4, u .5, link record { before = c .before; match = u .0 }) (rw (c .before .apart .ensures) at (u .2 .ensures) _ _ (handed (c .before .before .before .before) _ (rw (link record { before = c .before; match = u .0 }))))))
     (c .match .came)
+
+-- .. which stays what it is
+same : (c : tie.At-match-came) → c .match .m ≡ c .before .before .before .before .args .m
+same c = ⊎-elim (λ u. u .5 ∙ sym (u .1 .given .1)) (⊎-elim (λ u. u .6 ∙ sym (u .1 .given .1)) (λ u. u .3)) (c .match .came)
 
 telling-requires : tie.Need-telling-requires
 telling-requires c κs = search needs
@@ -101,15 +105,17 @@ settled c =
     (c .before .telling .ensures _ _ _ _ (c .before .before .before .before .before .before .before .pre .0 .fits) refl (t .told) (t .barring)))
     (c .if1 .came)
 
+posted-requires : tie.Need-posted-requires
+posted-requires c κs = settled (c .before .before) .ready .next
+
+handed-requires : tie.Need-handed-requires
+handed-requires c κs = search needs
+
 returns : tie.Need-returns
 returns c =
     let s = settled (c .before .before .before .before) in
-    record {
-      ready = s .ready;
-      barring = s .barring;
-      counted = λ sent received posted got.
-          steps-counted _ _ _ (c .before .before .before .before .before .before .before .before .before .before .before .args .bars) _ _ (c .before .before .before .before .if1 .done) _ _ sent received posted got s;
-    }
+    steps-counted _ _ _ (c .before .before .before .before .before .before .before .before .before .before .before .args .bars) _ _ (c .before .before .before .before .if1 .done) _ _ _ _
+    (c .before .posted .ensures _ (s .ready)) (rw (same (c .before .before .before .before .before .before .before)) at (c .handed .ensures)) s
 
 pub receive-spec : {M : Type 1} → statement M
 receive-spec =
@@ -125,4 +131,6 @@ receive-spec =
     on-add-link-requires
     telling-requires
     settle-requires
+    posted-requires
+    handed-requires
     returns)

@@ -4,23 +4,19 @@ use Prim.Native.Nat.{_+_, _*_, _-_}
 use mathlib.Core.Bool.{not}
 use mathlib.Core.Path.{_≡_, refl, sym, ap, _∙_}
 use mathlib.Core.Logic.{⊎-elim, inl, inr}
-use mathlib.Core.List.{[], _∷_}
 use native.Mathlib.Omega.{arith}
 use lib.ListN.{length, getD, length-map}
 use borrow.Author.Needs.{needs}
 use borrow.Author.Tests.{not-true, not-false}
 use Rattle.base.proofs.Tests.{both}
 use Rattle.packed.specs.Packed.{assignment}
-use Rattle.agent_rules.specs.Counts.{messagesIn}
 use Rattle.agent.specs.Posting.{postsLeft}
-use Rattle.agent.specs.Entries.{Raised, recounted}
-use Rattle.agent.specs.declared.Counts.{Counts}
 use Rattle.protocol.specs.Shape.{inShape}
 use Rattle.protocol.specs.Run.{oneIf}
 use Rattle.network.specs.Abstract.{networkOf}
 use Rattle.network.proofs.Numbering.{Ends}
 use Rattle.network_laws.proofs.Changes.{FullArrays}
-use Rattle.network_laws.proofs.Handing.{Found, headAt, Stepped, bars-ask, step-asks, steps, storing}
+use Rattle.network_laws.proofs.Handing.{Found, Stepped, bars-ask, step-asks, steps, storing}
 use Rattle.network_laws.proofs.Stepping.{few-agents}
 use Rattle.run.specs.Lines.{ahead}
 use Rattle.run.specs.Working.{workBy}
@@ -32,9 +28,6 @@ use Rattle.run.proofs.Starting.{Rows, Began, broken, running, refused, 
 use Rattle.run.proofs.Visiting.{passes-over, line-channel, line-ends, here, finds}
 use Rattle.run.proofs.Storing.{
   Storing,
-  raisedStep,
-  raised-by,
-  recast,
   turns,
   storing-starts,
   turn-line,
@@ -53,11 +46,11 @@ use Rattle.run.proofs.engine.work.Statement.{statement}
 use Rattle.run.proofs.engine.work.Tie as tie
 
 abbrev Inv-loop2 : tie.InvT-loop2
-Inv-loop2 once sender receiver allowed o₀ n number from rest domains bans bars ready quota missed left made to at row head message words step posts₀ backs now₀ room₀ o posts now room =
+Inv-loop2 once sender receiver allowed o₀ n number from rest domains bans bars ready quota missed left made to at row head words step posts₀ backs now₀ room₀ o posts now room =
     Storing o₀ to step backs o posts now room
 
 abbrev μ-loop2 : tie.MeasureT-loop2
-μ-loop2 once sender receiver allowed o₀ n number from rest domains bans bars ready quota missed left made to at row head message words step posts₀ backs now₀ room₀ o posts now room =
+μ-loop2 once sender receiver allowed o₀ n number from rest domains bans bars ready quota missed left made to at row head words step posts₀ backs now₀ room₀ o posts now room =
     turns posts backs room
 
 abbrev Inv-loop : tie.InvT-loop
@@ -124,16 +117,9 @@ bars-now : (c : tie.Joined6 Inv-loop2 μ-loop2 Inv-loop μ-loop)
     × BarsOf (c .before .before .before .before .before .before .before .before .before .before .before .before .before .before .before .before .before .before .before .if1 .o .bans) (c .before .before .before .before .before .before .before .before .before .before .before .before .before .before .next-visit .result .to) (c .before .before .before .before .words-before .result) (getD (c .before .before .before .before .before .before .before .before .before .before .before .before .before .before .before .before .loop .o .agents) (c .before .before .before .before .before .before .before .before .before .before .before .before .before .before .next-visit .result .to - 1) noAgent) (getD (c .if6 .bars) (c .before .before .before .before .before .before .before .before .before .before .before .before .before .before .next-visit .result .to - 1) noBars)
 bars-now c = bars-ready (c .before .before .before .before .before .before .before .before .before .before .before .before .before .before .before .before .before .before .before .if1 .o .bans) (c .before .before .before .before .before .before .before .before .before .before .before .before .before .before .next-visit .result .to) (c .before .before .before .before .words-before .result) (visited (c .before .before .before .before .before .before .before .before .before .before .before .before) .to-low) (visited (c .before .before .before .before .before .before .before .before .before .before .before .before) .to-high) (c .before .before .before .before .words-before .ensures .0) (c .before .before .before .before .before .before .before .before .before .before .before .before .before .before .before .before .loop .o .agents) (c .before .before .before .before .before .before .before .before .before .before .before .before .before .before .before .before .loop .bars) (c .before .before .before .before .before .before .before .before .before .before .before .before .before .before .before .before .loop .ready) (alive (c .before .before .before .before .before .before .before .before .before .before .before .before) .beside) (alive (c .before .before .before .before .before .before .before .before .before .before .before .before) .barred) (c .if6 .bars) (c .if6 .ready) (readied c)
 
--- the receiver has made its step; with its counts raised, that is the definitions' step
-stepped : (c : tie.After-receive Inv-loop2 μ-loop2 Inv-loop μ-loop) (sent received : Counts)
-    → Raised (getD (c .before .before .before .before .before .before .before .before .before .before .before .before .before .before .before .before .before .before .loop .o .agents) (c .before .before .before .before .before .before .before .before .before .before .before .before .before .before .before .before .next-visit .result .to - 1) noAgent .sent) (messagesIn (postsLeft (c .receive .result .posts) (c .receive .result .backs))) sent
-    → Raised (getD (c .before .before .before .before .before .before .before .before .before .before .before .before .before .before .before .before .before .before .loop .o .agents) (c .before .before .before .before .before .before .before .before .before .before .before .before .before .before .before .before .next-visit .result .to - 1) noAgent .received) (headAt (c .before .before .before .before .before .before .before .before .before .before .before .before .before .before .before .before .before .before .loop .o) (c .before .before .before .before .before .before .before .before .before .place-at .result) ∷ []) received
-    → Stepped (c .before .before .before .before .before .before .before .before .before .before .before .before .before .before .before .before .before .before .loop .o) (c .before .before .before .before .before .before .before .before .before .before .before .before .before .before .before .before .next-visit .result .from) (c .before .before .before .before .before .before .before .before .before .before .before .before .before .before .before .before .next-visit .result .to) (c .before .before .before .before .before .before .before .before .before .place-at .result) (recounted (c .receive .result) sent received)
-stepped c sent received more handed = steps (finding (c .before .before .before .before .before .before .before .before .before)) noAgent _ _ (c .before .before .before .before .before .before .words-before .result) (alive (c .before .before .before .before .before .before .before .before .before .before .before .before .before .before) .owned) (alive (c .before .before .before .before .before .before .before .before .before .before .before .before .before .before) .table) (c .before .before .before .before .before .before .words-before .ensures .0) (recounted (c .receive .result) sent received) (c .receive .ensures .counted sent received more handed)
-
--- .. and so with the counts that it is to have
-raises : (c : tie.After-receive Inv-loop2 μ-loop2 Inv-loop μ-loop) → Stepped (c .before .before .before .before .before .before .before .before .before .before .before .before .before .before .before .before .before .before .loop .o) (c .before .before .before .before .before .before .before .before .before .before .before .before .before .before .before .before .next-visit .result .from) (c .before .before .before .before .before .before .before .before .before .before .before .before .before .before .before .before .next-visit .result .to) (c .before .before .before .before .before .before .before .before .before .place-at .result) (raisedStep (getD (c .before .before .before .before .before .before .before .before .before .before .before .before .before .before .before .before .before .before .loop .o .agents) (c .before .before .before .before .before .before .before .before .before .before .before .before .before .before .before .before .next-visit .result .to - 1) noAgent) (headAt (c .before .before .before .before .before .before .before .before .before .before .before .before .before .before .before .before .before .before .loop .o) (c .before .before .before .before .before .before .before .before .before .place-at .result)) (c .receive .result))
-raises c = stepped c _ _ (raised-by _ _) (raised-by _ _)
+-- the receiver has made its step
+stepped : (c : tie.After-receive Inv-loop2 μ-loop2 Inv-loop μ-loop) → Stepped (c .before .before .before .before .before .before .before .before .before .before .before .before .before .before .before .before .before .before .loop .o) (c .before .before .before .before .before .before .before .before .before .before .before .before .before .before .before .before .next-visit .result .from) (c .before .before .before .before .before .before .before .before .before .before .before .before .before .before .before .before .next-visit .result .to) (c .before .before .before .before .before .before .before .before .before .place-at .result) (c .receive .result)
+stepped c = steps (finding (c .before .before .before .before .before .before .before .before .before)) noAgent _ _ (c .before .before .before .before .before .before .words-before .result) (alive (c .before .before .before .before .before .before .before .before .before .before .before .before .before .before) .owned) (alive (c .before .before .before .before .before .before .before .before .before .before .before .before .before .before) .table) (c .before .before .before .before .before .before .words-before .ensures .0) (c .receive .result) (c .receive .ensures)
 
 -- a round counts if nothing was missed
 counted : (c : tie.Joined10 Inv-loop2 μ-loop2 Inv-loop μ-loop) → c .if10 .made ≡ c .before .before .before .before .before .loop .made + oneIf (not (c .before .before .before .before .before .loop .missed))
@@ -205,8 +191,8 @@ element-copy-out-agent c = let b = visited (c .before .before .before .before .b
 words-before-requires : tie.Need-words-before-requires Inv-loop2 μ-loop2 Inv-loop μ-loop
 words-before-requires c κs = let b = visited (c .before .before .before .before .before .before .before) in (b .to-low, b .to-high)
 
-array-read-t77 : tie.Need-array-read-t77 Inv-loop2 μ-loop2 Inv-loop μ-loop
-array-read-t77 c = let b = visited (c .before .before .before .before .before .before .before .before) in search needs
+array-read-t74 : tie.Need-array-read-t74 Inv-loop2 μ-loop2 Inv-loop μ-loop
+array-read-t74 c = let b = visited (c .before .before .before .before .before .before .before .before) in search needs
 
 add-mine : tie.Need-add-mine Inv-loop2 μ-loop2 Inv-loop μ-loop
 add-mine c = let b = visited (c .before .before .before .before .before .before .before .before) in search needs
@@ -256,7 +242,7 @@ element-copy-out-now : tie.Need-element-copy-out-now Inv-loop2 μ-loop2 Inv-loop
 element-copy-out-now c = let b = visited (c .before .before .before .before .before .before .before .before .before .before .before .before .before .before .before .before) in let z = c .before .before .before .before .before .before .before .before .before .before .before .before .before .before .before .before .before .before .before .before .loop .inv .sized .counts in search needs
 
 loop2-holds : tie.Need-loop2-holds Inv-loop2 μ-loop2 Inv-loop μ-loop
-loop2-holds c = storing-starts _ _ (c .before .before .before .receive .result) _ (storing (raises (c .before .before .before))) (c .before .before .before .receive .ensures .ready)
+loop2-holds c = storing-starts _ _ (c .before .before .before .receive .result) _ (storing (stepped (c .before .before .before))) (c .before .before .before .receive .ensures .ready)
 
 is-empty-requires : tie.Need-is-empty-requires Inv-loop2 μ-loop2 Inv-loop μ-loop
 is-empty-requires c κs = search needs
@@ -282,8 +268,8 @@ digit-requires-3 c κs = let b = turn-ends (c .before .before .before .before .b
 place-at-requires-2 : tie.Need-place-at-requires-2 Inv-loop2 μ-loop2 Inv-loop μ-loop
 place-at-requires-2 c κs = (c .before .before .channel-at2 .ensures .1, c .digit3 .ensures .1, c .before .before .before .before .digit2 .ensures .1)
 
-mul-t95 : tie.Need-mul-t95 Inv-loop2 μ-loop2 Inv-loop μ-loop
-mul-t95 c = search needs
+mul-t92 : tie.Need-mul-t92 Inv-loop2 μ-loop2 Inv-loop μ-loop
+mul-t92 c = search needs
 
 element-set-from-o : tie.Need-element-set-from-o Inv-loop2 μ-loop2 Inv-loop μ-loop
 element-set-from-o c = let z = c .before .before .before .before .before .before .before .before .before .before .loop2 .inv .posting .sized .places in search needs
@@ -357,38 +343,26 @@ mul-o-3 c = let b = visited (c .before .before .before .before .before .before .
 element-write-o-3 : tie.Need-element-write-o-3 Inv-loop2 μ-loop2 Inv-loop μ-loop
 element-write-o-3 c = let b = visited (c .before .before .before .before .before .before .before .before .before .before .before .before .before .before .before .before .before .before .before .before .before .before .before .before .before .before) in let z = c .before .before .before .before .before .before .before .before .loop2 .inv .posting .sized .counts in search needs
 
-mul-held : tie.Need-mul-held Inv-loop2 μ-loop2 Inv-loop μ-loop
-mul-held c = let b = visited (c .before .before .before .before .before .before .before .before .before .before .before .before .before .before .before .before .before .before .before .before .before .before .before .before .before .before .before) in search needs
-
-element-copy-out-held : tie.Need-element-copy-out-held Inv-loop2 μ-loop2 Inv-loop μ-loop
-element-copy-out-held c = let b = visited (c .before .before .before .before .before .before .before .before .before .before .before .before .before .before .before .before .before .before .before .before .before .before .before .before .before .before .before) in let z = c .before .before .before .before .before .before .before .before .before .loop2 .inv .posting .sized .agents in search needs
-
-posted-requires : tie.Need-posted-requires Inv-loop2 μ-loop2 Inv-loop μ-loop
-posted-requires c κs = c .before .before .before .before .before .before .before .before .before .before .before .before .before .before .receive .ensures .ready .next
-
-handed-requires : tie.Need-handed-requires Inv-loop2 μ-loop2 Inv-loop μ-loop
-handed-requires c κs = search needs
-
 mul-changed : tie.Need-mul-changed Inv-loop2 μ-loop2 Inv-loop μ-loop
-mul-changed c = let b = visited (c .before .before .before .before .before .before .before .before .before .before .before .before .before .before .before .before .before .before .before .before .before .before .before .before .before .before .before .before .before .before) in search needs
+mul-changed c = let b = visited (c .before .before .before .before .before .before .before .before .before .before .before .before .before .before .before .before .before .before .before .before .before .before .before .before .before .before .before) in search needs
 
 element-set-from-changed : tie.Need-element-set-from-changed Inv-loop2 μ-loop2 Inv-loop μ-loop
-element-set-from-changed c = let b = visited (c .before .before .before .before .before .before .before .before .before .before .before .before .before .before .before .before .before .before .before .before .before .before .before .before .before .before .before .before .before .before) in let z = c .before .before .before .before .before .before .before .before .before .before .before .before .loop2 .inv .posting .sized .agents in search needs
+element-set-from-changed c = let b = visited (c .before .before .before .before .before .before .before .before .before .before .before .before .before .before .before .before .before .before .before .before .before .before .before .before .before .before .before) in let z = c .before .before .before .before .before .before .before .before .before .loop2 .inv .posting .sized .agents in search needs
 
 mul-bars-2 : tie.Need-mul-bars-2 Inv-loop2 μ-loop2 Inv-loop μ-loop
-mul-bars-2 c = let b = visited (c .before .before .before .before .before .before .before .before .before .before .before .before .before .before .before .before .before .before .before .before .before .before .before .before .before .before .before .before .before .before .before) in search needs
+mul-bars-2 c = let b = visited (c .before .before .before .before .before .before .before .before .before .before .before .before .before .before .before .before .before .before .before .before .before .before .before .before .before .before .before .before) in search needs
 
 array-set-from-bars-2 : tie.Need-array-set-from-bars-2 Inv-loop2 μ-loop2 Inv-loop μ-loop
-array-set-from-bars-2 c = let b = visited (c .before .before .before .before .before .before .before .before .before .before .before .before .before .before .before .before .before .before .before .before .before .before .before .before .before .before .before .before .before .before .before) in let z = bars-now (c .before .before .before .before .before .before .before .before .before .before .before .before .before .before .before .before .before .before .before) .0 in search needs
+array-set-from-bars-2 c = let b = visited (c .before .before .before .before .before .before .before .before .before .before .before .before .before .before .before .before .before .before .before .before .before .before .before .before .before .before .before .before) in let z = bars-now (c .before .before .before .before .before .before .before .before .before .before .before .before .before .before .before .before) .0 in search needs
 
 loop-less-2 : tie.Need-loop-less-2 Inv-loop2 μ-loop2 Inv-loop μ-loop
-loop-less-2 c = visit-less _ _ _ (c .before .before .before .before .before .before .before .before .before .before .before .before .before .before .before .before .before .before .before .before .before .before .before .before .before .before .before .before .before .before .before .before .before .next-visit .ensures) (not-true _ (c .before .before .before .before .before .before .before .before .before .before .before .before .before .before .before .before .before .before .before .before .before .before .before .before .before .before .before .before .before .before .before .if4 .taken))
+loop-less-2 c = visit-less _ _ _ (c .before .before .before .before .before .before .before .before .before .before .before .before .before .before .before .before .before .before .before .before .before .before .before .before .before .before .before .before .before .before .next-visit .ensures) (not-true _ (c .before .before .before .before .before .before .before .before .before .before .before .before .before .before .before .before .before .before .before .before .before .before .before .before .before .before .before .before .if4 .taken))
 
 loop-again-2 : tie.Need-loop-again-2 Inv-loop2 μ-loop2 Inv-loop μ-loop
 loop-again-2 c =
-    let q = bars-now (c .before .before .before .before .before .before .before .before .before .before .before .before .before .before .before .before .before .before .before) in
-    stored-goes (c .before .before .before .before .before .before .before .before .before .before .before .before .before .before .before .before .before .before .before .before .before .before .before .before .before .before .before .before .before .before .before .before .before .before .before .loop .inv) (c .before .before .before .before .before .before .before .before .before .before .before .before .before .before .before .before .before .before .before .before .before .before .before .before .before .before .before .before .before .before .before .before .before .next-visit .result) (c .before .before .before .before .before .before .before .before .before .before .before .before .before .before .before .before .before .before .before .before .before .before .before .before .before .before .before .before .before .before .before .before .before .next-visit .ensures) (not-true _ (c .before .before .before .before .before .before .before .before .before .before .before .before .before .before .before .before .before .before .before .before .before .before .before .before .before .before .before .before .before .before .before .if4 .taken)) (c .before .before .before .before .before .before .before .before .before .before .before .before .before .before .before .before .before .before .before .before .before .before .before .before .before .before .before .before .before .before .if5 .left) (c .before .before .before .before .before .before .before .before .before .before .before .before .before .before .before .before .before .before .before .if6 .bars) (c .before .before .before .before .before .before .before .before .before .before .before .before .before .before .before .before .before .before .before .if6 .ready) (q .0) (q .1) (stepped (c .before .before .before .before .before .before .before .before .before .before .before .before .before .before .before .before .before) (c .before .before .posted .result) (c .before .handed .result) (rw (c .before .before .before .before .before .before .before .before .before .before .before .before .before .loop2 .inv .posting .kept .agents) at (c .before .before .posted .ensures _ (c .before .before .before .before .before .before .before .before .before .before .before .before .before .before .before .before .before .receive .ensures .ready))) (rw (c .before .before .before .before .before .before .before .before .before .before .before .before .before .loop2 .inv .posting .kept .agents) at (c .before .handed .ensures))) (recast _ _ (c .before .before .before .before .before .before .before .before .before .before .before .before .before .loop2 .inv)) (no-posts _ _ _ _ (c .before .before .before .before .before .before .before .before .before .before .before .before .is-empty .ensures .1) (c .before .before .before .before .before .before .before .before .before .before .before .if7 .left) (c .before .before .before .before .before .before .before .before .before .before .if9 .taken) (c .before .before .before .before .before .before .before .before .before .before .before .before .before .loop2 .inv .ready))
-    (record { head = head-moved _ _ _ _ (c .before .before .before .before .before .before .before .with-digit .ensures) (c .before .before .before .before .before .before .before .before .digit4 .ensures .0); count = c .before .before .before .before .before .one-less .ensures .0 }) _ (c .before .before .before .before .before .before .before .before .before .before .before .before .before .before .before .before .before .before .before .before .before .before .before .words-before .ensures .0) (c .before .before .before .before .before .before .before .before .before .before .before .before .before .before .before .before .before .receive .ensures .barring)
+    let q = bars-now (c .before .before .before .before .before .before .before .before .before .before .before .before .before .before .before .before) in
+    stored-goes (c .before .before .before .before .before .before .before .before .before .before .before .before .before .before .before .before .before .before .before .before .before .before .before .before .before .before .before .before .before .before .before .before .loop .inv) (c .before .before .before .before .before .before .before .before .before .before .before .before .before .before .before .before .before .before .before .before .before .before .before .before .before .before .before .before .before .before .next-visit .result) (c .before .before .before .before .before .before .before .before .before .before .before .before .before .before .before .before .before .before .before .before .before .before .before .before .before .before .before .before .before .before .next-visit .ensures) (not-true _ (c .before .before .before .before .before .before .before .before .before .before .before .before .before .before .before .before .before .before .before .before .before .before .before .before .before .before .before .before .if4 .taken)) (c .before .before .before .before .before .before .before .before .before .before .before .before .before .before .before .before .before .before .before .before .before .before .before .before .before .before .before .if5 .left) (c .before .before .before .before .before .before .before .before .before .before .before .before .before .before .before .before .if6 .bars) (c .before .before .before .before .before .before .before .before .before .before .before .before .before .before .before .before .if6 .ready) (q .0) (q .1) (stepped (c .before .before .before .before .before .before .before .before .before .before .before .before .before .before)) (c .before .before .before .before .before .before .before .before .before .before .loop2 .inv) (no-posts _ _ _ _ (c .before .before .before .before .before .before .before .before .before .is-empty .ensures .1) (c .before .before .before .before .before .before .before .before .if7 .left) (c .before .before .before .before .before .before .before .if9 .taken) (c .before .before .before .before .before .before .before .before .before .before .loop2 .inv .ready))
+    (record { head = head-moved _ _ _ _ (c .before .before .before .before .with-digit .ensures) (c .before .before .before .before .before .digit4 .ensures .0); count = c .before .before .one-less .ensures .0 }) _ (c .before .before .before .before .before .before .before .before .before .before .before .before .before .before .before .before .before .before .before .before .words-before .ensures .0) (c .before .before .before .before .before .before .before .before .before .before .before .before .before .before .receive .ensures .barring)
 
 with-digit-requires-2 : tie.Need-with-digit-requires-2 Inv-loop2 μ-loop2 Inv-loop μ-loop
 with-digit-requires-2 c κs = let b = visited (c .before .before .before .before .before .before .before .before .before .before .before .before .before .before .before .before .before .before .before .before .before) in (b .to-low, omega (arith, b .to-high), omega arith)
@@ -397,7 +371,7 @@ loop-less-3 : tie.Need-loop-less-3 Inv-loop2 μ-loop2 Inv-loop μ-loop
 loop-less-3 c = let b = visited (c .before .before .before .before .before .before .before .before .before .before .before .before .before .before .before .before .before .before .before .before .before .before) in passed-less _ _ _ (c .before .before .before .before .before .before .before .before .before .before .before .before .before .before .before .before .before .before .before .before .before .before .before .before .next-visit .ensures) (not-true _ (c .before .before .before .before .before .before .before .before .before .before .before .before .before .before .before .before .before .before .before .before .before .before .if4 .taken)) (b .to-low) (omega (arith, b .to-high)) _ (c .with-digit2 .ensures)
 
 loop-again-3 : tie.Need-loop-again-3 Inv-loop2 μ-loop2 Inv-loop μ-loop
-loop-again-3 c = let q = bars-now (c .before .before .before .before .before .before .before .before .before .before) in stored-jams (c .before .before .before .before .before .before .before .before .before .before .before .before .before .before .before .before .before .before .before .before .before .before .before .before .before .before .loop .inv) (c .before .before .before .before .before .before .before .before .before .before .before .before .before .before .before .before .before .before .before .before .before .before .before .before .next-visit .result) (c .before .before .before .before .before .before .before .before .before .before .before .before .before .before .before .before .before .before .before .before .before .before .before .before .next-visit .ensures) (not-true _ (c .before .before .before .before .before .before .before .before .before .before .before .before .before .before .before .before .before .before .before .before .before .before .if4 .taken)) (c .before .before .before .before .before .before .before .before .before .before .before .before .before .before .before .before .before .before .before .before .before .if5 .left) (c .before .before .before .before .before .before .before .before .before .before .if6 .bars) (c .before .before .before .before .before .before .before .before .before .before .if6 .ready) (q .0) (q .1) (raises (c .before .before .before .before .before .before .before .before)) (recast _ _ (c .before .before .before .before .loop2 .inv)) (c .before .if9 .left) (c .with-digit2 .ensures)
+loop-again-3 c = let q = bars-now (c .before .before .before .before .before .before .before .before .before .before) in stored-jams (c .before .before .before .before .before .before .before .before .before .before .before .before .before .before .before .before .before .before .before .before .before .before .before .before .before .before .loop .inv) (c .before .before .before .before .before .before .before .before .before .before .before .before .before .before .before .before .before .before .before .before .before .before .before .before .next-visit .result) (c .before .before .before .before .before .before .before .before .before .before .before .before .before .before .before .before .before .before .before .before .before .before .before .before .next-visit .ensures) (not-true _ (c .before .before .before .before .before .before .before .before .before .before .before .before .before .before .before .before .before .before .before .before .before .before .if4 .taken)) (c .before .before .before .before .before .before .before .before .before .before .before .before .before .before .before .before .before .before .before .before .before .if5 .left) (c .before .before .before .before .before .before .before .before .before .before .if6 .bars) (c .before .before .before .before .before .before .before .before .before .before .if6 .ready) (q .0) (q .1) (stepped (c .before .before .before .before .before .before .before .before)) (c .before .before .before .before .loop2 .inv) (c .before .if9 .left) (c .with-digit2 .ensures)
 
 add-made : tie.Need-add-made Inv-loop2 μ-loop2 Inv-loop μ-loop
 add-made c = let f = c .before .before .before .before .before .loop .inv .few in search needs
@@ -457,7 +431,7 @@ work-spec =
     mul-agent
     element-copy-out-agent
     words-before-requires
-    array-read-t77
+    array-read-t74
     add-mine
     mul-mine
     sub-mine
@@ -482,7 +456,7 @@ work-spec =
     element-copy-out-digit-2
     digit-requires-3
     place-at-requires-2
-    mul-t95
+    mul-t92
     element-set-from-o
     one-more-requires-2
     rest-requires
@@ -504,10 +478,6 @@ work-spec =
     one-less-requires
     mul-o-3
     element-write-o-3
-    mul-held
-    element-copy-out-held
-    posted-requires
-    handed-requires
     mul-changed
     element-set-from-changed
     mul-bars-2
