@@ -31,7 +31,7 @@ use forging::with_domain;
 use forging::with_message;
 use network::Network;
 use packed::digit;
-use run::Answer;
+use engine::Answer;
 use words::printing::Out;
 
 // ---- printing

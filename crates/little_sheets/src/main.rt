@@ -13,7 +13,7 @@ use oracle::choices::settles;
 use oracle::choices::solvable;
 use oracle::reading::fault;
 use oracle::taken::taken;
-use run::Ending;
+use engine::Ending;
 use tallies::DIFFERENT;
 use tallies::NONES;
 use tallies::PLANS;

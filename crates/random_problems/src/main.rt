@@ -15,7 +15,7 @@ use random_rails::draws::next;
 use random_rails::draws::pick;
 use random_rails::rails::at_rest;
 use random_rails::rails::listed;
-use run::Ending;
+use engine::Ending;
 use tallies::AT_REST;
 use tallies::AT_VERDICT;
 use tallies::CUT_SHORT;

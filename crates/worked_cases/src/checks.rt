@@ -17,7 +17,7 @@ use cases::lines::Numbers;
 use cases::lines::small;
 use cases::sheets::Sheet;
 use network::Network;
-use run::Ending;
+use engine::Ending;
 use start::Started;
 use words::printing::Out;
 
