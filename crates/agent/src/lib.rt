@@ -145,6 +145,7 @@ impl Agent {
         let mut nogoods = self.nogoods;
         let mut backs = [0u64; 11];
         let s = self.apart(bars);
+        let received = self.received.handed(m);
         let t = match m {
             Message::Info(v) => s.on_info(own, &nogoods, bans, from, v),
             Message::Back(v, lhs) => s.on_back(
@@ -172,7 +173,6 @@ impl Agent {
             count: done.count,
         };
         let sent = self.sent.posted(posts);
-        let received = self.received.handed(m);
         Step {
             agent: Agent {
                 value: end.value,
