@@ -5,6 +5,7 @@ ghost use Prim.Native.Nat.{_≤_};
 ghost use Rattle.network.specs.Abstract.{networkOf};
 ghost use Rattle.engine.specs.Working.{workBy};
 ghost use Rattle.engine.specs.Answers.{WorksAs};
+
 mod lines;
 mod tests;
 

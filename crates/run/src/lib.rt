@@ -6,7 +6,6 @@ ghost use Rattle.protocol.specs.Run.{allowed as allowedBy, run as runBy};
 ghost use Rattle.network.specs.Abstract.{networkOf};
 ghost use Rattle.engine.specs.Answers.{endingOf};
 ghost use Rattle.run.specs.Answers.{DeliversAs, standing, RunsAs};
-
 use engine::Answer;
 use engine::work;
 use network::Network;
