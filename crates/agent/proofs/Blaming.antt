@@ -1,12 +1,11 @@
 -- Whom to blame for an own value, read off the bytes and the words of the nogoods.
 -- The words stored are laid over each other; of the agents that this names, the lowest whose byte bars the value; else the lowest whose byte does.
-use Prim.Native.Nat.{ℕ, zero, suc, pred, _-_, _/_, _%_, _^_, _≤_, _<_}
+use Prim.Native.Nat.{ℕ, zero, suc, pred, _+_, _/_, _%_, _^_, _≤_, _<_}
 use mathlib.Core.Path.{_≡_, refl, sym, ap, _∙_, fun-ext, subst}
 use mathlib.Core.Logic.{_≢_}
-use mathlib.Core.Bool.{Bool, true, false, _&&_, _||_, and-false, false≢true}
+use mathlib.Core.Bool.{Bool, true, false, _&&_, _||_, and-false, or-false, false≢true}
 use mathlib.Core.Option.{none, some}
 use mathlib.Core.List.{List}
-use native.Mathlib.Nat.{not-suc-le-zero, sub-self}
 use native.Mathlib.Omega.{arith}
 use lib.Bits.{bitOr}
 use lib.ListN.{getD}
@@ -15,7 +14,7 @@ use Rattle.base.specs.Bits.{bit}
 use Rattle.base.specs.Finite.{at, fromOne, lowest, isSome}
 use Rattle.base.proofs.Tests.{eq-test, opt, both}
 use Rattle.base.proofs.Search.{at-other, lowest-some, lowest-range, lowest-before}
-use Rattle.base.proofs.Searches.{lowest-is, lowest-empty, isSome-first, isSome-passes}
+use Rattle.base.proofs.Searches.{lowest-is, lowest-empty, isSome-last, isSome-passes}
 use Rattle.problem.specs.Problem.{maxDomain}
 use Rattle.agent_rules.specs.Message.{known, nobody}
 use Rattle.agent_rules.specs.Agent.{Nogoods}
@@ -35,47 +34,35 @@ use Rattle.agent.proofs.Records.{nogood-stored, nogood-none}
 -- ---- whom the words stored name
 
 -- those of the values above i, up to d, laid over each other
-abbrev pub Overlaid : ℕ → List ℕ → ℕ → ℕ → ℕ → Type 0
-Overlaid stored words d i all =
-    (k : ℕ) → known (assignment all k) ≡ isSome (lowest (d - i) (suc i) (λ v. known (lhsOf (nogoodsOf stored words v) k)))
+abbrev pub Overlaid : ℕ → List ℕ → ℕ → ℕ → Type 0
+Overlaid stored words i all =
+    (k : ℕ) → known (assignment all k) ≡ isSome (lowest i 1 (λ v. known (lhsOf (nogoodsOf stored words v) k)))
 
-module _ (stored : ℕ) (words : List ℕ) (d : ℕ) where
-  pub overlaid-none : Overlaid stored words d d 0
+module _ (stored : ℕ) (words : List ℕ) where
+  pub overlaid-none : Overlaid stored words 0 0
   unfolding lowest isSome known nobody
-  overlaid-none k = rw (nobody-assigned, sub-self d)
+  overlaid-none k = rw nobody-assigned
 
-  pub overlaid-stored : (i all : ℕ) → 0 < i → i ≤ d → stored / 2 ^ (i - 1) % 2 ≡ 1 → Overlaid stored words d i all
-      → Overlaid stored words d (i - 1) (bitOr all (getD words (i - 1) 0))
+  pub overlaid-stored : (i all : ℕ) → stored / 2 ^ i % 2 ≡ 1 → Overlaid stored words i all
+      → Overlaid stored words (suc i) (bitOr all (getD words i 0))
   unfolding nogoodsOf fromOne lhsOf bit
-  overlaid-stored zero all l h has o k = absurd (not-suc-le-zero l)
-  overlaid-stored (suc i) all l h has o k =
-      let back : suc i - 1 ≡ i = omega arith in
-      let more : d - i ≡ suc (d - suc i) = omega arith in
-      let here = nogood-stored stored words i (eq-eqb _ 1 (rw back at has)) in
+  overlaid-stored i all has o k =
+      let here = nogood-stored stored words i (eq-eqb _ 1 has) in
+      let next : 1 + i ≡ suc i = omega arith in
       rw (
-        back,
-        more,
-        isSome-first (d - suc i) (suc i) (λ v. known (lhsOf (nogoodsOf stored words v) k)),
+        isSome-last i 1 (λ v. known (lhsOf (nogoodsOf stored words v) k)),
+        next,
         here,
         ← o k,
         or-named all (getD words i 0) k,
-      ) (or-swap (known (assignment all k)) (known (assignment (getD words i 0) k)))
-    where
-      or-swap : (a b : Bool) → a || b ≡ b || a
-      or-swap true true = refl
-      or-swap true false = refl
-      or-swap false true = refl
-      or-swap false false = refl
+      )
 
-  pub overlaid-other : (i all : ℕ) → 0 < i → i ≤ d → stored / 2 ^ (i - 1) % 2 ≢ 1 → Overlaid stored words d i all
-      → Overlaid stored words d (i - 1) all
+  pub overlaid-other : (i all : ℕ) → stored / 2 ^ i % 2 ≢ 1 → Overlaid stored words i all → Overlaid stored words (suc i) all
   unfolding nogoodsOf fromOne lhsOf bit nobody known
-  overlaid-other zero all l h lacks o k = absurd (not-suc-le-zero l)
-  overlaid-other (suc i) all l h lacks o k =
-      let back : suc i - 1 ≡ i = omega arith in
-      let more : d - i ≡ suc (d - suc i) = omega arith in
-      let here = nogood-none stored words i (ne-eqb _ 1 (rw back at lacks)) in
-      rw (back, more, isSome-first (d - suc i) (suc i) (λ v. known (lhsOf (nogoodsOf stored words v) k)), here) (o k)
+  overlaid-other i all lacks o k =
+      let here = nogood-none stored words i (ne-eqb _ 1 lacks) in
+      let next : 1 + i ≡ suc i = omega arith in
+      rw (isSome-last i 1 (λ v. known (lhsOf (nogoodsOf stored words v) k)), next, here, or-false) (o k)
 
 -- ---- the lowest of those that a word names whose byte has bit d
 

@@ -8,14 +8,37 @@ use Rattle.agent_rules.specs.Agent.{Bans, withCounts}
 use Rattle.agent_rules.specs.Receiving.{react, counted, receive}
 use Rattle.agent.specs.Abstract.{noneCounted, countsOf, agentOf, selfOf}
 use Rattle.agent.specs.Posting.{postsLeft, stepOf}
-use Rattle.agent.specs.Entries.{StepsAs, Raised, recounted}
+use Rattle.agent.specs.Entries.{StepsAs, Raised}
 use Rattle.agent.specs.Parts.{apart, agentIn, postsOf, stepWith}
 use Rattle.agent.specs.declared.Agent.{Agent}
 use Rattle.agent.specs.declared.Bars.{Bars}
 use Rattle.agent.specs.declared.Counts.{Counts}
 use Rattle.agent.specs.declared.Own.{Own}
+use Rattle.agent.specs.declared.Step.{Step}
 use Rattle.agent.specs.declared.choosing.Done.{Done}
 use Rattle.agent.proofs.Uncounted.{receives}
+
+-- a step put together again, with these counts
+abbrev pub stepWhole : Done → List ℕ → List ℕ → Counts → Counts → Step
+stepWhole d nogoods backs sent received =
+    record {
+      agent =
+          record {
+            value = d .state .value;
+            last = d .state .last;
+            stored = d .state .stored;
+            listens = d .state .listens;
+            informs = d .state .informs;
+            view = record { digits = d .state .view };
+            nogoods = nogoods;
+            sent = sent;
+            received = received;
+          };
+      posts = postsOf d;
+      backs = backs;
+      bars = d .state .bars;
+      verdict = d .verdict;
+    }
 
 module _ (own : Own) (bans : Bans) (a : Agent) (b : Bars) (from : ℕ) (m : Message′) (d : Done) (nogoods backs : List ℕ) (sent received : Counts)
     (posted : Raised (a .sent) (messagesIn (postsLeft (postsOf d) backs)) sent) (got : Raised (a .received) (m ∷ []) received) where
@@ -24,7 +47,7 @@ module _ (own : Own) (bans : Bans) (a : Agent) (b : Bars) (from : ℕ) (m : Mess
   counts = ap₂ (λ (f g : Sort → ℕ). record { sent = f; received = g }) (fun-ext λ x. posted x) (fun-ext λ x. got x)
 
   pub steps-counted : StepsAs own bans (stepWith d nogoods backs) (react (selfOf own) bans (agentIn (apart a b) (a .nogoods)) from m)
-      → StepsAs own bans (recounted (stepWith d nogoods backs) sent received) (receive (selfOf own) bans (agentOf a) from m)
+      → StepsAs own bans (stepWhole d nogoods backs sent received) (receive (selfOf own) bans (agentOf a) from m)
   unfolding stepOf agentOf counted
   steps-counted s =
       let whole = receives (selfOf own) bans (countsOf noneCounted noneCounted) (agentOf a) from m in

@@ -2,20 +2,20 @@
 use Prim.Native.Nat.{ℕ, pred, _-_, _≤_, _<_}
 use mathlib.Core.Path.{_≡_}
 use mathlib.Core.Bool.{Bool, true, false, not, _&&_}
-use mathlib.Core.List.{List, [], _∷_}
+use mathlib.Core.List.{List}
 use lib.Dec.{eqb}
 use lib.ListN.{length}
 use Rattle.base.specs.Finite.{within, every}
 use Rattle.base.specs.Bits.{bit}
 use Rattle.problem.specs.Problem.{maxAgents, maxDomain}
 use Rattle.agent_rules.specs.Message.{Assignment, Message as Message′}
-use Rattle.agent_rules.specs.Counts.{Sort, number, messagesIn, raised}
+use Rattle.agent_rules.specs.Counts.{Sort, number, raised}
 use Rattle.agent_rules.specs.Agent.{Bans, Step as Step′}
 use Rattle.agent_rules.specs.Choosing.{bars}
 use Rattle.agent_rules.specs.Shape.{maxNamed, EachNamed, EachIn}
 use Rattle.packed.specs.Packed.{members}
 use Rattle.agent.specs.Abstract.{assigned, byteOf, countOf, agentOf}
-use Rattle.agent.specs.Posting.{newsTo, postsLeft, Ready, stepOf}
+use Rattle.agent.specs.Posting.{newsTo, Ready, stepOf}
 use Rattle.agent.specs.declared.Agent.{Agent}
 use Rattle.agent.specs.declared.Own.{Own}
 use Rattle.agent.specs.declared.Bars.{Bars}
@@ -68,35 +68,6 @@ pub record StepsAs (own : Own) (bans : Bans) (r : Step) (t : Step′) : Type 0 w
 -- counts raised by so many messages of each sort
 abbrev pub Raised : Counts → List Message′ → Counts → Type 0
 Raised c ms d = (x : Sort) → countOf d x ≡ raised (countOf c x) (number x ms)
-
--- a step whose agent has other counts
-abbrev pub recounted : Step → Counts → Counts → Step
-recounted t sent received =
-    record {
-      agent =
-          record {
-            value = t .agent .value;
-            last = t .agent .last;
-            stored = t .agent .stored;
-            listens = t .agent .listens;
-            informs = t .agent .informs;
-            view = t .agent .view;
-            nogoods = t .agent .nogoods;
-            sent = sent;
-            received = received;
-          };
-      posts = t .posts;
-      backs = t .backs;
-      bars = t .bars;
-      verdict = t .verdict;
-    }
-
--- the step that the rules give, once agent a's counts are raised by the message m handed over and by what the step sends
-pub record CountedAs (own : Own) (bans : Bans) (a : Agent) (m : Message′) (r : Step) (t : Step′) : Type 0 where
-  pub ready : Ready (r .posts) (r .backs)
-  pub barring : Barring bans (assigned (r .agent .view)) (r .bars)
-  pub counted : (sent received : Counts) → Raised (a .sent) (messagesIn (postsLeft (r .posts) (r .backs))) sent → Raised (a .received) (m ∷ []) received
-      → StepsAs own bans (recounted r sent received) t
 
 -- the first step that the rules give: it sends its value to all that it informs, and nothing else
 pub record BeginsAs (r : Agent) (t : Step′) : Type 0 where

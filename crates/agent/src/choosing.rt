@@ -76,12 +76,14 @@ fn naming(nogoods: &[u64; 8], domain: u8, stored: u8) -> u64
     ensures { λ r. ⌜ ((k : ℕ) → known (assignment r k) ≡ isSome (lowest domain 1 (λ v. known (lhsOf (nogoodsOf stored (now (nogoods .entry)) v) k)))) ⌝ }
 {
     let mut all: u64 = 0;
-    let mut i = domain;
-    while 0 < i {
-        i -= 1;
-        if (stored >> i) % 2 == 1 {
+    let mut rest = stored;
+    let mut i: u8 = 0;
+    while i < domain {
+        if rest % 2 == 1 {
             all = all | nogoods[i as usize];
         }
+        rest = rest / 2;
+        i += 1;
     }
     all
 }

@@ -41,7 +41,7 @@ impl Counts {
     }
 
     // A message is handed over.
-    pub fn handed(self, m: Message) -> Counts
+    pub(crate) fn handed(self, m: Message) -> Counts
         ensures { λ r. ⌜ Raised self (messageOf m ∷ []) r ⌝ }
     {
         let mut c = self;
@@ -60,7 +60,7 @@ impl Counts {
     }
 
     // The posts left are sent.
-    pub fn posted(self, p: Posts) -> Counts
+    pub(crate) fn posted(self, p: Posts) -> Counts
         requires { ⌜ p .next ≤ p .count ⌝ }
         ensures { λ r. ⌜ ((backs : List ℕ) → Ready p backs → Raised self (messagesIn (postsLeft p backs)) r) ⌝ }
     {

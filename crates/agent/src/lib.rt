@@ -5,7 +5,7 @@ ghost use Rattle.agent_rules.specs.Receiving.{receive, begin};
 ghost use Rattle.agent_rules.specs.Shape.{RecordFits, MessageFits, anyValue};
 ghost use Rattle.packed.specs.Packed.{members};
 ghost use Rattle.agent.specs.Abstract.{assigned, messageOf, agentOf, selfOf, bansIn};
-ghost use Rattle.agent.specs.Entries.{OwnFits, Able, Below, Barring, CountedAs, BeginsAs};
+ghost use Rattle.agent.specs.Entries.{OwnFits, Able, Below, Barring, StepsAs, BeginsAs};
 ghost use Rattle.agent.specs.Parts.{apart};
 
 mod assigning;
@@ -134,18 +134,18 @@ impl Agent {
         }
     }
 
-    // A message is handed over. The agent handed back has the counts that it had; with the message counted as handed over (`handed`) and the posts as
-    // sent (`posted`), it is the agent that the rules give.
+    // A message is handed over.
     pub fn receive(self, own: Own, bans: &[u64], bars: Bars, from: u8, m: Message) -> Step
         requires { ⌜ Able own (now bans) ⌝ }
         requires { ⌜ RecordFits anyValue (selfOf own) (agentOf self) ⌝ }
         requires { ⌜ MessageFits anyValue (selfOf own) (agentOf self) from (messageOf m) ⌝ }
         requires { ⌜ Barring (bansIn (now bans)) (assigned (self .view)) bars ⌝ }
-        ensures { λ r. ⌜ CountedAs own (bansIn (now (bans .entry))) self (messageOf m) r (receive (selfOf own) (bansIn (now (bans .entry))) (agentOf self) from (messageOf m)) ⌝ }
+        ensures { λ r. ⌜ StepsAs own (bansIn (now (bans .entry))) r (receive (selfOf own) (bansIn (now (bans .entry))) (agentOf self) from (messageOf m)) ⌝ }
     {
         let mut nogoods = self.nogoods;
         let mut backs = [0u64; 11];
         let s = self.apart(bars);
+        let received = self.received.handed(m);
         let t = match m {
             Message::Info(v) => s.on_info(own, &nogoods, bans, from, v),
             Message::Back(v, lhs) => s.on_back(
@@ -172,8 +172,7 @@ impl Agent {
             next: 0,
             count: done.count,
         };
-        let sent = self.sent;
-        let received = self.received;
+        let sent = self.sent.posted(posts);
         Step {
             agent: Agent {
                 value: end.value,

@@ -10,7 +10,7 @@ use lib.Dec.{ltb}
 use borrow.Author.Tests.{ltb-true, ltb-false}
 use Rattle.base.specs.Finite.{lowest, highest, isSome}
 use Rattle.base.proofs.Tests.{test, eq-test, opt, isSome-true, or-left, or-right, or-cases}
-use Rattle.base.proofs.Search.{lowest-some, lowest-range, lowest-none}
+use Rattle.base.proofs.Search.{lowest-some, lowest-range, lowest-none, lowest-grows, lowest-last}
 use Rattle.base.proofs.Peeling.{same-test}
 
 pub lowest-is : (m k : ℕ) (p : ℕ → Bool) (s : ℕ) → k ≤ s → s < k + m → p s ≡ true → ((j : ℕ) → k ≤ j → j < s → p j ≡ false)
@@ -66,9 +66,12 @@ unfolding isSome
 isSome-passes m k p j l h t =
     opt (lowest m k p) (λ e. absurd (false≢true (sym (lowest-none m k p e j l h) ∙ t))) (λ s e. rw e)
 
-pub isSome-first : (m k : ℕ) (p : ℕ → Bool) → isSome (lowest (suc m) k p) ≡ p k || isSome (lowest m (suc k) p)
-unfolding isSome lowest
-isSome-first m k p = test (p k) (λ t. rw (t, lowest)) (λ t. rw (t, lowest))
+pub isSome-last : (m k : ℕ) (p : ℕ → Bool) → isSome (lowest (suc m) k p) ≡ isSome (lowest m k p) || p (k + m)
+unfolding isSome
+isSome-last m k p =
+    opt (lowest m k p)
+    (λ e. rw (lowest-last m k p e, e) (test (p (k + m)) (λ t. rw t) (λ t. rw t)))
+    (λ s e. rw (lowest-grows m (suc m) k p s (omega arith) e, e))
 
 -- the second n numbers laid over the first
 pub isSome-halves : (n k : ℕ) (p q : ℕ → Bool) → ((j : ℕ) → k ≤ j → j < k + n → q j ≡ p j || p (j + n))

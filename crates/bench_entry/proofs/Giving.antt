@@ -27,8 +27,9 @@ use Rattle.network.specs.Abstract.{isChannel, rowOf, agentsOf, networkOf}
 use Rattle.network.proofs.Numbering.{ends}
 use Rattle.network_laws.specs.Held.{heldAt}
 use Rattle.network_laws.proofs.Changes.{channel-held}
-use Rattle.run.specs.declared.Answer.{Answer}
-use Rattle.run.specs.Answers.{endingOf, RunsAs}
+use Rattle.engine.specs.declared.Answer.{Answer}
+use Rattle.engine.specs.Answers.{endingOf}
+use Rattle.run.specs.Answers.{RunsAs}
 use Rattle.bench_entry.specs.Giving.{wordFor, WaitsFor, endingDigit, valuesTo, ranFor, settledFor, countsMixed, countsFor}
 
 -- ---- decoding

@@ -6,7 +6,7 @@ ghost use lib.ListN.{length};
 ghost use Rattle.problem.specs.Sheet.{decode};
 ghost use Rattle.protocol.specs.Network.{Started as Started′, startSheet};
 ghost use Rattle.network.specs.Abstract.{networkOf};
-ghost use Rattle.run.specs.Answers.{endingOf};
+ghost use Rattle.engine.specs.Answers.{endingOf};
 ghost use Rattle.agent.specs.Abstract.{countsOf, agentOf};
 ghost use Rattle.lent.specs.Abstract.{writtenOf};
 ghost use Rattle.image_forms.specs.Reading.{load};
@@ -15,11 +15,11 @@ ghost use Rattle.image_forms.specs.Moving.{move};
 ghost use Rattle.bench_entry.specs.Giving.{wordFor, WaitsFor, endingDigit, settledFor, playedTo, Playing, playedFor, countMixed, countsMixed, countsFor, agentMixed, readFor, formFor, WritesFor, MovesFor};
 use agent::Agent;
 use agent::Counts;
+use engine::Answer;
+use engine::Ending;
 use lent::Written;
 use network::Network;
 use network::places::lines_of;
-use run::Answer;
-use run::Ending;
 
 // Decoding alone: one word of an accepted sheet's ban table, or the number of the sheet's fault.
 #[no_mangle]

@@ -35,7 +35,7 @@ use Rattle.network.specs.Abstract.{isChannel, rowOf, networkOf}
 use Rattle.network_laws.specs.Held.{heldAt}
 use Rattle.network_laws.proofs.Changes.{row-is, channel-held}
 use Rattle.network_laws.proofs.Rejecting.{bad-shape, bad-numbers, stands, tries}
-use Rattle.run.proofs.Testing.{good}
+use Rattle.engine.proofs.Testing.{good}
 use Rattle.dispatch.specs.Abstract.{line}
 
 -- ---- by the number

@@ -18,7 +18,7 @@ use Rattle.protocol.specs.Run.{Line, isLine}
 use Rattle.dispatch_rules.specs.Dispatch.{linesFrom, lines, behind, upTo, turn, deliverable, firstOf}
 use Rattle.dispatch_rules.proofs.Turns.{Once, behind-at, new}
 use Rattle.dispatch_rules.proofs.AllLines.{lines-once}
-use Rattle.run.proofs.Testing.{Good, good}
+use Rattle.engine.proofs.Testing.{Good, good}
 use Rattle.dispatch.specs.Abstract.{line}
 use Rattle.dispatch.specs.Walking.{lineIf, ahead, Stands}
 use Rattle.dispatch.proofs.Ahead.{ahead-line, ahead-end, line-none, line-one, before, lines-split}

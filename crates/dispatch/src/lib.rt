@@ -7,8 +7,8 @@ ghost use Rattle.dispatch.specs.Abstract.{line, dispatcherOf, testedBy, 
 
 mod turns;
 
+use engine::Ending;
 use network::Network;
-use run::Ending;
 use turns::in_turn;
 
 // The network, the count of picks, and the place: the line that an even pick served last, 0 and 0 at first.

@@ -8,7 +8,7 @@ use borrow.Author.Tests.{eq-eqb, ne-eqb}
 use Rattle.io.specs.Counts.{Counts}
 use Rattle.protocol.specs.Network.{Network, startSheet}
 use Rattle.protocol.specs.Run.{Plan, Ran}
-use Rattle.run.specs.Answers.{endingOf}
+use Rattle.engine.specs.Answers.{endingOf}
 use Rattle.words.specs.Text.{lineOf, Appends}
 use Rattle.dock_text.specs.declared.Settlement.{Settlement}
 use Rattle.dock_text.specs.Settling.{programRule, Settles, settled}

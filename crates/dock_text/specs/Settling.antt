@@ -5,7 +5,7 @@ use mathlib.Core.List.{List}
 use Rattle.protocol.specs.Network.{startSheet}
 use Rattle.protocol.specs.Run.{endingNumber, Ran, run}
 use Rattle.network.specs.Abstract.{networkOf}
-use Rattle.run.specs.Answers.{endingOf}
+use Rattle.engine.specs.Answers.{endingOf}
 use Rattle.network.specs.Empty.{emptyRecord}
 use Rattle.dock_text.specs.declared.Settlement.{Settlement}
 

@@ -12,8 +12,8 @@ use Rattle.protocol.specs.Network.{Network, startSheet}
 use Rattle.protocol.specs.Delivery.{askValue}
 use Rattle.protocol.specs.Run.{Ending, None, Plan, Jammed, Open, Broken, endingWord, Ran}
 use Rattle.network.specs.Abstract.{networkOf}
-use Rattle.run.specs.declared.Answer.{Answer}
-use Rattle.run.specs.Answers.{endingOf}
+use Rattle.engine.specs.declared.Answer.{Answer}
+use Rattle.engine.specs.Answers.{endingOf}
 use Rattle.words.specs.Text.{decimal, newline, lineOf}
 use Rattle.dock_text.specs.Settling.{programRule, settled}
 

@@ -6,6 +6,7 @@ mod forging;
 
 use agent::Message;
 use comparing::same;
+use engine::Answer;
 use forging::back;
 use forging::counted;
 use forging::counts;
@@ -31,7 +32,6 @@ use forging::with_domain;
 use forging::with_message;
 use network::Network;
 use packed::digit;
-use run::Answer;
 use words::printing::Out;
 
 // ---- printing

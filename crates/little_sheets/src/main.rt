@@ -4,6 +4,7 @@
 mod keys;
 mod tallies;
 
+use engine::Ending;
 use keys::key;
 use little_sheet::little;
 use network::Network;
@@ -13,7 +14,6 @@ use oracle::choices::settles;
 use oracle::choices::solvable;
 use oracle::reading::fault;
 use oracle::taken::taken;
-use run::Ending;
 use tallies::DIFFERENT;
 use tallies::NONES;
 use tallies::PLANS;

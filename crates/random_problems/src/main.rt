@@ -4,6 +4,7 @@
 // sheet; at the end stands how many of each kind were tried, under both rules together.
 mod tallies;
 
+use engine::Ending;
 use network::Network;
 use oracle::choices::settles;
 use oracle::choices::solvable;
@@ -15,7 +16,6 @@ use random_rails::draws::next;
 use random_rails::draws::pick;
 use random_rails::rails::at_rest;
 use random_rails::rails::listed;
-use run::Ending;
 use tallies::AT_REST;
 use tallies::AT_VERDICT;
 use tallies::CUT_SHORT;

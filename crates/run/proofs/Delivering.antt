@@ -25,9 +25,10 @@ use Rattle.protocol.specs.Run.{
 use Rattle.network.specs.declared.Network.{Network}
 use Rattle.network.specs.Abstract.{networkOf}
 use Rattle.network_laws.proofs.Rejecting.{bad-shape, bad-numbers, stands, tries, jams, goes}
-use Rattle.run.specs.declared.Answer.{Answer as Answered}
-use Rattle.run.specs.Working.{endsBy, stoppedWith, deliveredAs, ranAs, workBy}
-use Rattle.run.specs.Answers.{endingOf, WorksAs, DeliversAs, standing, RunsAs}
+use Rattle.engine.specs.declared.Answer.{Answer as Answered}
+use Rattle.engine.specs.Working.{endsBy, stoppedWith, deliveredAs, ranAs, workBy}
+use Rattle.engine.specs.Answers.{endingOf, WorksAs}
+use Rattle.run.specs.Answers.{DeliversAs, standing, RunsAs}
 
 -- ---- a rejected delivery changes nothing
 

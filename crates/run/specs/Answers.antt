@@ -1,36 +1,13 @@
--- What an answer means: each part as the value of the definitions that it stands for. A primed name is the definitions'.
+-- What the entries' answers mean, by the definitions of a delivery and of a run. A primed name is the definitions'.
 use Prim.Native.Nat.{ℕ}
 use mathlib.Core.Path.{_≡_}
 use Rattle.protocol.specs.Delivery.{Delivery, answerNumber}
-use Rattle.protocol.specs.Run.{
-  Ending as Ending′,
-  None as None′,
-  Plan as Plan′,
-  Jammed as Jammed′,
-  Open as Open′,
-  Broken as Broken′,
-  endingNumber,
-  Ran as Ran′,
-}
+use Rattle.protocol.specs.Run.{Ending as Ending′, endingNumber, Ran as Ran′}
 use Rattle.network.specs.declared.Network.{Network}
 use Rattle.network.specs.Abstract.{networkOf}
-use Rattle.run.specs.Working.{Worked, deliveredAs}
-use Rattle.run.specs.declared.Ending.{Ending}
-use Rattle.run.specs.declared.Ending.the-variants.{None, Plan, Jammed, Open, Broken}
-use Rattle.run.specs.declared.Answer.{Answer}
-
-unfoldable pub endingOf : Ending → Ending′
-endingOf None = None′
-endingOf Plan = Plan′
-endingOf Jammed = Jammed′
-endingOf Open = Open′
-endingOf Broken = Broken′
-
-pub record WorksAs (x : Worked) (answer : Answer) : Type 0 where
-  pub network : networkOf (answer .network) ≡ x .network
-  pub rounds : answer .rounds ≡ x .made
-  pub number : answer .number ≡ x .number
-  pub ending : endingOf (answer .ending) ≡ x .ending
+use Rattle.engine.specs.declared.Answer.{Answer}
+use Rattle.engine.specs.Working.{deliveredAs}
+use Rattle.engine.specs.Answers.{endingOf}
 
 -- a delivery on r is answered, by this number and this network, as the definitions' delivery d. A rejected one hands back the very network given, unused
 -- places and all.

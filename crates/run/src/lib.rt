@@ -4,31 +4,11 @@ ghost use Prim.Native.Nat.{_≤_};
 ghost use Rattle.protocol.specs.Delivery.{deliver as deliverBy};
 ghost use Rattle.protocol.specs.Run.{allowed as allowedBy, run as runBy};
 ghost use Rattle.network.specs.Abstract.{networkOf};
-ghost use Rattle.run.specs.Answers.{endingOf, DeliversAs, standing, RunsAs};
-
-mod engine;
-mod lines;
-mod tests;
-
-use crate::engine::work;
+ghost use Rattle.engine.specs.Answers.{endingOf};
+ghost use Rattle.run.specs.Answers.{DeliversAs, standing, RunsAs};
+use engine::Answer;
+use engine::work;
 use network::Network;
-
-// How a run ends.
-pub enum Ending {
-    None,
-    Plan,
-    Jammed,
-    Open,
-    Broken,
-}
-
-// What a call hands back: the network, the full rounds made, the number of the rejection, 0 for none, and how the network stands.
-pub struct Answer {
-    pub network: Network,
-    pub rounds: u64,
-    pub number: u8,
-    pub ending: Ending,
-}
 
 // A delivery tests 5 to 10, in that order. A rejected one hands back the very network given.
 pub fn deliver(r: Network, from: u8, to: u8) -> Answer

@@ -11,7 +11,7 @@ use borrow.Author.Tests.{eq-eqb, ne-eqb}
 use Rattle.base.proofs.Tests.{eq-test}
 use Rattle.protocol.specs.Network.{startSheet}
 use Rattle.protocol.specs.Run.{Ending as Ending′, Ran}
-use Rattle.run.specs.Answers.{endingOf}
+use Rattle.engine.specs.Answers.{endingOf}
 use Rattle.dock_text.specs.declared.Settlement.{Settlement}
 use Rattle.dock_text.specs.Settling.{programRule, settled, Settles}
 use Rattle.season_rules.specs.Season.{seasonRule, seasonRounds, Outcome, Refused, Ended, outcomeBy, outcome, Rounds as Rounds′, Figures as Figures′, place, oneMore, counting, withOutcome, figuresOf as figuresOf′}

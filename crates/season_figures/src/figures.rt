@@ -1,12 +1,12 @@
 // The figures, and one sheet more.
 ghost use mathlib.Core.Path.{_≡_};
 ghost use Prim.Native.Nat.{_+_, _^_, _≤_, _<_, min, max};
-ghost use Rattle.run.specs.Answers.{endingOf};
+ghost use Rattle.engine.specs.Answers.{endingOf};
 ghost use Rattle.season_rules.specs.Season.{Refused, Ended, noFigures, place, oneMore, withRounds, withOutcome};
 ghost use Rattle.season_rules.specs.Claims.{countIn, sumIn};
 ghost use Rattle.season_figures.specs.Abstract.{kinds, roundsOf, figuresOf, Room, withWord, AddsSheet};
 use dock_text::settle;
-use run::Ending;
+use engine::Ending;
 
 // The rounds of the sheets that are counted: how many sheets, the fewest and the most of one, and their sum. Where there are none the others say nothing.
 pub struct Rounds {

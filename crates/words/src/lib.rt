@@ -3,12 +3,12 @@ ghost use mathlib.Core.Path.{_≡_};
 ghost use lib.ListN.{take};
 ghost use Rattle.protocol.specs.Run.{endingWord};
 ghost use Rattle.io.specs.Counts.{Counts};
-ghost use Rattle.run.specs.Answers.{endingOf};
+ghost use Rattle.engine.specs.Answers.{endingOf};
 
 pub mod printing;
 pub mod text;
 
-use run::Ending;
+use engine::Ending;
 
 // A word: the first `length` letters.
 pub struct Word {

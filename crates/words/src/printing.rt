@@ -3,7 +3,7 @@ ghost use mathlib.Core.Path.{_≡_};
 ghost use mathlib.Core.Bool.{true, false};
 use crate::text::append_number;
 use crate::word_for;
-use run::Ending;
+use engine::Ending;
 use tool::written;
 
 // Standard output, and whether something could not be written there.

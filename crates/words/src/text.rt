@@ -2,10 +2,10 @@
 ghost use Prim.Native.Nat.{_+_, _≤_};
 ghost use lib.ListN.{length};
 ghost use Rattle.protocol.specs.Run.{endingWord};
-ghost use Rattle.run.specs.Answers.{endingOf};
+ghost use Rattle.engine.specs.Answers.{endingOf};
 ghost use Rattle.words.specs.Text.{decimal, lineOf, Appends};
 use crate::word_for;
-use run::Ending;
+use engine::Ending;
 
 // Puts s behind the first `at` bytes of out, and answers how many there are then.
 pub fn append(out: &mut [u8], at: usize, s: &[u8]) -> usize

@@ -16,8 +16,8 @@ use cases::kinds::TAKEN;
 use cases::lines::Numbers;
 use cases::lines::small;
 use cases::sheets::Sheet;
+use engine::Ending;
 use network::Network;
-use run::Ending;
 use start::Started;
 use words::printing::Out;
 

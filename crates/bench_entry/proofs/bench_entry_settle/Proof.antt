@@ -5,7 +5,7 @@ use native.Mathlib.Omega.{arith}
 use native.Mathlib.Numerals.{add-one}
 use lib.ListN.{length, length-map}
 use Rattle.network.specs.Abstract.{networkOf}
-use Rattle.run.specs.Answers.{endingOf}
+use Rattle.engine.specs.Answers.{endingOf}
 use Rattle.bench_entry.specs.Giving.{valuesTo}
 use Rattle.bench_entry.proofs.Giving.{values-fit, one-value, digit-few, refused-given, run-given}
 use borrow.Author.Needs.{needs}

@@ -1,9 +1,9 @@
 -- The digit of each ending is the definition's.
 use mathlib.Core.Path.{_≡_, refl}
 use borrow.Enum.Known.{lives-at}
-use Rattle.run.specs.declared.Ending.the-variants.{None, Plan, Jammed, Open, Broken}
-use Rattle.run.specs.Answers.{endingOf}
-use Rattle.run.proofs.Ending as E
+use Rattle.engine.specs.declared.Ending.the-variants.{None, Plan, Jammed, Open, Broken}
+use Rattle.engine.specs.Answers.{endingOf}
+use Rattle.engine.proofs.Ending as E
 use Rattle.bench_entry.specs.Giving.{endingDigit}
 use borrow.Author.Needs.{needs}
 use Rattle.bench_entry.proofs.number_of.Statement.{statement}

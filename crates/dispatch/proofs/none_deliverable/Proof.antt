@@ -5,10 +5,10 @@ use types.Run.{OneOf, miss}
 use denote.Enum.Declared.{tagOf}
 use borrow.Enum.Known.{lives-at}
 use borrow.Author.Needs.{needs}
-use Rattle.run.specs.declared.Ending.{Ending}
-use Rattle.run.specs.declared.Ending.the-variants.{None, Plan, Jammed, Open, Broken}
-use Rattle.run.specs.Answers.{endingOf}
-use Rattle.run.proofs.Ending as E
+use Rattle.engine.specs.declared.Ending.{Ending}
+use Rattle.engine.specs.declared.Ending.the-variants.{None, Plan, Jammed, Open, Broken}
+use Rattle.engine.specs.Answers.{endingOf}
+use Rattle.engine.proofs.Ending as E
 use Rattle.dispatch.proofs.Standing.{numberFor, nothing-for}
 use Rattle.dispatch.proofs.none_deliverable.Statement.{statement}
 use Rattle.dispatch.proofs.none_deliverable.Tie as tie

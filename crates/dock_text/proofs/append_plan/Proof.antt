@@ -1,9 +1,9 @@
 -- The slots of a plan, and nothing for the other words. Assumes nothing.
 use mathlib.Core.Path.{_≡_, ap}
 use borrow.Enum.Known.{lives-at}
-use Rattle.run.specs.declared.Ending.the-variants.{None, Plan, Jammed, Open, Broken}
-use Rattle.run.specs.Answers.{endingOf}
-use Rattle.run.proofs.Ending as E
+use Rattle.engine.specs.declared.Ending.the-variants.{None, Plan, Jammed, Open, Broken}
+use Rattle.engine.specs.Answers.{endingOf}
+use Rattle.engine.proofs.Ending as E
 use Rattle.words.proofs.Appending.{appends-none}
 use Rattle.dock_text.specs.Text.{planLines}
 use borrow.Author.Needs.{needs}

@@ -40,13 +40,14 @@ use denote.Triple.Walked.{says, Stays, stay-ref, stay-none, walkOf, AllGo, goes-
 use denote.Exit.{yes}
 use Rattle.protocol.specs.Delivery.{deliver as deliverBy}
 use Rattle.network.specs.Abstract.{networkOf}
-use Rattle.run.specs.Answers.{endingOf, DeliversAs, standing}
+use Rattle.engine.specs.Answers.{endingOf}
+use Rattle.run.specs.Answers.{DeliversAs, standing}
 use Rattle.network.specs.declared.Network.{Network}
-use Rattle.run.specs.declared.Answer.{Answer}
+use Rattle.engine.specs.declared.Answer.{Answer}
 use Rattle.network.proofs.Network as N
 use Rattle.network.proofs.Network.Laws as N′
-use Rattle.run.proofs.Answer as D
-use Rattle.run.proofs.Answer.Laws as D′
+use Rattle.engine.proofs.Answer as D
+use Rattle.engine.proofs.Answer.Laws as D′
 use Rattle.run.proofs.deliver as deliver
 use Rattle.run.proofs.deliver.Symbol as deliver-def
 use Rattle.run.proofs.deliver.Symbol.{name as #deliver}

@@ -3,9 +3,9 @@ use mathlib.Core.Path.{_≡_, refl}
 use native.Mathlib.Omega.{arith}
 use borrow.Enum.Known.{lives-at}
 use Rattle.protocol.specs.Run.{endingWord}
-use Rattle.run.specs.declared.Ending.the-variants.{None, Plan, Jammed, Open, Broken}
-use Rattle.run.specs.Answers.{endingOf}
-use Rattle.run.proofs.Ending as E
+use Rattle.engine.specs.declared.Ending.the-variants.{None, Plan, Jammed, Open, Broken}
+use Rattle.engine.specs.Answers.{endingOf}
+use Rattle.engine.proofs.Ending as E
 use borrow.Author.Needs.{needs}
 use Rattle.words.proofs.word_for.Statement.{statement}
 use Rattle.words.proofs.word_for.Tie as tie

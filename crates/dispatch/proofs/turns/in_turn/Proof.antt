@@ -2,7 +2,7 @@
 use mathlib.Core.Path.{refl, sym, _∙_}
 use borrow.Author.Needs.{needs}
 use borrow.Author.Tests.{not-true, not-false}
-use Rattle.run.proofs.Testing.{Good, good}
+use Rattle.engine.proofs.Testing.{Good, good}
 use Rattle.dispatch.proofs.Turning.{at-first, from-start, found-behind, found-before}
 use Rattle.dispatch.proofs.turns.in_turn.Statement.{statement}
 use Rattle.dispatch.proofs.turns.in_turn.Tie as tie

@@ -4,10 +4,10 @@ use mathlib.Core.Path.{_≡_, refl, subst}
 use native.Mathlib.Omega.{arith}
 use borrow.Enum.Known.{lives-at}
 use Rattle.protocol.specs.Run.{None as None′, Plan as Plan′, Jammed as Jammed′, Open as Open′}
-use Rattle.run.specs.declared.Ending.{Ending}
-use Rattle.run.specs.declared.Ending.the-variants.{None, Plan, Jammed, Open, Broken}
-use Rattle.run.specs.Answers.{endingOf}
-use Rattle.run.proofs.Ending as E
+use Rattle.engine.specs.declared.Ending.{Ending}
+use Rattle.engine.specs.declared.Ending.the-variants.{None, Plan, Jammed, Open, Broken}
+use Rattle.engine.specs.Answers.{endingOf}
+use Rattle.engine.proofs.Ending as E
 use Rattle.season_rules.specs.Season.{place, hasRounds, counting}
 use Rattle.season_figures.specs.Abstract.{figuresOf}
 use Rattle.season_figures.proofs.Adding.{ended-more}

@@ -3,9 +3,9 @@ use Prim.Native.Nat.{_≤_}
 use native.Mathlib.Omega.{arith}
 use lib.ListN.{length}
 use Rattle.protocol.specs.Run.{endingWord}
-use Rattle.run.specs.declared.Ending.{Ending}
-use Rattle.run.specs.declared.Ending.the-variants.{None, Plan, Jammed, Open, Broken}
-use Rattle.run.specs.Answers.{endingOf}
+use Rattle.engine.specs.declared.Ending.{Ending}
+use Rattle.engine.specs.declared.Ending.the-variants.{None, Plan, Jammed, Open, Broken}
+use Rattle.engine.specs.Answers.{endingOf}
 use borrow.Author.Needs.{needs}
 use Rattle.words.proofs.text.append_ending.Statement.{statement}
 use Rattle.words.proofs.text.append_ending.Tie as tie

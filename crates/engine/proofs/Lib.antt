@@ -1,0 +1,13 @@
+pub mod Held
+pub mod After
+pub mod Testing
+pub mod Ahead
+pub mod Resuming
+pub mod Barrings
+pub mod Here
+pub mod Visiting
+pub mod Visits
+pub mod Resting
+pub mod Starting
+pub mod Storing
+pub mod Accepting
