@@ -1,8 +1,7 @@
--- The worked nights of docs/RULES.md that are marked P, eleven more and three of the start's rule: scripts of calls and of what must be seen between them.
+-- The worked nights of docs/RULES.md that are marked P, five more and three of the start's rule: scripts of calls and of what must be seen between them.
 use Prim.Native.Nat.{ℕ, zero, suc}
 use mathlib.Core.Path.{_≡_}
 use mathlib.Core.Bool.{Bool, true, false, _&&_}
-use mathlib.Core.Option.{none, some}
 use mathlib.Core.List.{List, [], _∷_, _++_}
 use lib.ListN.{length, replicate}
 use lib.Dec.{eqb}
@@ -11,7 +10,7 @@ use Rattle.base.specs.Same.{sameNumbers}
 use Rattle.problem.specs.Problem.{noBans}
 use Rattle.problem.specs.Row.{Row}
 use Rattle.problem.specs.Writing.{written}
-use Rattle.problem.specs.Cases.{ban, gaps, minus}
+use Rattle.problem.specs.Cases.{ban}
 use Rattle.agent_rules.specs.Message.{Assignment, Message, Info, Back, AddLink}
 use Rattle.agent_rules.specs.Agent.{Agent, withCounts}
 use Rattle.agent_rules.specs.Cases.{values, agent, sameAgent, sameMessage, counts, sameCounts}
@@ -129,38 +128,13 @@ sheet9 =
     ∷ 0x02 ∷ 0x03 ∷ 0x01 ∷ 0x02 ∷ 0x00 ∷ 0x00 ∷ 0x00 ∷ 0x00
     ∷ []
 
--- the highest-numbered blamed would end in 3 rounds
-unfoldable pub sheetBlame : List ℕ
-sheetBlame = sheet (2 ∷ 1 ∷ 2 ∷ []) (ban 1 1 2 1 ∷ ban 1 2 3 1 ∷ ban 1 2 3 2 ∷ ban 2 1 3 2 ∷ [])
-
--- unknown counting as a match would end in 3 rounds
-unfoldable pub sheetUnknown : List ℕ
-sheetUnknown =
-    sheet (2 ∷ 2 ∷ 2 ∷ [])
-    (ban 1 1 2 1 ∷ ban 1 1 2 2 ∷ ban 1 2 2 1 ∷ ban 1 1 3 2 ∷ ban 2 1 3 1 ∷ ban 2 2 3 2 ∷ [])
-
 -- visited by receiver first, the verdict would cut round 2 short: 1 round
 unfoldable pub sheetOrder : List ℕ
 sheetOrder = sheet (2 ∷ 1 ∷ 1 ∷ []) (ban 1 1 2 1 ∷ ban 2 1 3 1 ∷ [])
 
--- P9's slots; agent 3 behind agent 1 and not right behind agent 2, by slots and by gaps (the third record of gaps hits nothing)
-unfoldable pub sheetBans : List ℕ
-sheetBans = sheet (2 ∷ 1 ∷ 2 ∷ []) (ban 1 1 3 1 ∷ ban 1 2 3 1 ∷ ban 1 2 3 2 ∷ ban 2 1 3 2 ∷ [])
-
-unfoldable pub sheetGaps : List ℕ
-sheetGaps = sheetOf 2 (2 ∷ 1 ∷ 2 ∷ []) (gaps 1 3 (minus 7) 0 ∷ gaps 2 3 1 1 ∷ gaps 1 2 5 7 ∷ [])
-
 -- agents 1 and 2 of P5, agent 1 with a value more, on one rail with two others
 unfoldable pub sheetShared : List ℕ
 sheetShared = sheet (3 ∷ 1 ∷ 2 ∷ 1 ∷ []) (ban 1 1 2 1 ∷ ban 1 1 3 1 ∷ ban 1 2 4 1 ∷ ban 3 2 4 1 ∷ [])
-
--- in round 3 agent 3 blames agent 1 for value 2: of those who bar it, 1 is named by the reason of value 3, and 2 by that of value 1 just given
-unfoldable pub sheetHigher : List ℕ
-sheetHigher = sheet (2 ∷ 1 ∷ 3 ∷ []) (ban 1 1 3 2 ∷ ban 1 1 3 3 ∷ ban 2 1 3 1 ∷ ban 2 1 3 2 ∷ [])
-
--- in round 1 agent 3 blames agent 2 for value 2, as the reason of value 1 names it already
-unfoldable pub sheetEarlier : List ℕ
-sheetEarlier = sheet (1 ∷ 1 ∷ 2 ∷ []) (ban 1 1 3 2 ∷ ban 2 1 3 1 ∷ ban 2 1 3 2 ∷ [])
 
 unfoldable pub empty : Assignment
 empty = values []
@@ -214,21 +188,7 @@ nights =
     ∷ Runs 1 Open 1 ∷ Waiting 2 3 (Info 1 ∷ [])
     ∷ Runs 1 Plan 1 ∷ Waiting 2 3 []
     ∷ Values (2 ∷ 1 ∷ 1 ∷ []) ∷ [])
-    -- the same bans by slots and by gaps
-    ∷ SameStart sheetGaps sheetBans
-    ∷ Played sheetBlame (Runs 100000 None 4 ∷ [])
-    ∷ Played sheetUnknown (Runs 100000 Plan 4 ∷ Values (2 ∷ 2 ∷ 1 ∷ []) ∷ [])
     ∷ Played sheetOrder (Runs 100000 None 2 ∷ [])
-    -- whom to blame: with reasons of lower values alone agent 3 would have none for value 2
-    ∷ Played sheetHigher (
-    Runs 3 Open 3
-    ∷ Holds 3 (withCounts (agent 1 (1 ∷ 2 ∷ []) [] (1 ∷ []) (none ∷ some (values (1 ∷ [])) ∷ some (values (1 ∷ [])) ∷ []))
-    (counts (0 ∷ 2 ∷ []) (3 ∷ [])))
-    ∷ Runs 100000 Plan 2 ∷ Values (2 ∷ 1 ∷ 3 ∷ []) ∷ [])
-    -- with the lowest of all, or with reasons as they stood before the walk, the refusal would name agent 1, and the verdict would fall there
-    ∷ Played sheetEarlier (
-    Runs 1 Open 1 ∷ Waiting 3 2 (Back empty 1 ∷ [])
-    ∷ Runs 100000 None 1 ∷ Values (1 ∷ 0 ∷ 1 ∷ []) ∷ [])
     -- two rails alike in agent 2, which is handed the same on both: it has the same record and sends the same
     ∷ Played sheet5 (Delivers 1 2 0 ∷ told1 ++ Delivers 2 1 0 ∷ Delivers 1 2 0 ∷ told2)
     ∷ Played sheetShared (
@@ -239,11 +199,10 @@ nights =
     -- that shows it is one of those allowed.
     ∷ Forged (crowded 1) (Tries (tried 1 2 10 ++ tried 2 1 10) ∷ Runs 0 Open 0 ∷ Runs 1 Jammed 0 ∷ Runs 100000 Jammed 0 ∷ [])
     -- They are of another value, and call for no answer: the first line is passed over, and the line behind it is delivered all the same. That round is not
-    -- full, and the run goes on: it makes three full rounds, of four that it uses.
+    -- full.
     ∷ Forged (crowded 2) (
     Tries (tried 1 2 10 ++ gather 8 1 (λ k. tried 2 1 0))
     ∷ Runs 1 Open 0 ∷ Waiting 1 2 (replicate 8 (Info 1)) ∷ Waiting 2 1 [] ∷ [])
-    ∷ Forged (crowded 2) (Runs 4 Plan 3 ∷ Values (2 ∷ 1 ∷ []) ∷ [])
     -- "a rule other than 1 or 2 is refused with 11, before the sheet is looked at": of no bytes at all
     ∷ Turned 0 sheet1 11
     ∷ Turned 3 [] 11

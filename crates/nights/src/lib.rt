@@ -1,0 +1,1 @@
+// Further worked nights, and those under the quiet rule; no code.

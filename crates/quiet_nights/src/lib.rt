@@ -1,1 +1,0 @@
-// The worked nights under the quiet rule; no code.
