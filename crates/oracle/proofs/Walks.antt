@@ -9,7 +9,7 @@ use lib.Dec.{ltb}
 use lib.ListN.{length, getD, drop}
 use lib.Seq.{drop-cons}
 use borrow.Author.Tests.{ltb-true, lt-ltb, eq-eqb, ne-eqb}
-use Rattle.base.proofs.Tests.{test, both}
+use Rattle.base.proofs.Tests.{both}
 use Rattle.oracle.specs.Buffers.{allMarked}
 use Rattle.oracle.specs.Bytes.{nextOf, eachTo}
 use Rattle.oracle.specs.Faults.{recordRight, chainFault}

@@ -29,7 +29,11 @@ advanced-requires : tie.Need-advanced-requires Inv-loop μ-loop
 advanced-requires c κs = search needs
 
 returns-2 : tie.Need-returns-2 Inv-loop μ-loop
-returns-2 c = sym (c .before .before .before .before .before .loop .inv ∙ solvable-over _ _ _ (c .before .before .before .before .loop-test .taken) (sym (c .before .before .before .obeys .ensures) ∙ c .before .before .if1 .left) (ap (λ n. n .over) (sym (c .before .advanced .ensures)) ∙ c .if2 .taken))
+returns-2 c =
+    let t = c .before .before .before .before in
+    let broken = sym (c .before .before .before .obeys .ensures) ∙ c .before .before .if1 .left in
+    let next = sym (c .before .advanced .ensures) in
+    sym (t .before .loop .inv ∙ solvable-over _ _ _ (t .loop-test .taken) broken (ap (λ n. n .over) next ∙ c .if2 .taken))
 
 sub-left : tie.Need-sub-left Inv-loop μ-loop
 sub-left c = search needs
@@ -39,7 +43,12 @@ loop-less c = search needs
 
 loop-again : tie.Need-loop-again Inv-loop μ-loop
 loop-again c =
-    c .before .before .before .before .before .loop .inv ∙ solvable-goes _ _ _ (c .before .before .before .before .loop-test .taken) (sym (c .before .before .before .obeys .ensures) ∙ c .before .before .if1 .left) (ap (λ n. n .over) (sym (c .before .advanced .ensures)) ∙ c .if2 .left) ∙ ap (solvableFrom _ _) (sym (c .before .advanced .ensures))
+    let t = c .before .before .before .before in
+    let broken = sym (c .before .before .before .obeys .ensures) ∙ c .before .before .if1 .left in
+    let next = sym (c .before .advanced .ensures) in
+    t .before .loop .inv
+    ∙ solvable-goes _ _ _ (t .loop-test .taken) broken (ap (λ n. n .over) next ∙ c .if2 .left)
+    ∙ ap (solvableFrom _ _) next
 
 returns-3 : tie.Need-returns-3 Inv-loop μ-loop
 returns-3 c = sym (c .before .loop .inv ∙ solvable-ends _ _ _ (c .loop-test .left))

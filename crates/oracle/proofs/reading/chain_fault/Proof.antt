@@ -31,7 +31,10 @@ record-right-requires : tie.Need-record-right-requires Inv-loop μ-loop
 record-right-requires c κs = search needs
 
 returns-2 : tie.Need-returns-2 Inv-loop μ-loop
-returns-2 c = sym (c .before .before .before .before .loop .inv .1 ∙ fault-record _ _ _ (c .before .before .before .loop-test .taken) (c .before .before .if1 .left) (sym (c .before .record-right .ensures) ∙ not-true _ (c .if2 .taken)))
+returns-2 c =
+    let t = c .before .before .before in
+    let bad = sym (c .before .record-right .ensures) ∙ not-true _ (c .if2 .taken) in
+    sym (t .before .loop .inv .1 ∙ fault-record _ _ _ (t .loop-test .taken) (c .before .before .if1 .left) bad)
 
 next-of-requires : tie.Need-next-of-requires Inv-loop μ-loop
 next-of-requires c κs = search needs
@@ -43,7 +46,13 @@ loop-less : tie.Need-loop-less Inv-loop μ-loop
 loop-less c = search needs
 
 loop-again : tie.Need-loop-again Inv-loop μ-loop
-loop-again c = (search needs, rw (c .next-of .ensures .0) (c .before .before .before .before .before .loop .inv .1 ∙ fault-goes _ _ _ (c .before .before .before .before .loop-test .taken) (c .before .before .before .if1 .left) (sym (c .before .before .record-right .ensures) ∙ not-false _ (c .before .if2 .left))))
+loop-again c =
+    let t = c .before .before .before .before in
+    let good = sym (c .before .before .record-right .ensures) ∙ not-false _ (c .before .if2 .left) in (
+      search needs,
+      rw (c .next-of .ensures .0)
+          (t .before .loop .inv .1 ∙ fault-goes _ _ _ (t .loop-test .taken) (c .before .before .before .if1 .left) good),
+    )
 
 returns-3 : tie.Need-returns-3 Inv-loop μ-loop
 returns-3 c = sym (c .before .before .loop .inv .1 ∙ fault-none _ _ _ (c .if3 .taken))
