@@ -1,4 +1,5 @@
 // Random sheets of every kind: both editions, chains out of order, spare records, bans that stand twice, damaged ones.
+ghost use mathlib.Core.Path.{_≡_};
 ghost use Prim.Native.Nat.{_+_, _≤_, _<_};
 use crate::draws::next;
 use crate::draws::pick;
@@ -12,7 +13,9 @@ pub struct Draft {
     pub state: u64,
 }
 
-fn blank(state: u64) -> Draft {
+fn blank(state: u64) -> Draft
+    ensures { λ o. ⌜ o .length ≡ 24 ⌝ }
+{
     Draft {
         bytes: [0u8; 1024],
         length: 24,
@@ -24,7 +27,9 @@ fn blank(state: u64) -> Draft {
 // ---- bytes
 
 // The generator has gone on.
-fn stirred(d: Draft) -> Draft {
+fn stirred(d: Draft) -> Draft
+    ensures { λ o. ⌜ o .length ≡ d .length ⌝ }
+{
     let mut o = d;
     o.state = next(d.state);
     o
@@ -36,7 +41,9 @@ fn byte_at(d: Draft, at: usize) -> usize
     if at < 1024 { wide(d.bytes[at]) } else { 0 }
 }
 
-fn with_byte(d: Draft, at: usize, b: usize) -> Draft {
+fn with_byte(d: Draft, at: usize, b: usize) -> Draft
+    ensures { λ o. ⌜ o .length ≡ d .length ⌝ }
+{
     let mut o = d;
     if at < 1024 {
         o.bytes[at] = (b % 256) as u8;
@@ -45,14 +52,19 @@ fn with_byte(d: Draft, at: usize, b: usize) -> Draft {
 }
 
 // Two bytes, little-endian.
-fn with_word(d: Draft, at: usize, word: usize) -> Draft {
+fn with_word(d: Draft, at: usize, word: usize) -> Draft
+    ensures { λ o. ⌜ o .length ≡ d .length ⌝ }
+{
     if 1023 < at {
         return d;
     }
     with_byte(with_byte(d, at, word), at + 1, word / 256)
 }
 
-fn with_length(d: Draft, length: usize) -> Draft {
+fn with_length(d: Draft, length: usize) -> Draft
+    requires { ⌜ d .length ≤ 1024 ⌝ }
+    ensures { λ o. ⌜ o .length ≤ 1024 ⌝ }
+{
     let mut o = d;
     if length <= 1024 {
         o.length = length;
@@ -80,6 +92,7 @@ fn most_slots(n: usize) -> usize {
 // Scanner i + 1 gets 1 to `most` slots.
 fn with_scanner(d: Draft, i: usize, most: usize) -> Draft
     requires { ⌜ i < 12 ⌝ }
+    ensures { λ o. ⌜ o .length ≡ d .length ⌝ }
 {
     let o = stirred(d);
     with_byte(o, 8 + i, 1 + pick(o.state, most) % 8)
@@ -87,6 +100,7 @@ fn with_scanner(d: Draft, i: usize, most: usize) -> Draft
 
 fn with_scanners(d: Draft, n: usize, most: usize) -> Draft
     requires { ⌜ n ≤ 12 ⌝ }
+    ensures { λ o. ⌜ o .length ≡ d .length ⌝ }
 {
     let mut o = with_byte(with_byte(d, 0, n), 1, 1);
     for i in 0..n {
@@ -107,7 +121,9 @@ fn most_scanners(k: usize) -> usize
 }
 
 // Half of the sheets with up to six scanners have no more than three slots each.
-fn headed(state: u64) -> Draft {
+fn headed(state: u64) -> Draft
+    ensures { λ o. ⌜ o .length ≡ 24 ⌝ }
+{
     let d = stirred(blank(state));
     let scanners = most_scanners(pick(d.state, 4));
     let d = stirred(d);
@@ -122,7 +138,9 @@ fn headed(state: u64) -> Draft {
 }
 
 // One sheet in three bans gaps.
-fn of_edition(d: Draft) -> Draft {
+fn of_edition(d: Draft) -> Draft
+    ensures { λ o. ⌜ o .length ≡ d .length ⌝ }
+{
     let o = stirred(d);
     if pick(o.state, 3) == 0 {
         return with_byte(o, 1, 2);
@@ -135,6 +153,7 @@ fn of_edition(d: Draft) -> Draft {
 // Two scanners, the higher behind the lower, for the record that begins here.
 fn with_pair(d: Draft, at: usize) -> Draft
     requires { ⌜ at ≤ 976 ⌝ }
+    ensures { λ o. ⌜ o .length ≡ d .length ⌝ }
 {
     let n = byte_at(d, 0);
     if n < 2 {
@@ -150,6 +169,7 @@ fn with_pair(d: Draft, at: usize) -> Draft
 // A slot for the scanner that is named at `at`, two bytes behind it.
 fn with_slot(d: Draft, at: usize) -> Draft
     requires { ⌜ at ≤ 977 ⌝ }
+    ensures { λ o. ⌜ o .length ≡ d .length ⌝ }
 {
     let d = stirred(d);
     let scanner = byte_at(d, at);
@@ -166,6 +186,7 @@ fn capped(gap: usize) -> usize
 // A least gap and a greatest one, up to three above it: 0 to 14 stand for -7 to 7, and a byte is 7 less.
 fn with_gaps(d: Draft, at: usize) -> Draft
     requires { ⌜ at ≤ 976 ⌝ }
+    ensures { λ o. ⌜ o .length ≡ d .length ⌝ }
 {
     let d = stirred(d);
     let least = pick(d.state, 15);
@@ -175,7 +196,9 @@ fn with_gaps(d: Draft, at: usize) -> Draft
 }
 
 // Record r bans a slot of one scanner with a slot of another, higher one, or gaps between them.
-fn with_ban(d: Draft, r: usize) -> Draft {
+fn with_ban(d: Draft, r: usize) -> Draft
+    ensures { λ o. ⌜ o .length ≡ d .length ⌝ }
+{
     let at = record_at(r);
     let o = with_pair(d, at);
     if byte_at(o, 1) == 2 {
@@ -185,7 +208,9 @@ fn with_ban(d: Draft, r: usize) -> Draft {
 }
 
 // Record r says what record q says.
-fn with_copy(d: Draft, r: usize, q: usize) -> Draft {
+fn with_copy(d: Draft, r: usize, q: usize) -> Draft
+    ensures { λ o. ⌜ o .length ≡ d .length ⌝ }
+{
     let mut o = d;
     let from = record_at(q);
     let to = record_at(r);
@@ -196,7 +221,9 @@ fn with_copy(d: Draft, r: usize, q: usize) -> Draft {
 }
 
 // Record r is spare: any bytes.
-fn with_noise(d: Draft, r: usize) -> Draft {
+fn with_noise(d: Draft, r: usize) -> Draft
+    ensures { λ o. ⌜ o .length ≡ d .length ⌝ }
+{
     let mut o = d;
     let at = record_at(r);
     for k in 0..8 {
@@ -210,7 +237,9 @@ fn on_chain(d: Draft, r: usize) -> bool {
     if r < 128 { d.chained[r] } else { false }
 }
 
-fn marked(d: Draft, r: usize) -> Draft {
+fn marked(d: Draft, r: usize) -> Draft
+    ensures { λ o. ⌜ o .length ≡ d .length ⌝ }
+{
     let mut o = d;
     if r < 128 {
         o.chained[r] = true;
@@ -219,7 +248,9 @@ fn marked(d: Draft, r: usize) -> Draft {
 }
 
 // Record r goes into the chain: behind some record of it, or to its front.
-fn linked(d: Draft, r: usize) -> Draft {
+fn linked(d: Draft, r: usize) -> Draft
+    ensures { λ o. ⌜ o .length ≡ d .length ⌝ }
+{
     let d = stirred(d);
     let q = pick(d.state, r);
     let before = if on_chain(d, q) { record_at(q) + 4 } else { 2 };
@@ -231,7 +262,9 @@ fn linked(d: Draft, r: usize) -> Draft {
 }
 
 // One record in eight is spare, as are all where there is one scanner; one in eight says what an earlier one says, if that one is on the chain.
-fn with_record(d: Draft, r: usize) -> Draft {
+fn with_record(d: Draft, r: usize) -> Draft
+    ensures { λ o. ⌜ o .length ≡ d .length ⌝ }
+{
     let d = stirred(d);
     let kind = pick(d.state, 8);
     if byte_at(d, 0) < 2 || kind == 0 {
@@ -252,7 +285,10 @@ fn most_records(k: usize) -> usize
     if k == 0 { 120 } else { 60 }
 }
 
-fn with_records(d: Draft) -> Draft {
+fn with_records(d: Draft) -> Draft
+    requires { ⌜ d .length ≤ 1024 ⌝ }
+    ensures { λ o. ⌜ o .length ≤ 1024 ⌝ }
+{
     let d = stirred(d);
     let most = most_records(pick(d.state, 2));
     let d = stirred(d);
@@ -269,6 +305,7 @@ fn with_records(d: Draft) -> Draft {
 // Some byte of those from `first` on becomes some number below `below`.
 fn with_hit(d: Draft, first: usize, bytes: usize, below: usize) -> Draft
     requires { ⌜ first + bytes ≤ 65536 ⌝ }
+    ensures { λ o. ⌜ o .length ≡ d .length ⌝ }
 {
     let d = stirred(d);
     let at = first + pick(d.state, bytes);
@@ -277,7 +314,9 @@ fn with_hit(d: Draft, first: usize, bytes: usize, below: usize) -> Draft
 }
 
 // The index of the next record of some record, or of the first one, becomes another, up to one beyond the last.
-fn with_detour(d: Draft) -> Draft {
+fn with_detour(d: Draft) -> Draft
+    ensures { λ o. ⌜ o .length ≡ d .length ⌝ }
+{
     let m = byte_at(d, 4);
     let d = stirred(d);
     let q = pick(d.state, m + 1);
@@ -286,12 +325,18 @@ fn with_detour(d: Draft) -> Draft {
     with_word(d, before, pick(d.state, m + 2))
 }
 
-fn with_cut(d: Draft) -> Draft {
+fn with_cut(d: Draft) -> Draft
+    requires { ⌜ d .length ≤ 1024 ⌝ }
+    ensures { λ o. ⌜ o .length ≤ 1024 ⌝ }
+{
     let d = stirred(d);
     with_length(d, pick(d.state, d.length))
 }
 
-fn with_more(d: Draft) -> Draft {
+fn with_more(d: Draft) -> Draft
+    requires { ⌜ d .length ≤ 1024 ⌝ }
+    ensures { λ o. ⌜ o .length ≤ 1024 ⌝ }
+{
     let d = stirred(d);
     if d.length <= 1000 {
         return with_length(d, d.length + 1 + pick(d.state, 16));
@@ -300,7 +345,10 @@ fn with_more(d: Draft) -> Draft {
 }
 
 // Half of the sheets are damaged; some damage is harmless.
-fn damaged(d: Draft) -> Draft {
+fn damaged(d: Draft) -> Draft
+    requires { ⌜ d .length ≤ 1024 ⌝ }
+    ensures { λ o. ⌜ o .length ≤ 1024 ⌝ }
+{
     let d = stirred(d);
     let records = 8 * byte_at(d, 4);
     match pick(d.state, 15) {
@@ -316,7 +364,9 @@ fn damaged(d: Draft) -> Draft {
     }
 }
 
-// A sheet for this state of the generator.
-pub fn drawn(state: u64) -> Draft {
+// A sheet for this state of the generator: it fits its buffer. Behind a sheet that was cut short stands what was cut off.
+pub fn drawn(state: u64) -> Draft
+    ensures { λ o. ⌜ o .length ≤ 1024 ⌝ }
+{
     damaged(with_records(of_edition(headed(state))))
 }

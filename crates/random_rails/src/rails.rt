@@ -1,7 +1,10 @@
 // Rails tried: a run, and a list of deliveries in random order.
 ghost use mathlib.Core.Path.{_≡_};
-ghost use mathlib.Core.Bool.{true};
-ghost use Prim.Native.Nat.{_≤_, _<_};
+ghost use mathlib.Core.Bool.{true, cond, _||_};
+ghost use Prim.Native.Nat.{_+_, _≤_, _<_};
+ghost use Rattle.network.specs.Abstract.{networkOf};
+ghost use Rattle.random_rails.specs.Lines.{EndsOf, restsOn, Waiting};
+ghost use Rattle.random_rails.specs.Listing.{Goes, Listed};
 use crate::draws::next;
 use crate::draws::pick;
 use network::Network;
@@ -18,7 +21,7 @@ pub struct Ends {
 // The line that has this number, by sender, then receiver.
 pub fn ends_of(line: usize) -> Ends
     requires { ⌜ line < 132 ⌝ }
-    ensures { λ e. ⌜ (1 ≤ e .from) × (e .from ≤ 12) × (1 ≤ e .to) × (e .to ≤ 12) ⌝ }
+    ensures { λ e. ⌜ EndsOf line (e .from) (e .to) ⌝ }
 {
     let from = (line / 11 + 1) as u8;
     let other = (line % 11 + 1) as u8;
@@ -33,7 +36,7 @@ pub fn ends_of(line: usize) -> Ends
 
 // The first line that holds something, from line `from` on and round; 132 where nothing waits.
 fn waiting_line(counts: [u64; 12], from: usize) -> usize
-    ensures { λ c. ⌜ c ≤ 132 ⌝ }
+    ensures { λ c. ⌜ Waiting counts c ⌝ }
 {
     for k in 0..132 {
         let c = (from % 132 + k) % 132;
@@ -46,7 +49,9 @@ fn waiting_line(counts: [u64; 12], from: usize) -> usize
 }
 
 // Nothing waits on any line.
-pub fn at_rest(rail: Network) -> bool {
+pub fn at_rest(rail: Network) -> bool
+    ensures { λ b. ⌜ b ≡ restsOn (rail .counts) ⌝ }
+{
     let counts = rail.counts;
     waiting_line(counts, 0) == 132
 }
@@ -119,16 +124,20 @@ fn number_right(rail: Network, e: Ends, number: u8) -> bool {
 }
 
 // One more where it holds.
-fn more(n: u64, holds: bool) -> u64 {
+fn more(n: u64, holds: bool) -> u64
+    requires { ⌜ n < 18446744073709551615 ⌝ }
+    ensures { λ r. ⌜ r ≡ cond holds (n + 1) n ⌝ }
+{
     if holds {
-        if n < 1000000000 {
-            return n + 1;
-        }
+        return n + 1;
     }
     n
 }
 
-fn delivered(l: List) -> List {
+fn delivered(l: List) -> List
+    requires { ⌜ (l .accepted + l .refused < 18446744073709551615) × (l .wrong ≤ l .accepted + l .refused) ⌝ }
+    ensures { λ o. ⌜ Goes l o ⌝ }
+{
     let rail = l.rail;
     let counts = rail.counts;
     let ends = chosen(counts, l.state);
@@ -144,12 +153,16 @@ fn delivered(l: List) -> List {
 }
 
 // No delivery is accepted any more.
-fn over(rail: Network) -> bool {
-    rail.verdict || at_rest(rail)
+fn over(rail: Network) -> bool
+    ensures { λ b. ⌜ b ≡ rail .verdict || restsOn (rail .counts) ⌝ }
+{
+    rail.verdict | at_rest(rail)
 }
 
 // Up to `most` deliveries, in random order.
-pub fn listed(rail: Network, state: u64, most: usize) -> List {
+pub fn listed(rail: Network, state: u64, most: usize) -> List
+    ensures { λ l. ⌜ Listed (networkOf rail) most l ⌝ }
+{
     let mut l = List {
         rail,
         state,

@@ -1,11 +1,12 @@
 -- Four bytes are copied one by one.
 use Prim.Native.Nat.{_≤_, _-_}
+use mathlib.Core.Path.{_≡_}
 use borrow.Author.Needs.{needs}
 use Rattle.random_rails.proofs.drafts.with_copy.Statement.{statement}
 use Rattle.random_rails.proofs.drafts.with_copy.Tie as tie
 
 abbrev Inv-loop : tie.InvT-loop
-Inv-loop d r q o₀ from to k₀ o k = k ≤ 4
+Inv-loop d r q o₀ from to k₀ o k = (k ≤ 4) × (o .length ≡ d .length)
 
 abbrev μ-loop : tie.MeasureT-loop
 μ-loop d r q o₀ from to k₀ o k = 4 - k

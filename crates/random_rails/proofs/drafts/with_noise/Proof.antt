@@ -1,11 +1,12 @@
 -- Eight bytes are drawn one by one.
 use Prim.Native.Nat.{_≤_, _-_}
+use mathlib.Core.Path.{_≡_}
 use borrow.Author.Needs.{needs}
 use Rattle.random_rails.proofs.drafts.with_noise.Statement.{statement}
 use Rattle.random_rails.proofs.drafts.with_noise.Tie as tie
 
 abbrev Inv-loop : tie.InvT-loop
-Inv-loop r o₀ at k₀ o k = k ≤ 8
+Inv-loop r o₀ at k₀ o k = (k ≤ 8) × (o .length ≡ o₀ .length)
 
 abbrev μ-loop : tie.MeasureT-loop
 μ-loop r o₀ at k₀ o k = 8 - k

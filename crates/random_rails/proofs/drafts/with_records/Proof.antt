@@ -5,7 +5,7 @@ use Rattle.random_rails.proofs.drafts.with_records.Statement.{statement
 use Rattle.random_rails.proofs.drafts.with_records.Tie as tie
 
 abbrev Inv-loop : tie.InvT-loop
-Inv-loop most m o₀ r₀ o r = r ≤ m
+Inv-loop most m o₀ r₀ o r = (r ≤ m) × (o .length ≤ 1024)
 
 abbrev μ-loop : tie.MeasureT-loop
 μ-loop most m o₀ r₀ o r = m - r

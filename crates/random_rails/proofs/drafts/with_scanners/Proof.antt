@@ -1,11 +1,12 @@
 -- The slot counts are drawn one by one.
 use Prim.Native.Nat.{_≤_, _-_}
+use mathlib.Core.Path.{_≡_}
 use borrow.Author.Needs.{needs}
 use Rattle.random_rails.proofs.drafts.with_scanners.Statement.{statement}
 use Rattle.random_rails.proofs.drafts.with_scanners.Tie as tie
 
 abbrev Inv-loop : tie.InvT-loop
-Inv-loop n most o₀ i₀ o i = i ≤ n
+Inv-loop n most o₀ i₀ o i = (i ≤ n) × (o .length ≡ o₀ .length)
 
 abbrev μ-loop : tie.MeasureT-loop
 μ-loop n most o₀ i₀ o i = n - i

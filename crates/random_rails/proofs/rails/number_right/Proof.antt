@@ -1,7 +1,7 @@
 -- Past the first test there is such a line, so its ends are from 1 on.
+use native.Mathlib.Omega.{arith}
 use borrow.Author.Needs.{needs}
 use borrow.Author.Tests.{not-false}
-use native.Mathlib.Omega.{arith}
 use Rattle.random_rails.proofs.rails.number_right.Statement.{statement}
 use Rattle.random_rails.proofs.rails.number_right.Tie as tie
 

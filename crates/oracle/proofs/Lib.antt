@@ -1,0 +1,3 @@
+pub mod Walks
+pub mod Turns
+pub mod Asking

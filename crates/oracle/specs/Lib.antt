@@ -1,0 +1,5 @@
+pub mod Buffers
+pub mod Bytes
+pub mod Faults
+pub mod Bans
+pub mod Choices
