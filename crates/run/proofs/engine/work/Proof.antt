@@ -9,6 +9,7 @@ use native.Mathlib.Omega.{arith}
 use lib.ListN.{length, getD, length-map}
 use borrow.Author.Needs.{needs}
 use borrow.Author.Tests.{not-true, not-false}
+use Rattle.base.specs.Finite.{at}
 use Rattle.base.proofs.Tests.{both}
 use Rattle.packed.specs.Packed.{assignment}
 use Rattle.agent_rules.specs.Counts.{messagesIn}
@@ -134,6 +135,11 @@ stepped c sent received more handed = steps (finding (c .before .before .before 
 -- .. and so with the counts that it is to have
 raises : (c : tie.After-receive Inv-loop2 μ-loop2 Inv-loop μ-loop) → Stepped (c .before .before .before .before .before .before .before .before .before .before .before .before .before .before .before .before .before .before .loop .o) (c .before .before .before .before .before .before .before .before .before .before .before .before .before .before .before .before .next-visit .result .from) (c .before .before .before .before .before .before .before .before .before .before .before .before .before .before .before .before .next-visit .result .to) (c .before .before .before .before .before .before .before .before .before .place-at .result) (raisedStep (getD (c .before .before .before .before .before .before .before .before .before .before .before .before .before .before .before .before .before .before .loop .o .agents) (c .before .before .before .before .before .before .before .before .before .before .before .before .before .before .before .before .next-visit .result .to - 1) noAgent) (headAt (c .before .before .before .before .before .before .before .before .before .before .before .before .before .before .before .before .before .before .loop .o) (c .before .before .before .before .before .before .before .before .before .place-at .result)) (c .receive .result))
 raises c = stepped c _ _ (raised-by _ _) (raised-by _ _)
+
+-- a line that meets a 10 is passed over for the rest of the round, and no other line of its sender
+passed : (c : tie.After-with-digit2 Inv-loop2 μ-loop2 Inv-loop μ-loop)
+    → assignment (c .with-digit2 .result) ≡ at (assignment (c .before .before .before .before .before .before .before .before .before .before .before .before .before .before .before .before .before .before .before .before .before .before .before .before .next-visit .result .rest)) (c .before .before .before .before .before .before .before .before .before .before .before .before .before .before .before .before .before .before .before .before .before .before .before .before .next-visit .result .to) 0
+passed c = search needs
 
 -- a round counts if nothing was missed
 counted : (c : tie.Joined10 Inv-loop2 μ-loop2 Inv-loop μ-loop) → c .if10 .made ≡ c .before .before .before .before .before .loop .made + oneIf (not (c .before .before .before .before .before .loop .missed))
@@ -394,10 +400,10 @@ with-digit-requires-2 : tie.Need-with-digit-requires-2 Inv-loop2 μ-loop2 Inv-lo
 with-digit-requires-2 c κs = let b = visited (c .before .before .before .before .before .before .before .before .before .before .before .before .before .before .before .before .before .before .before .before .before) in (b .to-low, omega (arith, b .to-high), omega arith)
 
 loop-less-3 : tie.Need-loop-less-3 Inv-loop2 μ-loop2 Inv-loop μ-loop
-loop-less-3 c = let b = visited (c .before .before .before .before .before .before .before .before .before .before .before .before .before .before .before .before .before .before .before .before .before .before) in passed-less _ _ _ (c .before .before .before .before .before .before .before .before .before .before .before .before .before .before .before .before .before .before .before .before .before .before .before .before .next-visit .ensures) (not-true _ (c .before .before .before .before .before .before .before .before .before .before .before .before .before .before .before .before .before .before .before .before .before .before .if4 .taken)) (b .to-low) (omega (arith, b .to-high)) _ (c .with-digit2 .ensures)
+loop-less-3 c = let b = visited (c .before .before .before .before .before .before .before .before .before .before .before .before .before .before .before .before .before .before .before .before .before .before) in passed-less _ _ _ (c .before .before .before .before .before .before .before .before .before .before .before .before .before .before .before .before .before .before .before .before .before .before .before .before .next-visit .ensures) (not-true _ (c .before .before .before .before .before .before .before .before .before .before .before .before .before .before .before .before .before .before .before .before .before .before .if4 .taken)) (b .to-low) (omega (arith, b .to-high)) _ (passed c)
 
 loop-again-3 : tie.Need-loop-again-3 Inv-loop2 μ-loop2 Inv-loop μ-loop
-loop-again-3 c = let q = bars-now (c .before .before .before .before .before .before .before .before .before .before) in stored-jams (c .before .before .before .before .before .before .before .before .before .before .before .before .before .before .before .before .before .before .before .before .before .before .before .before .before .before .loop .inv) (c .before .before .before .before .before .before .before .before .before .before .before .before .before .before .before .before .before .before .before .before .before .before .before .before .next-visit .result) (c .before .before .before .before .before .before .before .before .before .before .before .before .before .before .before .before .before .before .before .before .before .before .before .before .next-visit .ensures) (not-true _ (c .before .before .before .before .before .before .before .before .before .before .before .before .before .before .before .before .before .before .before .before .before .before .if4 .taken)) (c .before .before .before .before .before .before .before .before .before .before .before .before .before .before .before .before .before .before .before .before .before .if5 .left) (c .before .before .before .before .before .before .before .before .before .before .if6 .bars) (c .before .before .before .before .before .before .before .before .before .before .if6 .ready) (q .0) (q .1) (raises (c .before .before .before .before .before .before .before .before)) (recast _ _ (c .before .before .before .before .loop2 .inv)) (c .before .if9 .left) (c .with-digit2 .ensures)
+loop-again-3 c = let q = bars-now (c .before .before .before .before .before .before .before .before .before .before) in stored-jams (c .before .before .before .before .before .before .before .before .before .before .before .before .before .before .before .before .before .before .before .before .before .before .before .before .before .before .loop .inv) (c .before .before .before .before .before .before .before .before .before .before .before .before .before .before .before .before .before .before .before .before .before .before .before .before .next-visit .result) (c .before .before .before .before .before .before .before .before .before .before .before .before .before .before .before .before .before .before .before .before .before .before .before .before .next-visit .ensures) (not-true _ (c .before .before .before .before .before .before .before .before .before .before .before .before .before .before .before .before .before .before .before .before .before .before .if4 .taken)) (c .before .before .before .before .before .before .before .before .before .before .before .before .before .before .before .before .before .before .before .before .before .if5 .left) (c .before .before .before .before .before .before .before .before .before .before .if6 .bars) (c .before .before .before .before .before .before .before .before .before .before .if6 .ready) (q .0) (q .1) (raises (c .before .before .before .before .before .before .before .before)) (recast _ _ (c .before .before .before .before .loop2 .inv)) (c .before .if9 .left) (passed c)
 
 add-made : tie.Need-add-made Inv-loop2 μ-loop2 Inv-loop μ-loop
 add-made c = let f = c .before .before .before .before .before .loop .inv .few in search needs
