@@ -1,4 +1,7 @@
 // What a line asks for, by the first two letters of its word and how many numbers it has.
+ghost use mathlib.Core.Path.{_≡_};
+ghost use mathlib.Core.List.{[], _∷_};
+ghost use Rattle.cases.specs.Kinds.{pick, kindByS, kindByR, kindByD, kindBy, leastNumbers, mostNumbers, kindOf};
 
 // Checks, which are tallied, and the failures.
 pub const CASE: usize = 0;
@@ -61,8 +64,17 @@ pub const RAW: usize = 26;
 
 pub const SEASON: usize = 27;
 
+// One of two kinds, by whether a letter is this one.
+fn kind_if(b: u8, letter: u8, kind: usize, other: usize) -> usize
+    ensures { λ r. ⌜ r ≡ pick b ((letter, kind) ∷ []) other ⌝ }
+{
+    if b == letter { kind } else { other }
+}
+
 // The kind of a line whose word begins with s and then this letter.
-fn kind_by_second(b: u8) -> usize {
+fn kind_by_s(b: u8) -> usize
+    ensures { λ r. ⌜ r ≡ kindByS b ⌝ }
+{
     match b {
         b'l' => SLOTS,
         b't' => START,
@@ -73,7 +85,9 @@ fn kind_by_second(b: u8) -> usize {
 }
 
 // The kind of a line whose word begins with r and then this letter.
-fn kind_by_r(b: u8) -> usize {
+fn kind_by_r(b: u8) -> usize
+    ensures { λ r. ⌜ r ≡ kindByR b ⌝ }
+{
     match b {
         b'u' => RUN,
         b'a' => RAW,
@@ -82,7 +96,9 @@ fn kind_by_r(b: u8) -> usize {
 }
 
 // The kind of a line whose word begins with d and then this letter.
-fn kind_by_d(b: u8) -> usize {
+fn kind_by_d(b: u8) -> usize
+    ensures { λ r. ⌜ r ≡ kindByD b ⌝ }
+{
     match b {
         b'o' => DOCK,
         b'i' => DIFFERS,
@@ -91,54 +107,79 @@ fn kind_by_d(b: u8) -> usize {
 }
 
 // The kind of a line whose word begins with the letters a and b.
-fn kind_by(a: u8, b: u8) -> usize {
+fn kind_by(a: u8, b: u8) -> usize
+    ensures { λ r. ⌜ r ≡ kindBy a b ⌝ }
+{
     match a {
-        b'a' => if b == b'd' { ADD } else { ALL },
+        b'a' => kind_if(b, b'd', ADD, ALL),
         b'c' => CASE,
-        b's' => kind_by_second(b),
-        b'b' => if b == b'o' { BOARD } else { BAN },
-        b'e' => if b == b'n' { END } else { EACH },
+        b's' => kind_by_s(b),
+        b'b' => kind_if(b, b'o', BOARD, BAN),
+        b'e' => kind_if(b, b'n', END, EACH),
         b'h' => HEX,
         b'z' => ZEROS,
         b'r' => kind_by_r(b),
         b'k' => KEEP,
         b't' => TAKEN,
         b'd' => kind_by_d(b),
-        b'l' => if b == b'a' { LAST } else { LINE },
+        b'l' => kind_if(b, b'a', LAST, LINE),
         b'w' => WORD,
         b'o' => OPTION,
         _ => UNKNOWN,
     }
 }
 
-// A line of this kind can have so many numbers.
-fn numbers_fit(kind: usize, numbers: usize) -> bool {
+// So many numbers a line of this kind has at least.
+fn least_numbers(kind: usize) -> usize
+    ensures { λ r. ⌜ r ≡ leastNumbers kind ⌝ }
+{
     match kind {
-        START => numbers <= 1,
-        REFUSED => numbers == 1 || numbers == 2,
-        RUN => numbers == 1 || numbers == 2,
-        DELIVER => numbers == 2 || numbers == 3,
-        LINE => numbers == 3 || numbers == 4,
-        BAN => numbers == 4,
-        EACH => numbers == 5,
-        ZEROS => numbers == 1,
-        DOCK => numbers == 1,
-        BOARD => numbers <= 1,
-        TAKEN => numbers <= 12,
-        LAST => numbers <= 12,
-        SLOTS => numbers <= 12,
-        _ => true,
+        REFUSED => 1,
+        RUN => 1,
+        DELIVER => 2,
+        LINE => 3,
+        BAN => 4,
+        EACH => 5,
+        ZEROS => 1,
+        DOCK => 1,
+        _ => 0,
     }
 }
 
-pub fn kind_of(line: &[u8], numbers: usize) -> usize {
+// And so many at most.
+fn most_numbers(kind: usize) -> usize
+    ensures { λ r. ⌜ r ≡ mostNumbers kind ⌝ }
+{
+    match kind {
+        START => 1,
+        REFUSED => 2,
+        RUN => 2,
+        DELIVER => 3,
+        LINE => 4,
+        BAN => 4,
+        EACH => 5,
+        ZEROS => 1,
+        DOCK => 1,
+        BOARD => 1,
+        TAKEN => 12,
+        LAST => 12,
+        SLOTS => 12,
+        _ => 16,
+    }
+}
+
+pub fn kind_of(line: &[u8], numbers: usize) -> usize
+    ensures { λ r. ⌜ r ≡ kindOf (now (line .entry)) numbers ⌝ }
+{
     if line.len() < 2 {
         return EMPTY;
     }
     let kind = kind_by(line[0], line[1]);
-    if numbers_fit(kind, numbers) {
-        kind
-    } else {
-        UNKNOWN
+    if numbers < least_numbers(kind) {
+        return UNKNOWN;
     }
+    if most_numbers(kind) < numbers {
+        return UNKNOWN;
+    }
+    kind
 }

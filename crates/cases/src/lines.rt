@@ -1,19 +1,19 @@
 // A line of the cases: where it ends, how it begins, and the numbers in it.
 ghost use mathlib.Core.Path.{_≡_};
-ghost use Prim.Native.Nat.{_+_, _%_, _≤_, _<_, min};
-ghost use lib.ListN.{length, getD};
+ghost use Prim.Native.Nat.{_+_, _≤_, _<_, min};
+ghost use lib.ListN.{length, drop};
+ghost use Rattle.cases.specs.Lines.{endFrom, isDigit, withDigit, valueFrom, numberBegins, withNumber, numbersIn, smallOf};
 
 // The numbers of a line, in order, at most 16; the places beyond `count` are zero.
 pub struct Numbers {
     pub count: usize,
     pub values: [u64; 16],
-    pub inside: bool,
 }
 
 // The end of the line that begins at `from`: its line feed, or the end of the text.
 pub fn line_end(text: &[u8], from: usize) -> usize
     requires { ⌜ from ≤ length (now text) ⌝ }
-    ensures { λ r. ⌜ (from ≤ r) × (r ≤ length (now (text .entry))) ⌝ }
+    ensures { λ r. ⌜ (from ≤ r) × (r ≤ length (now (text .entry))) × (r ≡ endFrom from (drop from (now (text .entry)))) ⌝ }
 {
     let mut i = from;
     while i < text.len() {
@@ -32,56 +32,78 @@ pub fn next_line(end: usize, bytes: usize) -> usize
     if end < bytes { end + 1 } else { bytes }
 }
 
-// A number begins. Numbers beyond the sixteenth go on with that one.
-fn begun(n: Numbers) -> Numbers {
-    let mut o = n;
-    o.inside = true;
-    if n.count < 16 {
-        o.count = n.count + 1;
-    }
-    o
-}
-
-// The number under way has one digit more. It is cut at eleven digits.
-fn with_digit(n: Numbers, digit: u64) -> Numbers
-    requires { ⌜ digit < 10 ⌝ }
+// '0' to '9'.
+pub fn is_digit(b: u8) -> bool
+    ensures { λ r. ⌜ r ≡ isDigit b ⌝ }
 {
-    let mut o = n;
+    if b < b'0' {
+        return false;
+    }
+    b <= b'9'
+}
+
+// A number with one digit more; the last eleven digits count.
+fn with_digit(value: u64, b: u8) -> u64
+    requires { ⌜ (48 ≤ b) × (b ≤ 57) ⌝ }
+    ensures { λ r. ⌜ r ≡ withDigit value b ⌝ }
+{
+    value % 10000000000 * 10 + (b - b'0') as u64
+}
+
+// The number that the digits from byte `from` on say.
+fn number_at(line: &[u8], from: usize) -> u64
+    requires { ⌜ from ≤ length (now line) ⌝ }
+    ensures { λ r. ⌜ r ≡ valueFrom 0 (drop from (now (line .entry))) ⌝ }
+{
+    let mut value: u64 = 0;
+    let mut i = from;
+    while i < line.len() {
+        let b = line[i];
+        if !is_digit(b) {
+            return value;
+        }
+        value = with_digit(value, b);
+        i += 1;
+    }
+    value
+}
+
+// A digit, and no digit before it.
+fn begins(before: u8, b: u8) -> bool
+    ensures { λ r. ⌜ r ≡ numberBegins before b ⌝ }
+{
+    is_digit(b) & !is_digit(before)
+}
+
+// One number more, if there is room.
+fn with_number(n: Numbers, value: u64) -> Numbers
+    ensures { λ r. ⌜ r ≡ withNumber value n ⌝ }
+{
     let k = n.count;
-    if k == 0 {
-        return o;
+    if 16 <= k {
+        return n;
     }
-    if 16 < k {
-        return o;
-    }
-    let so_far = n.values[k - 1];
-    o.values[k - 1] = so_far % 10000000000 * 10 + digit;
+    let mut o = n;
+    o.count = k + 1;
+    o.values[k] = value;
     o
 }
 
-// One byte more: a digit begins a number or goes on with one, anything else ends it.
-fn with_byte(n: Numbers, b: u8) -> Numbers {
-    if b < b'0' || b'9' < b {
-        let mut o = n;
-        o.inside = false;
-        return o;
-    }
-    let digit = (b % 16 % 10) as u64;
-    if n.inside {
-        return with_digit(n, digit);
-    }
-    with_digit(begun(n), digit)
-}
-
-pub fn numbers_in(line: &[u8]) -> Numbers {
+pub fn numbers_in(line: &[u8]) -> Numbers
+    ensures { λ r. ⌜ r ≡ numbersIn (now (line .entry)) ⌝ }
+{
     let mut n = Numbers {
         count: 0,
         values: [0u64; 16],
-        inside: false,
     };
+    let mut before = b' ';
     let mut i: usize = 0;
     while i < line.len() {
-        n = with_byte(n, line[i]);
+        let b = line[i];
+        if begins(before, b) {
+            n = with_number(n, number_at(line, i));
+        }
+        before = b;
         i += 1;
     }
     n
@@ -90,7 +112,7 @@ pub fn numbers_in(line: &[u8]) -> Numbers {
 // Number k of a line, as a byte.
 pub fn small(n: Numbers, k: usize) -> u8
     requires { ⌜ k < 16 ⌝ }
-    ensures { λ b. ⌜ b ≡ getD (n .values) k 0 % 256 ⌝ }
+    ensures { λ b. ⌜ b ≡ smallOf n k ⌝ }
 {
     (n.values[k] % 256) as u8
 }

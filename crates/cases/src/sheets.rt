@@ -1,6 +1,23 @@
 // A sheet under hand, built record by record or byte by byte.
 ghost use mathlib.Core.Path.{_≡_};
-ghost use lib.ListN.{replicate};
+ghost use mathlib.Core.List.{[], _∷_};
+ghost use Prim.Native.Nat.{suc, _-_, _≤_, _<_};
+ghost use Rattle.cases.specs.Sheets.{
+  blankSheet,
+  twoAt,
+  withZeros,
+  withByte,
+  withBytes,
+  hexDigit,
+  hexAfter,
+  withHex,
+  slotsSheet,
+  linkBefore,
+  indexAt,
+  withBan,
+  withBans,
+  builtBy,
+};
 use crate::kinds::BAN;
 use crate::kinds::CASE;
 use crate::kinds::EACH;
@@ -8,6 +25,7 @@ use crate::kinds::HEX;
 use crate::kinds::SLOTS;
 use crate::kinds::ZEROS;
 use crate::lines::Numbers;
+use crate::lines::is_digit;
 use crate::lines::small;
 
 // The first `length` bytes; those beyond are zero.
@@ -17,7 +35,7 @@ pub struct Sheet {
 }
 
 pub fn blank() -> Sheet
-    ensures { λ s. ⌜ (s .length ≡ 0) × (s .bytes ≡ replicate 33824 0) ⌝ }
+    ensures { λ s. ⌜ s ≡ blankSheet ⌝ }
 {
     Sheet {
         bytes: [0u8; 33824],
@@ -25,66 +43,152 @@ pub fn blank() -> Sheet
     }
 }
 
-// One more byte, if there is room.
-fn with_byte(s: Sheet, b: u8) -> Sheet {
-    let n = s.length;
-    let mut o = s;
-    if n < 33824 {
-        o.bytes[n] = b;
-        o.length = n + 1;
-    }
-    o
-}
-
 // So many zeros more, if there is room.
-fn with_zeros(s: Sheet, more: usize) -> Sheet {
-    let mut o = s;
+fn with_zeros(s: Sheet, more: usize) -> Sheet
+    ensures { λ r. ⌜ r ≡ withZeros more s ⌝ }
+{
+    let n = s.length;
     if 33824 < more {
-        return o;
+        return s;
     }
-    if s.length <= 33824 - more {
-        o.length = s.length + more;
+    if 33824 - more < n {
+        return s;
+    }
+    let mut o = s;
+    o.length = n + more;
+    o
+}
+
+// ---- a line of hexadecimal digits
+
+// One byte more, if there is room.
+fn with_byte(s: Sheet, b: u8) -> Sheet
+    ensures { λ r. ⌜ r ≡ withByte b s ⌝ }
+{
+    let n = s.length;
+    if 33824 <= n {
+        return s;
+    }
+    let mut o = s;
+    o.bytes[n] = b;
+    o.length = n + 1;
+    o
+}
+
+// The value of a hexadecimal digit, and 16 for any other byte.
+fn hex_digit(b: u8) -> u8
+    ensures { λ r. ⌜ r ≡ hexDigit b ⌝ }
+{
+    if is_digit(b) {
+        return b - b'0';
+    }
+    if b < b'a' {
+        return 16;
+    }
+    if b'f' < b {
+        return 16;
+    }
+    b - b'a' + 10
+}
+
+// One byte more where two digits stand side by side.
+fn with_pair(s: Sheet, high: u8, low: u8) -> Sheet
+    ensures { λ r. ⌜ r ≡ withBytes (hexAfter high (low ∷ [])) s ⌝ }
+{
+    let h = hex_digit(high);
+    let l = hex_digit(low);
+    if 16 <= h {
+        return s;
+    }
+    if 16 <= l {
+        return s;
+    }
+    with_byte(s, 16 * h + l)
+}
+
+// The bytes that a line gives as pairs of hexadecimal digits, with a blank between them.
+fn with_hex(s: Sheet, line: &[u8]) -> Sheet
+    ensures { λ r. ⌜ r ≡ withHex (now (line .entry)) s ⌝ }
+{
+    let mut o = s;
+    let mut before = b' ';
+    let mut i: usize = 0;
+    while i < line.len() {
+        let b = line[i];
+        o = with_pair(o, before, b);
+        before = b;
+        i += 1;
     }
     o
 }
 
-// Two bytes, little-endian.
-fn with_word(s: Sheet, at: usize, word: usize) -> Sheet {
-    let mut o = s;
-    if at < 33823 {
-        o.bytes[at] = (word % 256) as u8;
-        o.bytes[at + 1] = (word / 256 % 256) as u8;
-    }
-    o
-}
+// ---- a line of slot counts
 
 // The header for these slot counts, with no record.
-fn with_slots(n: Numbers) -> Sheet {
-    let mut s = with_byte(with_byte(blank(), (n.count % 256) as u8), 1);
-    s = with_zeros(s, 6);
+fn with_slots(n: Numbers) -> Sheet
+    ensures { λ r. ⌜ r ≡ slotsSheet n ⌝ }
+{
+    let mut o = blank();
+    o.bytes[0] = (n.count % 256) as u8;
+    o.bytes[1] = 1;
+    o.length = 24;
     for i in 0..12 {
-        s = with_byte(s, (n.values[i] % 256) as u8);
+        o.bytes[8 + i] = (n.values[i] % 256) as u8;
     }
-    with_zeros(s, 4)
+    o
 }
 
-// One more record, at the end of the chain: slot v of scanner i with slot w of scanner j. The index of the last record's successor stands at its fifth
-// byte, that of the first record at byte 2 of the header, the record count at byte 4.
-fn with_ban(s: Sheet, i: u8, v: u8, j: u8, w: u8) -> Sheet {
+// ---- a line of one ban, or of a scanner's slots that are banned
+
+// Two bytes side by side.
+fn with_two(s: Sheet, k: usize, a: u8, b: u8) -> Sheet
+    requires { ⌜ k < 33823 ⌝ }
+    ensures { λ r. ⌜ r ≡ twoAt k a b s ⌝ }
+{
+    let mut o = s;
+    o.bytes[k] = a;
+    o.bytes[k + 1] = b;
+    o
+}
+
+// An index or a count, little-endian.
+fn with_index(s: Sheet, k: usize, index: usize) -> Sheet
+    requires { ⌜ k < 33823 ⌝ }
+    ensures { λ r. ⌜ r ≡ indexAt k index s ⌝ }
+{
+    with_two(s, k, (index % 256) as u8, (index / 256 % 256) as u8)
+}
+
+// Where the index of the record behind the last one stands: in the header, and from record 1 on at a record's fifth byte.
+fn link_before(index: usize, length: usize) -> usize
+    requires { ⌜ 4 ≤ length ⌝ }
+    ensures { λ r. ⌜ r ≡ linkBefore index length ⌝ }
+{
+    if index == 1 { 2 } else { length - 4 }
+}
+
+// One record more at the end of the chain, if there is room: slot v of scanner i with slot w of scanner j.
+fn with_ban(s: Sheet, i: u8, v: u8, j: u8, w: u8) -> Sheet
+    ensures { λ r. ⌜ r ≡ withBan i v j w s ⌝ }
+{
     let n = s.length;
     if n < 24 {
         return s;
     }
-    let record = n / 8 - 2;
-    let last = if record == 1 { 2 } else { n - 4 };
-    let mut o = with_word(with_word(s, last, record), 4, record);
-    o = with_byte(with_byte(o, i), j);
-    o = with_byte(with_byte(o, v), w);
-    with_zeros(o, 4)
+    if 33816 < n {
+        return s;
+    }
+    let index = n / 8 - 2;
+    let linked = with_index(with_index(s, link_before(index, n), index), 4, index);
+    let mut o = with_two(with_two(linked, n, i, j), n + 2, v, w);
+    o.length = n + 8;
+    o
 }
 
 // A record for each slot of scanner i from `first` to `last`.
-fn with_bans(s: Sheet, i: u8, first: u8, last: u8, j: u8, w: u8) -> Sheet {
+fn with_bans(s: Sheet, i: u8, first: u8, last: u8, j: u8, w: u8) -> Sheet
+    ensures { λ r. ⌜ r ≡ withBans (suc last - first) i first j w s ⌝ }
+{
     let mut o = s;
     for v in first..=last {
         o = with_ban(o, i, v, j, w);
@@ -92,42 +196,12 @@ fn with_bans(s: Sheet, i: u8, first: u8, last: u8, j: u8, w: u8) -> Sheet {
     o
 }
 
-// The value of a hexadecimal digit, and 16 for any other byte.
-fn hex_digit(b: u8) -> u8 {
-    if b >= b'0' && b <= b'9' {
-        return b - b'0';
-    }
-    if b >= b'a' && b <= b'f' {
-        return b - b'a' + 10;
-    }
-    16
-}
+// ---- all lines that build
 
-// One more byte where two digits stand side by side.
-fn with_pair(s: Sheet, high: u8, low: u8) -> Sheet {
-    let h = hex_digit(high);
-    let l = hex_digit(low);
-    if h < 16 {
-        if l < 16 {
-            return with_byte(s, 16 * h + l);
-        }
-    }
-    s
-}
-
-// The bytes that a line gives as pairs of hexadecimal digits, with a blank between them.
-fn with_hex(s: Sheet, line: &[u8]) -> Sheet {
-    let mut o = s;
-    let mut i: usize = 1;
-    while i < line.len() {
-        o = with_pair(o, line[i - 1], line[i]);
-        i += 1;
-    }
-    o
-}
-
-// The sheet after a line that builds it; a case begins with a blank one.
-pub fn built(s: Sheet, kind: usize, n: Numbers, line: &[u8]) -> Sheet {
+// The sheet after a line; a case begins with a blank one.
+pub fn built(s: Sheet, kind: usize, n: Numbers, line: &[u8]) -> Sheet
+    ensures { λ r. ⌜ r ≡ builtBy s kind n (now (line .entry)) ⌝ }
+{
     match kind {
         CASE => blank(),
         SLOTS => with_slots(n),

@@ -8,6 +8,7 @@ use native.Mathlib.Omega.{arith}
 use lib.ListN.{length, getD, length-map}
 use borrow.Author.Needs.{needs}
 use borrow.Author.Tests.{not-true, not-false}
+use Rattle.base.specs.Finite.{at}
 use Rattle.base.proofs.Tests.{both}
 use Rattle.packed.specs.Packed.{assignment}
 use Rattle.agent.specs.Posting.{postsLeft}
@@ -120,6 +121,11 @@ bars-now c = bars-ready (c .before .before .before .before .before .before .befo
 -- the receiver has made its step
 stepped : (c : tie.After-receive Inv-loop2 μ-loop2 Inv-loop μ-loop) → Stepped (c .before .before .before .before .before .before .before .before .before .before .before .before .before .before .before .before .before .before .loop .o) (c .before .before .before .before .before .before .before .before .before .before .before .before .before .before .before .before .next-visit .result .from) (c .before .before .before .before .before .before .before .before .before .before .before .before .before .before .before .before .next-visit .result .to) (c .before .before .before .before .before .before .before .before .before .place-at .result) (c .receive .result)
 stepped c = steps (finding (c .before .before .before .before .before .before .before .before .before)) noAgent _ _ (c .before .before .before .before .before .before .words-before .result) (alive (c .before .before .before .before .before .before .before .before .before .before .before .before .before .before) .owned) (alive (c .before .before .before .before .before .before .before .before .before .before .before .before .before .before) .table) (c .before .before .before .before .before .before .words-before .ensures .0) (c .receive .result) (c .receive .ensures)
+
+-- a line that meets a 10 is passed over for the rest of the round, and no other line of its sender
+passed : (c : tie.After-with-digit2 Inv-loop2 μ-loop2 Inv-loop μ-loop)
+    → assignment (c .with-digit2 .result) ≡ at (assignment (c .before .before .before .before .before .before .before .before .before .before .before .before .before .before .before .before .before .before .before .before .before .before .before .before .next-visit .result .rest)) (c .before .before .before .before .before .before .before .before .before .before .before .before .before .before .before .before .before .before .before .before .before .before .before .before .next-visit .result .to) 0
+passed c = search needs
 
 -- a round counts if nothing was missed
 counted : (c : tie.Joined10 Inv-loop2 μ-loop2 Inv-loop μ-loop) → c .if10 .made ≡ c .before .before .before .before .before .loop .made + oneIf (not (c .before .before .before .before .before .loop .missed))
@@ -368,10 +374,10 @@ with-digit-requires-2 : tie.Need-with-digit-requires-2 Inv-loop2 μ-loop2 Inv-lo
 with-digit-requires-2 c κs = let b = visited (c .before .before .before .before .before .before .before .before .before .before .before .before .before .before .before .before .before .before .before .before .before) in (b .to-low, omega (arith, b .to-high), omega arith)
 
 loop-less-3 : tie.Need-loop-less-3 Inv-loop2 μ-loop2 Inv-loop μ-loop
-loop-less-3 c = let b = visited (c .before .before .before .before .before .before .before .before .before .before .before .before .before .before .before .before .before .before .before .before .before .before) in passed-less _ _ _ (c .before .before .before .before .before .before .before .before .before .before .before .before .before .before .before .before .before .before .before .before .before .before .before .before .next-visit .ensures) (not-true _ (c .before .before .before .before .before .before .before .before .before .before .before .before .before .before .before .before .before .before .before .before .before .before .if4 .taken)) (b .to-low) (omega (arith, b .to-high)) _ (c .with-digit2 .ensures)
+loop-less-3 c = let b = visited (c .before .before .before .before .before .before .before .before .before .before .before .before .before .before .before .before .before .before .before .before .before .before) in passed-less _ _ _ (c .before .before .before .before .before .before .before .before .before .before .before .before .before .before .before .before .before .before .before .before .before .before .before .before .next-visit .ensures) (not-true _ (c .before .before .before .before .before .before .before .before .before .before .before .before .before .before .before .before .before .before .before .before .before .before .if4 .taken)) (b .to-low) (omega (arith, b .to-high)) _ (passed c)
 
 loop-again-3 : tie.Need-loop-again-3 Inv-loop2 μ-loop2 Inv-loop μ-loop
-loop-again-3 c = let q = bars-now (c .before .before .before .before .before .before .before .before .before .before) in stored-jams (c .before .before .before .before .before .before .before .before .before .before .before .before .before .before .before .before .before .before .before .before .before .before .before .before .before .before .loop .inv) (c .before .before .before .before .before .before .before .before .before .before .before .before .before .before .before .before .before .before .before .before .before .before .before .before .next-visit .result) (c .before .before .before .before .before .before .before .before .before .before .before .before .before .before .before .before .before .before .before .before .before .before .before .before .next-visit .ensures) (not-true _ (c .before .before .before .before .before .before .before .before .before .before .before .before .before .before .before .before .before .before .before .before .before .before .if4 .taken)) (c .before .before .before .before .before .before .before .before .before .before .before .before .before .before .before .before .before .before .before .before .before .if5 .left) (c .before .before .before .before .before .before .before .before .before .before .if6 .bars) (c .before .before .before .before .before .before .before .before .before .before .if6 .ready) (q .0) (q .1) (stepped (c .before .before .before .before .before .before .before .before)) (c .before .before .before .before .loop2 .inv) (c .before .if9 .left) (c .with-digit2 .ensures)
+loop-again-3 c = let q = bars-now (c .before .before .before .before .before .before .before .before .before .before) in stored-jams (c .before .before .before .before .before .before .before .before .before .before .before .before .before .before .before .before .before .before .before .before .before .before .before .before .before .before .loop .inv) (c .before .before .before .before .before .before .before .before .before .before .before .before .before .before .before .before .before .before .before .before .before .before .before .before .next-visit .result) (c .before .before .before .before .before .before .before .before .before .before .before .before .before .before .before .before .before .before .before .before .before .before .before .before .next-visit .ensures) (not-true _ (c .before .before .before .before .before .before .before .before .before .before .before .before .before .before .before .before .before .before .before .before .before .before .if4 .taken)) (c .before .before .before .before .before .before .before .before .before .before .before .before .before .before .before .before .before .before .before .before .before .if5 .left) (c .before .before .before .before .before .before .before .before .before .before .if6 .bars) (c .before .before .before .before .before .before .before .before .before .before .if6 .ready) (q .0) (q .1) (stepped (c .before .before .before .before .before .before .before .before)) (c .before .before .before .before .loop2 .inv) (c .before .if9 .left) (passed c)
 
 add-made : tie.Need-add-made Inv-loop2 μ-loop2 Inv-loop μ-loop
 add-made c = let f = c .before .before .before .before .before .loop .inv .few in search needs

@@ -15,7 +15,7 @@ last-fault-requires c κs = search needs
 
 returns : tie.Need-returns
 unfolding untouched writtenOf
-returns c = answers-fault _ _ _ _ _ (c .before .before .before .last-fault .ensures) _ refl (c .if1 .taken) refl refl
+returns c = answers-fault _ _ _ _ _ (c .before .before .before .last-fault .ensures) _ refl (c .if1 .taken) refl (search needs)
 
 edition-of-requires : tie.Need-edition-of-requires
 edition-of-requires c κs = search needs

@@ -1,24 +1,35 @@
--- The bytes of a line are read one by one.
-use Prim.Native.Nat.{_≤_, _-_}
-use lib.ListN.{length}
+-- The numbers in a line. Invariant: those kept so far, with those in the bytes left, come to the same.
+use Prim.Native.Nat.{_-_, _≤_}
+use mathlib.Core.Path.{_≡_, refl, sym, _∙_}
+use mathlib.Core.Logic.{⊎-elim}
+use lib.ListN.{length, drop}
+use Rattle.cases.specs.Lines.{numbersAfter, noNumbers, withNumbers, numbersIn}
+use Rattle.cases.proofs.Reading.{none-left, number-more, no-number, all-numbers}
 use borrow.Author.Needs.{needs}
 use Rattle.cases.proofs.lines.numbers_in.Statement.{statement}
 use Rattle.cases.proofs.lines.numbers_in.Tie as tie
 
 abbrev Inv-loop : tie.InvT-loop
-Inv-loop line n₀ i₀ n i = i ≤ length line
+Inv-loop line n₀ before₀ i₀ n before i = (i ≤ length line) × (withNumbers (numbersAfter 32 line) noNumbers ≡ withNumbers (numbersAfter before (drop i line)) n)
 
 abbrev μ-loop : tie.MeasureT-loop
-μ-loop line n₀ i₀ n i = length line - i
+μ-loop line n₀ before₀ i₀ n before i = length line - i
 
 loop-holds : tie.Need-loop-holds Inv-loop μ-loop
-loop-holds c = search needs
+unfolding noNumbers
+loop-holds c = (search needs, refl)
 
-shared-slice-read-with-byte : tie.Need-shared-slice-read-with-byte Inv-loop μ-loop
-shared-slice-read-with-byte c = search needs
+shared-slice-read-b : tie.Need-shared-slice-read-b Inv-loop μ-loop
+shared-slice-read-b c = search needs
 
-with-byte-requires : tie.Need-with-byte-requires Inv-loop μ-loop
-with-byte-requires c κs = search needs
+begins-requires : tie.Need-begins-requires Inv-loop μ-loop
+begins-requires c κs = search needs
+
+number-at-requires : tie.Need-number-at-requires Inv-loop μ-loop
+number-at-requires c κs = search needs
+
+with-number-requires : tie.Need-with-number-requires Inv-loop μ-loop
+with-number-requires c κs = search needs
 
 add-i : tie.Need-add-i Inv-loop μ-loop
 add-i c = search needs
@@ -27,10 +38,22 @@ loop-less : tie.Need-loop-less Inv-loop μ-loop
 loop-less c = search needs
 
 loop-again : tie.Need-loop-again Inv-loop μ-loop
-loop-again c = search needs
+loop-again c =
+    let l = c .before .before .before .before .loop in
+    let t = c .before .before .before .loop-test .taken in
+    let b = c .before .begins .ensures in (
+      search needs,
+      ⊎-elim
+          (λ w. rw (w .3, w .2 .ensures, w .1 .ensures) (l .inv .1 ∙ number-more _ _ t (l .before) (l .n) (sym b ∙ w .0 .taken)))
+          (λ w. rw (w .1) (l .inv .1 ∙ no-number _ _ t (l .before) (l .n) (sym b ∙ w .0 .left)))
+          (c .if1 .came),
+    )
 
 returns : tie.Need-returns Inv-loop μ-loop
-returns c = search needs
+unfolding numbersIn
+returns c =
+    let l = c .before .loop in
+    sym (l .inv .1 ∙ all-numbers _ _ _ (none-left _ _ (l .inv .0) (c .loop-test .left)))
 
 pub numbers-in-spec : {M : Type 1} → statement M
 numbers-in-spec =
@@ -39,8 +62,10 @@ numbers-in-spec =
     Inv-loop
     μ-loop
     loop-holds
-    shared-slice-read-with-byte
-    with-byte-requires
+    shared-slice-read-b
+    begins-requires
+    number-at-requires
+    with-number-requires
     add-i
     loop-less
     loop-again

@@ -1,27 +1,25 @@
--- Each byte of the line is looked at with the one before it.
-use Prim.Native.Nat.{_≤_, _-_}
-use lib.ListN.{length}
+-- The bytes that a line gives. Invariant: what is there so far, with what the letters left give, comes to the same.
+use Prim.Native.Nat.{_-_, _≤_}
+use mathlib.Core.Path.{_≡_, refl, sym, _∙_}
+use lib.ListN.{length, drop}
+use Rattle.cases.specs.Sheets.{withBytes, hexAfter, withHex}
+use Rattle.cases.proofs.Reading.{none-left}
+use Rattle.cases.proofs.Building.{hex-goes, hex-ends}
 use borrow.Author.Needs.{needs}
 use Rattle.cases.proofs.sheets.with_hex.Statement.{statement}
 use Rattle.cases.proofs.sheets.with_hex.Tie as tie
 
 abbrev Inv-loop : tie.InvT-loop
-Inv-loop line o₀ i₀ o i = 1 ≤ i
+Inv-loop line o₀ before₀ i₀ o before i = (i ≤ length line) × (withBytes (hexAfter 32 line) o₀ ≡ withBytes (hexAfter before (drop i line)) o)
 
 abbrev μ-loop : tie.MeasureT-loop
-μ-loop line o₀ i₀ o i = length line - i
+μ-loop line o₀ before₀ i₀ o before i = length line - i
 
 loop-holds : tie.Need-loop-holds Inv-loop μ-loop
-loop-holds c = search needs
+loop-holds c = (search needs, refl)
 
-sub-with-pair : tie.Need-sub-with-pair Inv-loop μ-loop
-sub-with-pair c = search needs
-
-shared-slice-read-with-pair : tie.Need-shared-slice-read-with-pair Inv-loop μ-loop
-shared-slice-read-with-pair c = search needs
-
-shared-slice-read-with-pair-2 : tie.Need-shared-slice-read-with-pair-2 Inv-loop μ-loop
-shared-slice-read-with-pair-2 c = search needs
+shared-slice-read-b : tie.Need-shared-slice-read-b Inv-loop μ-loop
+shared-slice-read-b c = search needs
 
 with-pair-requires : tie.Need-with-pair-requires Inv-loop μ-loop
 with-pair-requires c κs = search needs
@@ -33,10 +31,15 @@ loop-less : tie.Need-loop-less Inv-loop μ-loop
 loop-less c = search needs
 
 loop-again : tie.Need-loop-again Inv-loop μ-loop
-loop-again c = search needs
+loop-again c =
+    let l = c .before .before .before .loop in
+    (search needs, rw (c .with-pair .ensures) (l .inv .1 ∙ hex-goes _ _ (l .before) (l .o) (c .before .before .loop-test .taken)))
 
 returns : tie.Need-returns Inv-loop μ-loop
-returns c = search needs
+unfolding withHex
+returns c =
+    let l = c .before .loop in
+    sym (l .inv .1 ∙ hex-ends (l .before) _ (l .o) (none-left _ _ (l .inv .0) (c .loop-test .left)))
 
 pub with-hex-spec : {M : Type 1} → statement M
 with-hex-spec =
@@ -45,9 +48,7 @@ with-hex-spec =
     Inv-loop
     μ-loop
     loop-holds
-    sub-with-pair
-    shared-slice-read-with-pair
-    shared-slice-read-with-pair-2
+    shared-slice-read-b
     with-pair-requires
     add-i
     loop-less

@@ -1,0 +1,3 @@
+mod Tables
+mod Reading
+mod Building
