@@ -5,7 +5,7 @@ ghost use lib.ListN.{length};
 use lent::Written;
 use libc::STDERR_FILENO;
 use libc::STDIN_FILENO;
-use scribe_reader::drafts::Fault;
+use scribe_drafts::Fault;
 use scribe_reader::read_sheet;
 use scribe_reader::telling::fault_text;
 use scribe_writer::write_text;

@@ -15,10 +15,10 @@ use Rattle.problem.specs.Writing.{written}
 use Rattle.sheet_writer.specs.Rows.{rowsIn}
 use Rattle.scribe_rules.specs.Drafts.{begun, noDraft}
 use Rattle.scribe_rules.specs.Reading.{longestText, Outcome, Faulty, editionOf, sheetFrom, atEnd, readFrom, sheetOf}
-use Rattle.scribe_reader.specs.declared.drafts.Fault.{Fault}
+use Rattle.scribe_drafts.specs.declared.Fault.{Fault}
 use Rattle.scribe_reader.specs.declared.lines.Walk.{Walk}
 use Rattle.scribe_reader.specs.declared.Read.{Read}
-use Rattle.scribe_reader.specs.Drafting.{faults, faultOf, problemIn, draftOf, draftIn}
+use Rattle.scribe_drafts.specs.Drafting.{faults, faultOf, problemIn, draftOf, draftIn}
 use Rattle.scribe_reader.specs.Walking.{Walks, endOf, due, readOf}
 use Rattle.scribe_reader.specs.Ending.{Ends, Front}
 use Rattle.scribe_reader.proofs.Walked.{end-is}

@@ -1,12 +1,3 @@
-mod Searching
-mod Numerals
-mod Places
-mod Pieces
-mod Sayings
-mod Judging
-mod Signs
-mod Testing
-mod Taking
 mod Walked
 mod Answers
 mod Naming

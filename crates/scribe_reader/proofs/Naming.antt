@@ -7,8 +7,8 @@ use lib.ListN.{getD, List·getD-eq-default}
 use Rattle.words.specs.Text.{Appends}
 use Rattle.scribe_rules.specs.Drafts.{Fault as Fault′, LongText}
 use Rattle.scribe_rules.specs.Faults.{faultWords}
-use Rattle.scribe_reader.specs.declared.drafts.Fault.{Fault}
-use Rattle.scribe_reader.specs.Drafting.{faults, faultOf}
+use Rattle.scribe_drafts.specs.declared.Fault.{Fault}
+use Rattle.scribe_drafts.specs.Drafting.{faults, faultOf}
 use Rattle.scribe_reader.specs.Telling.{Says}
 
 module _ (old : List ℕ) (at : ℕ) (f : Fault) (new : List ℕ) (k : ℕ) where

@@ -17,17 +17,17 @@ use Rattle.scribe_rules.specs.Words.{isNewline, isBlank, firstAt, countOf, piec
 use Rattle.scribe_rules.specs.Statements.{Said, Empty, Unclear, slotsWord, banWord, gapWord, slotsSaid, banSaid, gapSaid, wordsSay, lineSays}
 use Rattle.scribe_rules.specs.Drafts.{Draft as Draft′, noDraft, Taken, Next, Wrong, withSaid, withLine}
 use Rattle.scribe_rules.specs.Reading.{Outcome, Faulty, atEnd, readLines, readFrom}
-use Rattle.scribe_reader.specs.declared.parts.Word.{Word}
-use Rattle.scribe_reader.specs.declared.drafts.Draft.{Draft}
-use Rattle.scribe_reader.specs.declared.drafts.Fault.{Fault}
-use Rattle.scribe_reader.specs.declared.drafts.Step.{Step}
+use Rattle.scribe_statements.specs.declared.parts.Word.{Word}
+use Rattle.scribe_drafts.specs.declared.Draft.{Draft}
+use Rattle.scribe_drafts.specs.declared.Fault.{Fault}
+use Rattle.scribe_drafts.specs.declared.Step.{Step}
 use Rattle.scribe_reader.specs.declared.lines.Walk.{Walk}
-use Rattle.scribe_reader.specs.Parts.{part, wordsIn, NextWord}
-use Rattle.scribe_reader.specs.Drafting.{faultOf, draftIn, takenOf, Fit, Takes}
+use Rattle.scribe_statements.specs.Parts.{part, wordsIn, NextWord}
+use Rattle.scribe_drafts.specs.Drafting.{faultOf, draftIn, takenOf, Fit, Takes}
 use Rattle.scribe_reader.specs.Walking.{outcomeAt, Walks, Ready, Advances, endOf}
-use Rattle.scribe_reader.proofs.Searching.{first-here, first-later, first-within}
-use Rattle.scribe_reader.proofs.Pieces.{piece-first, rest-of}
-use Rattle.scribe_reader.proofs.Judging.{no-fault, some-fault}
+use Rattle.scribe_statements.proofs.Searching.{first-here, first-later, first-within}
+use Rattle.scribe_statements.proofs.Pieces.{piece-first, rest-of}
+use Rattle.scribe_drafts.proofs.Judging.{no-fault, some-fault}
 
 -- ---- what a line's words say
 

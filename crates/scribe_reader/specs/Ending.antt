@@ -4,9 +4,9 @@ use mathlib.Core.Path.{_≡_}
 use mathlib.Core.Bool.{Bool}
 use mathlib.Core.List.{List}
 use Rattle.scribe_rules.specs.Reading.{longestText, Made, Faulty, sheetFrom}
-use Rattle.scribe_reader.specs.declared.drafts.Fault.{Fault}
+use Rattle.scribe_drafts.specs.declared.Fault.{Fault}
 use Rattle.scribe_reader.specs.declared.lines.Walk.{Walk}
-use Rattle.scribe_reader.specs.Drafting.{faultOf, draftIn}
+use Rattle.scribe_drafts.specs.Drafting.{faultOf, draftIn}
 use Rattle.scribe_reader.specs.Walking.{endOf}
 
 pub record Ends (cut : Bool) (w : Walk) (f : Fault) : Type 0 where

@@ -3,26 +3,21 @@ ghost use mathlib.Core.Path.{_≡_};
 ghost use mathlib.Core.Bool.{cond};
 ghost use lib.Dec.{eqb, ltb};
 ghost use Rattle.scribe_rules.specs.Reading.{longestText, sheetOf};
-ghost use Rattle.scribe_reader.specs.Drafting.{Fit};
+ghost use Rattle.scribe_drafts.specs.Drafting.{Fit};
 ghost use Rattle.scribe_reader.specs.Walking.{endOf, due, readOf};
 ghost use Rattle.scribe_reader.specs.Ending.{Ends, Front};
 
-mod bytes;
-pub mod drafts;
 mod lines;
-mod numbers;
-mod parts;
-mod statements;
 pub mod telling;
 
-use drafts::Fault;
-use drafts::LONG_TEXT;
-use drafts::NONE;
-use drafts::SLOTS_FIRST;
-use drafts::fault_with;
 use lent::Written;
 use lines::Walk;
 use lines::read_lines;
+use scribe_drafts::Fault;
+use scribe_drafts::LONG_TEXT;
+use scribe_drafts::NONE;
+use scribe_drafts::SLOTS_FIRST;
+use scribe_drafts::fault_with;
 use sheet::Problem;
 use sheet_writer::put_sheet;
 

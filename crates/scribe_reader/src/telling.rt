@@ -5,9 +5,9 @@ ghost use mathlib.Core.Logic.{_≢_};
 ghost use lib.ListN.{length};
 ghost use Rattle.words.specs.Text.{Appends};
 ghost use Rattle.scribe_rules.specs.Faults.{faultText};
-ghost use Rattle.scribe_reader.specs.Drafting.{faultOf};
+ghost use Rattle.scribe_drafts.specs.Drafting.{faultOf};
 ghost use Rattle.scribe_reader.specs.Telling.{Says};
-use crate::drafts::Fault;
+use scribe_drafts::Fault;
 use words::text::append;
 use words::text::append_number;
 

@@ -1,6 +1,6 @@
 // What `scribe` answers, printed.
 ghost use Prim.Native.Nat.{_≤_};
-use scribe_reader::drafts::Fault;
+use scribe_drafts::Fault;
 use scribe_reader::read_sheet;
 use scribe_reader::telling::fault_text;
 use scribe_writer::write_text;

@@ -4,7 +4,7 @@ use Rattle.base.specs.Lent.{untouched}
 use Rattle.problem.specs.Problem.{maxPairs, noBans}
 use Rattle.sheet.specs.Abstract.{problemOf}
 use Rattle.lent.specs.Abstract.{writtenOf}
-use Rattle.scribe_reader.specs.Drafting.{problemIn}
+use Rattle.scribe_drafts.specs.Drafting.{problemIn}
 use Rattle.scribe_reader.proofs.Answers.{answers-fault, answers-sheet}
 use borrow.Author.Needs.{needs}
 use Rattle.scribe_reader.proofs.answered.Statement.{statement}

@@ -2,9 +2,9 @@
 use mathlib.Core.Path.{sym, ap, _∙_}
 use mathlib.Core.Bool.{false≢true}
 use Rattle.scribe_rules.specs.Statements.{slotsWord, banWord, gapWord}
-use Rattle.scribe_reader.specs.declared.drafts.Fault.{Fault}
-use Rattle.scribe_reader.specs.Parts.{wordsIn}
-use Rattle.scribe_reader.proofs.Taking.{same-fit, takes-unclear}
+use Rattle.scribe_drafts.specs.declared.Fault.{Fault}
+use Rattle.scribe_statements.specs.Parts.{wordsIn}
+use Rattle.scribe_drafts.proofs.Taking.{same-fit, takes-unclear}
 use Rattle.scribe_reader.proofs.Walked.{says-slots, says-ban, says-gap, says-nothing, no-words, first-word, takes-as, takes-empty}
 use borrow.Author.Needs.{needs}
 use Rattle.scribe_reader.proofs.lines.with_words.Statement.{statement}

@@ -3,7 +3,7 @@ use mathlib.Core.Path.{refl}
 use native.Mathlib.Omega.{arith}
 use Rattle.scribe_rules.specs.Drafts.{NotStatement, SlotsFirst, SlotsTwice, AgentCount, DomainSize, BothKinds}
 use Rattle.scribe_rules.specs.Faults.{notStatement, slotsFirst, slotsTwice, agentCount, domainSize, bothKinds, faultWords}
-use Rattle.scribe_reader.specs.Drafting.{faults}
+use Rattle.scribe_drafts.specs.Drafting.{faults}
 use Rattle.scribe_reader.proofs.Naming.{says-fault}
 use borrow.Author.Needs.{needs}
 use Rattle.scribe_reader.proofs.telling.append_first.Statement.{statement}

@@ -3,7 +3,7 @@ use mathlib.Core.Path.{refl}
 use native.Mathlib.Omega.{arith}
 use Rattle.scribe_rules.specs.Drafts.{SameAgent, HigherFirst, GapRange, LeastAbove, ManyRecords}
 use Rattle.scribe_rules.specs.Faults.{sameAgent, higherFirst, gapRange, leastAbove, manyRecords, longText, faultWords}
-use Rattle.scribe_reader.specs.Drafting.{faults}
+use Rattle.scribe_drafts.specs.Drafting.{faults}
 use Rattle.scribe_reader.proofs.Naming.{says-fault, says-long}
 use borrow.Author.Needs.{needs}
 use Rattle.scribe_reader.proofs.telling.append_last.Statement.{statement}

@@ -4,7 +4,7 @@ use native.Mathlib.Omega.{arith}
 use Rattle.words.proofs.Appending.{appends-then}
 use Rattle.scribe_rules.specs.Drafts.{NotOwned}
 use Rattle.scribe_rules.specs.Faults.{ofAgent, noValue, faultWords}
-use Rattle.scribe_reader.specs.Drafting.{faults}
+use Rattle.scribe_drafts.specs.Drafting.{faults}
 use Rattle.scribe_reader.proofs.Naming.{says-fault}
 use borrow.Author.Needs.{needs}
 use Rattle.scribe_reader.proofs.telling.append_not_owned.Statement.{statement}

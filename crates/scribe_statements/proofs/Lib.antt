@@ -1,0 +1,5 @@
+pub mod Searching
+mod Numerals
+mod Places
+pub mod Pieces
+mod Sayings
