@@ -1,9 +1,9 @@
 -- Whom to blame for an own value, read off the bytes and the words of the nogoods.
 -- The words stored are laid over each other; of the agents that this names, the lowest whose byte bars the value; else the lowest whose byte does.
-use Prim.Native.Nat.{ℕ, zero, suc, pred, _+_, _/_, _%_, _^_, _≤_, _<_}
+use Prim.Native.Nat.{ℕ, suc, pred, _+_, _/_, _%_, _^_, _≤_}
 use mathlib.Core.Path.{_≡_, refl, sym, ap, _∙_, fun-ext, subst}
 use mathlib.Core.Logic.{_≢_}
-use mathlib.Core.Bool.{Bool, true, false, _&&_, _||_, and-false, or-false, false≢true}
+use mathlib.Core.Bool.{Bool, true, false, _&&_, and-false, or-false, false≢true}
 use mathlib.Core.Option.{none, some}
 use mathlib.Core.List.{List}
 use native.Mathlib.Omega.{arith}

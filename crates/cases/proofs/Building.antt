@@ -10,10 +10,11 @@ use lib.Dec.{eqb}
 use lib.ListN.{length, getD, set, take, drop}
 use lib.Seq.{sets, drop-cons, length-take-le, getD-take, drop-length}
 use borrow.Author.Tests.{lt-ltb, le-ltb, le-leb, lt-leb}
+use Rattle.base.proofs.Tests.{test}
 use Rattle.cases.specs.declared.lines.Numbers.{Numbers}
 use Rattle.cases.specs.declared.sheets.Sheet.{Sheet}
 use Rattle.cases.specs.Sheets.{withByte, withBytes, hexDigit, isPair, hexAfter, linkBefore, linked, withRecord, withBan, withBans}
-use Rattle.cases.proofs.Reading.{test, next}
+use Rattle.cases.proofs.Reading.{next}
 
 pub same-sheet : (s : Sheet) (bytes : List ℕ) (n : ℕ) → s .bytes ≡ bytes → s .length ≡ n → s ≡ record { bytes = bytes; length = n }
 same-sheet s bytes n e f = rw (← e, ← f)

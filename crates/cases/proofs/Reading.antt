@@ -2,7 +2,7 @@
 -- One byte more is one step of the definition.
 use Prim.Native.Nat.{ℕ, _+_, _≤_, _<_}
 use mathlib.Core.Path.{_≡_, refl, ap, _∙_}
-use mathlib.Core.Bool.{Bool, true, false, not, and-eq-true-iff}
+use mathlib.Core.Bool.{true, false, and-eq-true-iff}
 use mathlib.Core.List.{List, [], _∷_}
 use native.Mathlib.Omega.{arith}
 use native.Mathlib.Numerals.{add-one}
@@ -10,20 +10,9 @@ use lib.Dec.{leb}
 use lib.ListN.{length, getD, drop}
 use lib.Seq.{drop-cons, drop-length}
 use borrow.Author.Tests.{leb-true, eq-eqb, ne-eqb}
+use Rattle.base.proofs.Tests.{test}
 use Rattle.cases.specs.declared.lines.Numbers.{Numbers}
 use Rattle.cases.specs.Lines.{endFrom, isDigit, withDigit, valueFrom, numberBegins, numbersAfter, withNumber, withNumbers}
-
-pub test {ℓ} : {C : Type ℓ} (b : Bool) → (b ≡ true → C) → (b ≡ false → C) → C
-test true f g = f refl
-test false f g = g refl
-
-pub not-true : (b : Bool) → not b ≡ true → b ≡ false
-not-true true e = cc
-not-true false e = refl
-
-pub not-false : (b : Bool) → not b ≡ false → b ≡ true
-not-false true e = refl
-not-false false e = cc
 
 pub digit-bounds : (b : ℕ) → isDigit b ≡ true → (48 ≤ b) × (b ≤ 57)
 unfolding isDigit

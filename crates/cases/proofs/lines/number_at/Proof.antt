@@ -2,8 +2,9 @@
 use Prim.Native.Nat.{_-_, _≤_}
 use mathlib.Core.Path.{_≡_, refl, sym, ap, _∙_}
 use lib.ListN.{length, drop}
+use borrow.Author.Tests.{not-true, not-false}
 use Rattle.cases.specs.Lines.{valueFrom}
-use Rattle.cases.proofs.Reading.{not-true, not-false, digit-bounds, none-left, value-ends, value-goes}
+use Rattle.cases.proofs.Reading.{digit-bounds, none-left, value-ends, value-goes}
 use borrow.Author.Needs.{needs}
 use Rattle.cases.proofs.lines.number_at.Statement.{statement}
 use Rattle.cases.proofs.lines.number_at.Tie as tie
