@@ -1,3 +1,2 @@
 mod Walked
 mod Answers
-mod Naming

@@ -1,3 +1,2 @@
 pub mod Walking
 pub mod Ending
-pub mod Telling

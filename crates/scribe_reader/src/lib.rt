@@ -8,7 +8,6 @@ ghost use Rattle.scribe_reader.specs.Walking.{endOf, due, readOf};
 ghost use Rattle.scribe_reader.specs.Ending.{Ends, Front};
 
 mod lines;
-pub mod telling;
 
 use lent::Written;
 use lines::Walk;

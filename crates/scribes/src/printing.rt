@@ -1,8 +1,8 @@
 // What `scribe` answers, printed.
 ghost use Prim.Native.Nat.{_≤_};
 use scribe_drafts::Fault;
+use scribe_faults::fault_text;
 use scribe_reader::read_sheet;
-use scribe_reader::telling::fault_text;
 use scribe_writer::write_text;
 use words::printing::Out;
 

@@ -4,10 +4,10 @@ use native.Mathlib.Omega.{arith}
 use Rattle.scribe_rules.specs.Drafts.{SameAgent, HigherFirst, GapRange, LeastAbove, ManyRecords}
 use Rattle.scribe_rules.specs.Faults.{sameAgent, higherFirst, gapRange, leastAbove, manyRecords, longText, faultWords}
 use Rattle.scribe_drafts.specs.Drafting.{faults}
-use Rattle.scribe_reader.proofs.Naming.{says-fault, says-long}
+use Rattle.scribe_faults.proofs.Naming.{says-fault, says-long}
 use borrow.Author.Needs.{needs}
-use Rattle.scribe_reader.proofs.telling.append_last.Statement.{statement}
-use Rattle.scribe_reader.proofs.telling.append_last.Tie as tie
+use Rattle.scribe_faults.proofs.append_last.Statement.{statement}
+use Rattle.scribe_faults.proofs.append_last.Tie as tie
 
 slice-aggregate-append : tie.Need-slice-aggregate-append
 slice-aggregate-append c = search needs

@@ -5,10 +5,10 @@ use Rattle.words.proofs.Appending.{appends-then}
 use Rattle.scribe_rules.specs.Drafts.{NotOwned}
 use Rattle.scribe_rules.specs.Faults.{ofAgent, noValue, faultWords}
 use Rattle.scribe_drafts.specs.Drafting.{faults}
-use Rattle.scribe_reader.proofs.Naming.{says-fault}
+use Rattle.scribe_faults.proofs.Naming.{says-fault}
 use borrow.Author.Needs.{needs}
-use Rattle.scribe_reader.proofs.telling.append_not_owned.Statement.{statement}
-use Rattle.scribe_reader.proofs.telling.append_not_owned.Tie as tie
+use Rattle.scribe_faults.proofs.append_not_owned.Statement.{statement}
+use Rattle.scribe_faults.proofs.append_not_owned.Tie as tie
 
 slice-aggregate-append : tie.Need-slice-aggregate-append
 slice-aggregate-append c = search needs

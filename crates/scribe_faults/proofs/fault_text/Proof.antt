@@ -4,8 +4,8 @@ use Rattle.words.specs.Text.{newline}
 use Rattle.words.proofs.Appending.{appends-then}
 use Rattle.scribe_rules.specs.Faults.{lineWord, colonWord, faultText}
 use borrow.Author.Needs.{needs}
-use Rattle.scribe_reader.proofs.telling.fault_text.Statement.{statement}
-use Rattle.scribe_reader.proofs.telling.fault_text.Tie as tie
+use Rattle.scribe_faults.proofs.fault_text.Statement.{statement}
+use Rattle.scribe_faults.proofs.fault_text.Tie as tie
 
 slice-aggregate-append : tie.Need-slice-aggregate-append
 slice-aggregate-append c = search needs

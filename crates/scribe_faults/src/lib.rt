@@ -1,4 +1,4 @@
-// What is said of a fault.
+// What is said of a fault. docs/RULES.md, 'Sheets as text'.
 ghost use Prim.Native.Nat.{_+_, _≤_};
 ghost use mathlib.Core.Path.{_≡_};
 ghost use mathlib.Core.Logic.{_≢_};
@@ -6,7 +6,7 @@ ghost use lib.ListN.{length};
 ghost use Rattle.words.specs.Text.{Appends};
 ghost use Rattle.scribe_rules.specs.Faults.{faultText};
 ghost use Rattle.scribe_drafts.specs.Drafting.{faultOf};
-ghost use Rattle.scribe_reader.specs.Telling.{Says};
+ghost use Rattle.scribe_faults.specs.Telling.{Says};
 use scribe_drafts::Fault;
 use words::text::append;
 use words::text::append_number;

@@ -9,7 +9,7 @@ use Rattle.scribe_rules.specs.Drafts.{Fault as Fault′, LongText}
 use Rattle.scribe_rules.specs.Faults.{faultWords}
 use Rattle.scribe_drafts.specs.declared.Fault.{Fault}
 use Rattle.scribe_drafts.specs.Drafting.{faults, faultOf}
-use Rattle.scribe_reader.specs.Telling.{Says}
+use Rattle.scribe_faults.specs.Telling.{Says}
 
 module _ (old : List ℕ) (at : ℕ) (f : Fault) (new : List ℕ) (k : ℕ) where
   says : (g : Fault′) → faultOf f ≡ g → Appends old at (faultWords g) new k → k ≤ at + 61 → Says old at f new k

@@ -4,10 +4,10 @@ use native.Mathlib.Omega.{arith}
 use Rattle.scribe_rules.specs.Drafts.{NotStatement, SlotsFirst, SlotsTwice, AgentCount, DomainSize, BothKinds}
 use Rattle.scribe_rules.specs.Faults.{notStatement, slotsFirst, slotsTwice, agentCount, domainSize, bothKinds, faultWords}
 use Rattle.scribe_drafts.specs.Drafting.{faults}
-use Rattle.scribe_reader.proofs.Naming.{says-fault}
+use Rattle.scribe_faults.proofs.Naming.{says-fault}
 use borrow.Author.Needs.{needs}
-use Rattle.scribe_reader.proofs.telling.append_first.Statement.{statement}
-use Rattle.scribe_reader.proofs.telling.append_first.Tie as tie
+use Rattle.scribe_faults.proofs.append_first.Statement.{statement}
+use Rattle.scribe_faults.proofs.append_first.Tie as tie
 
 slice-aggregate-append : tie.Need-slice-aggregate-append
 slice-aggregate-append c = search needs
