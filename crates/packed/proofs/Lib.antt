@@ -8,3 +8,4 @@ pub mod Masks
 pub mod Wordwise
 pub mod Compared
 pub mod Naming
+pub mod Gathering

@@ -82,7 +82,7 @@ unfolding allTo bit known someBit
 some-bit = refl
 
 -- a number's bits from each bit on to the third above it, joined
-joined : ℕ → ℕ
+unfoldable pub joined : ℕ → ℕ
 joined x = bitOr (bitOr (bitOr x (x / 2 ^ 1)) (x / 2 ^ 2)) (x / 2 ^ 3)
 
 joined-bit : (x k : ℕ) → one (bit (joined x) (4 * k)) ≡ one (known (digit x k))
@@ -106,10 +106,10 @@ joined-bit x k =
     own : (i : ℕ) → i < 4 → bit x (i + 4 * k) ≡ bit (digit x k) i
     own i h = let e : i + 4 * k ≡ 4 * k + i = omega arith in rw e (sym (digit-bit x k i h))
 
-marks : ℕ → ℕ
+unfoldable pub marks : ℕ → ℕ
 marks x = bitAnd (joined x) ones
 
-digit-marks : (x k : ℕ) → x < 2 ^ 64 → digit (marks x) k ≡ one (known (digit x k))
+pub digit-marks : (x k : ℕ) → x < 2 ^ 64 → digit (marks x) k ≡ one (known (digit x k))
 unfolding marks known
 digit-marks x k h =
     test (leb 16 k)

@@ -89,18 +89,15 @@ pub fn at_most(x: u64, y: u64) -> bool
     odd_at_most(x, y) && odd_at_most(x >> 4, y >> 4)
 }
 
-// The set of the agents that a word names.
+// The set of the agents that a word names: a bit of each digit, drawn together by twos, fours, eights and all.
 pub fn names(x: u64) -> u16
     ensures { λ r. ⌜ ((k : ℕ) → members r k ≡ known (assignment x k)) ⌝ }
 {
-    let mut set: u16 = 0;
-    let mut rest = x;
-    while rest != 0 {
-        let k = first_digit(rest);
-        set = add(set, k);
-        rest = with_digit(rest, k, 0);
-    }
-    set
+    let ones = (x | (x >> 1) | (x >> 2) | (x >> 3)) & 0x1111_1111_1111_1111;
+    let twos = (ones | (ones >> 3)) & 0x0303_0303_0303_0303;
+    let fours = (twos | (twos >> 6)) & 0x000f_000f_000f_000f;
+    let eights = (fours | (fours >> 12)) & 0x0000_00ff_0000_00ff;
+    ((eights | (eights >> 24)) & 0xffff) as u16
 }
 
 // ---- sets
