@@ -7,9 +7,9 @@ use Rattle.engine.specs.declared.Ending.{Ending}
 use Rattle.engine.specs.declared.Ending.the-variants.{None, Plan, Jammed, Open, Broken}
 use Rattle.engine.specs.Answers.{endingOf}
 use borrow.Author.Needs.{needs}
-use Rattle.words.proofs.text.append_ending.Statement.{statement}
-use Rattle.words.proofs.text.append_ending.Tie as tie
-use Rattle.words.proofs.text.append.Reads as append-reads
+use Rattle.words.proofs.append_ending.Statement.{statement}
+use Rattle.words.proofs.append_ending.Tie as tie
+use Rattle.text.proofs.append.Reads as append-reads
 use Rattle.words.proofs.word_for.Reads as word-for-reads
 
 word-short : (e : Ending) → length (endingWord (endingOf e)) ≤ 6

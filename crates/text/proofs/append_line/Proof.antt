@@ -1,12 +1,12 @@
 -- The three parts one behind the other. Assumes nothing.
 use native.Mathlib.Omega.{arith}
-use Rattle.words.specs.Text.{lineOf, newline}
-use Rattle.words.proofs.Appending.{appends-then}
+use Rattle.text.specs.Text.{lineOf, newline}
+use Rattle.text.proofs.Appending.{appends-then}
 use borrow.Author.Needs.{needs}
-use Rattle.words.proofs.text.append_line.Statement.{statement}
-use Rattle.words.proofs.text.append_line.Tie as tie
-use Rattle.words.proofs.text.append.Reads as append-reads
-use Rattle.words.proofs.text.append_number.Reads as append-number-reads
+use Rattle.text.proofs.append_line.Statement.{statement}
+use Rattle.text.proofs.append_line.Tie as tie
+use Rattle.text.proofs.append.Reads as append-reads
+use Rattle.text.proofs.append_number.Reads as append-number-reads
 
 append-requires : tie.Need-append-requires
 append-requires c κs = search needs

@@ -9,7 +9,7 @@ use lib.Dec.{ltb, leb}
 use borrow.Author.Tests.{lt-ltb, le-ltb, ltb-true, ltb-false, leb-true, leb-false}
 use Rattle.base.proofs.Tests.{test}
 use Rattle.io.specs.Digits.{glyph, digits, Fewest}
-use Rattle.words.specs.Text.{lastDigits, decimal}
+use Rattle.text.specs.Text.{lastDigits, decimal}
 
 glyph-low : (d : ℕ) → d < 10 → glyph d ≡ 48 + d
 glyph-low d h = rw (lt-ltb d 10 h)

@@ -7,9 +7,9 @@ use native.Mathlib.Numerals.{add-one}
 use lib.ListN.{length, getD, set, length-set}
 use lib.Seq.{paste, paste-zero, paste-suc}
 use borrow.Author.Needs.{needs}
-use Rattle.words.proofs.Appending.{pasted}
-use Rattle.words.proofs.text.append.Statement.{statement}
-use Rattle.words.proofs.text.append.Tie as tie
+use Rattle.text.proofs.Appending.{pasted}
+use Rattle.text.proofs.append.Statement.{statement}
+use Rattle.text.proofs.append.Tie as tie
 
 abbrev Inv-loop : tie.InvT-loop
 Inv-loop out₀ at s i₀ out i = (i ≤ length s) × (out ≡ paste out₀ at s i) × (length out ≡ length out₀)

@@ -1,11 +1,7 @@
 // Text made in a lent buffer, behind what stands there already.
 ghost use Prim.Native.Nat.{_+_, _≤_};
 ghost use lib.ListN.{length};
-ghost use Rattle.protocol.specs.Run.{endingWord};
-ghost use Rattle.engine.specs.Answers.{endingOf};
-ghost use Rattle.words.specs.Text.{decimal, lineOf, Appends};
-use crate::word_for;
-use engine::Ending;
+ghost use Rattle.text.specs.Text.{decimal, lineOf, Appends};
 
 // Puts s behind the first `at` bytes of out, and answers how many there are then.
 pub fn append(out: &mut [u8], at: usize, s: &[u8]) -> usize
@@ -28,17 +24,6 @@ pub fn append_number(out: &mut [u8], at: usize, n: u64) -> usize
     let mut digits = [0u8; 20];
     let k = io::decimal(n, &mut digits);
     append(out, at, &digits[..k])
-}
-
-// The word for how a run ended, which has at most six letters.
-pub fn append_ending(out: &mut [u8], at: usize, e: Ending) -> usize
-    requires { ⌜ at + 6 ≤ length (now out) ⌝ }
-    ensures { λ k. ⌜ Appends (now (out .entry)) at (endingWord (endingOf e)) (now (out .exit)) k × (k ≤ at + 6) ⌝ }
-{
-    let word = word_for(e);
-    let letters = word.letters;
-    let n = word.length;
-    append(out, at, &letters[..n])
 }
 
 // A line that ends in a number: what stands before it, and the number.

@@ -1,12 +1,12 @@
 -- The digits that `io` writes are the decimal of the number. Assumes nothing.
 use mathlib.Core.Path.{_∙_}
 use native.Mathlib.Omega.{arith}
-use Rattle.words.proofs.Digits.{fewest-decimal, digits-fit}
+use Rattle.text.proofs.Digits.{fewest-decimal, digits-fit}
 use borrow.Author.Needs.{needs}
-use Rattle.words.proofs.text.append_number.Statement.{statement}
-use Rattle.words.proofs.text.append_number.Tie as tie
+use Rattle.text.proofs.append_number.Statement.{statement}
+use Rattle.text.proofs.append_number.Tie as tie
 use Rattle.io.proofs.decimal.Reads as decimal-reads
-use Rattle.words.proofs.text.append.Reads as append-reads
+use Rattle.text.proofs.append.Reads as append-reads
 
 decimal-requires : tie.Need-decimal-requires
 decimal-requires c κs = search needs

@@ -5,7 +5,7 @@ use Prim.Native.Nat.{ℕ, _+_, _≤_}
 use native.Mathlib.Omega.{arith}
 use lib.ListN.{length, take, length-append}
 use lib.Seq.{paste, take-paste, length-paste, take-length}
-use Rattle.words.specs.Text.{Appends}
+use Rattle.text.specs.Text.{Appends}
 
 pub appends-none : (old : List ℕ) (at : ℕ) → Appends old at [] old at
 appends-none old at = record { count = omega arith; room = refl; text = rw append-nil }
