@@ -19,7 +19,7 @@ use Rattle.problem.specs.Chain.{chainFrom, rowsIn}
 use Rattle.problem.proofs.Fields.{header-fits, record-fits}
 use Rattle.problem.proofs.Walk.{freeWalk, free-none, free-fails, free-goes}
 use Rattle.problem.proofs.Checks.{bad-length, invalid, accepted}
-use Rattle.sheet.proofs.Records.{start-at}
+use Rattle.sheet_parts.proofs.Records.{start-at}
 use Rattle.sheet.proofs.Walking.{next-there}
 use Rattle.text.specs.Text.{Appends}
 use Rattle.scribe_rules.specs.Telling.{rowLine, rowLines}

@@ -9,7 +9,7 @@ ghost use Rattle.scribe_writer.specs.Parts.{Room, Readable};
 use crate::lines::append_figure;
 use crate::lines::append_row;
 use sheet::Problem;
-use sheet::header::two_bytes;
+use sheet_parts::header::two_bytes;
 use text::append;
 
 // The slot counts of the agents.
