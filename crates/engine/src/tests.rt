@@ -61,17 +61,17 @@ fn holds_some(row: u64) -> bool
     row != 0
 }
 
-// Something waits on a line of the agents 1 to n, where the rows are clean.
+// Something waits on a line of the agents 1 to n, where the rows are clean. The last senders come first: it is they that mostly have something.
 pub fn waits(counts: &[u64; 12], n: u8) -> bool
     requires { ⌜ n ≤ 12 ⌝ }
     ensures { λ b. ⌜ (Clean (now (counts .entry)) → b ≡ not (allTo n (λ i. allTo maxAgents (λ j. eqb (heldAt (now (counts .entry)) i j) 0)))) ⌝ }
 {
-    let mut i: u8 = 0;
-    while i < n {
-        if holds_some(counts[i as usize]) {
+    let mut i = n;
+    while 0 < i {
+        if holds_some(counts[i as usize - 1]) {
             return true;
         }
-        i += 1;
+        i -= 1;
     }
     false
 }
