@@ -11,7 +11,7 @@ use Rattle.problem.specs.Problem.{noBans}
 use Rattle.problem.specs.Row.{Row}
 use Rattle.problem.specs.Writing.{written}
 use Rattle.problem.specs.Cases.{ban}
-use Rattle.agent_rules.specs.Message.{Assignment, Message, Info, Back, AddLink}
+use Rattle.agent_rules.specs.Message.{Assignment, Message, Info, Back}
 use Rattle.agent_rules.specs.Agent.{Agent, withCounts}
 use Rattle.agent_rules.specs.Cases.{values, agent, sameAgent, sameMessage, counts, sameCounts}
 use Rattle.agent_rules.specs.Choosing.{quietRule}
