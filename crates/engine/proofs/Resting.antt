@@ -12,7 +12,7 @@ use borrow.Author.Tests.{eq-eqb, ne-eqb, eqb-true, eqb-false}
 use Rattle.base.specs.Finite.{allTo, any}
 use Rattle.base.proofs.Tests.{test, eq-test, or-false-both}
 use Rattle.problem.specs.Problem.{maxAgents}
-use Rattle.agent.specs.declared.Bars.{Bars}
+use Rattle.choosing.specs.declared.Bars.{Bars}
 use Rattle.protocol.specs.Network.{Network as Network′}
 use Rattle.protocol.specs.Delivery.{rejectionNumber}
 use Rattle.protocol.specs.Run.{Line, idle, visits, Sweep, beginRound, sweep, endingNumber, endingAt, finish, oneIf, isStuck}

@@ -17,7 +17,7 @@ use Rattle.base.proofs.Search.{at-same}
 use Rattle.base.proofs.Lists.{All, All-right, All-both, All-map, any-snoc}
 use Rattle.agent_rules.specs.Message.{Post as Post′}
 use Rattle.packed.specs.Packed.{assignment}
-use Rattle.agent.specs.declared.Bars.{Bars}
+use Rattle.choosing.specs.declared.Bars.{Bars}
 use Rattle.protocol.specs.Shape.{inShape}
 use Rattle.protocol.specs.Delivery.{NoRoom, rejectionNumber, Answer, Accepted, Rejected, Delivery, rejecting, numbersGood, deliver}
 use Rattle.protocol.specs.Run.{Line, isLine, Try, Sweep, stopped, isNoRoom, passedBy, passedOver, counts, tally, attempt, sweep}

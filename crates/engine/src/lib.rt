@@ -14,8 +14,8 @@ use crate::tests::cleaned;
 use crate::tests::ending_at;
 use crate::tests::tested;
 use crate::tests::waits;
-use agent::Bars;
-use agent::Own;
+use choosing::Bars;
+use choosing::Own;
 use network::Network;
 use network::Place;
 use network::places::channel_at;
@@ -114,7 +114,7 @@ pub fn work(r: Network, once: bool, sender: u8, receiver: u8, allowed: u64) -> A
             };
             let mine = &bans[words..words + at];
             if !has(ready, to) {
-                let b = Bars::of(agent.view, own, mine);
+                let b = Bars::of(agent.view.digits, own, mine);
                 bars[at] = b;
                 ready = add(ready, to);
             }

@@ -27,7 +27,8 @@ use Rattle.protocol.specs.Shape.{eachNamed, eachIn, holdsValue, listensUpward, 
 use Rattle.packed.specs.Packed.{assignment, members}
 use Rattle.packed.proofs.Known.{known-suc}
 use Rattle.packed.proofs.Digits.{pow16, cut-before, cut-from}
-use Rattle.agent.specs.Abstract.{assigned, nogoodAt, countOf, countsOf, agentOf}
+use Rattle.choosing.specs.Choosing.{nogoodAt}
+use Rattle.agent.specs.Abstract.{assigned, countOf, countsOf, agentOf}
 use Rattle.agent.specs.declared.Agent.{Agent}
 use Rattle.network.specs.Abstract.{agentsOf, networkOf}
 use Rattle.network.specs.Parts.{Domains, setOf}

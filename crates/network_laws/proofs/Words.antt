@@ -10,7 +10,7 @@ use borrow.Author.Tests.{le-leb, lt-leb, ltb-true, ltb-false}
 use Rattle.base.specs.Finite.{within}
 use Rattle.base.proofs.Tests.{test, within-true}
 use Rattle.problem.specs.Problem.{Problem, maxAgents, pairsBefore, wordAt, isPair, banned}
-use Rattle.agent.specs.Abstract.{bansIn}
+use Rattle.choosing.specs.Barring.{bansIn}
 use Rattle.protocol.specs.Network.{bansOf}
 use Rattle.network.proofs.Pairs.{words-fit}
 

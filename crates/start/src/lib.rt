@@ -12,7 +12,7 @@ use agent::Agent;
 use agent::Counts;
 use agent::Lhs;
 use agent::Message;
-use agent::Own;
+use choosing::Own;
 use network::Network;
 use network::Place;
 use network::is_rule;
