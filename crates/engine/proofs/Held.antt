@@ -20,7 +20,7 @@ use Rattle.packed.specs.Packed.{digit, assignment}
 use Rattle.packed.proofs.Digits.{nobody-assigned}
 use Rattle.packed.proofs.Wordwise.{zero-digits}
 use Rattle.network.specs.Abstract.{isChannel, rowOf}
-use Rattle.network.proofs.Numbering.{ends}
+use Rattle.clauses.proofs.Numbering.{ends}
 use Rattle.network_laws.specs.Held.{heldAt, Clean}
 use Rattle.network_laws.proofs.Changes.{row-is, row-same, row-other}
 

@@ -26,7 +26,7 @@ use Rattle.shape_laws.proofs.Shape.{attempt-keeps}
 use Rattle.shape_laws.proofs.RunFaults.{Supplied, supplied-waits, attempt-supplied}
 use Rattle.network.specs.declared.Network.{Network}
 use Rattle.network.specs.Abstract.{isChannel, channelAt, networkOf}
-use Rattle.network.proofs.Numbering.{Ends, ends}
+use Rattle.clauses.proofs.Numbering.{Ends, ends}
 use Rattle.network_laws.specs.Held.{heldAt}
 use Rattle.network_laws.proofs.Changes.{FullArrays, wordAt, channel-held, held-is}
 use Rattle.network_laws.proofs.Handing.{Found, numbers-line}

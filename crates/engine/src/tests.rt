@@ -13,7 +13,7 @@ ghost use Rattle.network_laws.specs.Held.{heldAt, Clean};
 ghost use Rattle.engine.specs.Answers.{endingOf};
 ghost use Rattle.engine.specs.Working.{endsBy, testedBy};
 use crate::Ending;
-use network::places::lines_of;
+use clauses::places::lines_of;
 use packed::digit;
 
 // The rows of counts, less the digits that are no channel's.

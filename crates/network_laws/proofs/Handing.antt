@@ -44,7 +44,7 @@ use Rattle.shape_laws.proofs.DeliverShape.{Head, at-head}
 use Rattle.network.specs.declared.Place.{Place}
 use Rattle.network.specs.declared.Network.{Network}
 use Rattle.network.specs.Abstract.{isChannel, channelAt, placeOf, ring, problemOf, networkOf}
-use Rattle.network.proofs.Numbering.{Ends, ends, to-channel}
+use Rattle.clauses.proofs.Numbering.{Ends, ends, to-channel}
 use Rattle.network_laws.specs.Held.{heldAt, rowFits}
 use Rattle.network_laws.proofs.Changes.{
   FullArrays,

@@ -16,7 +16,7 @@ use Rattle.agent.specs.Posting.{postsLeft}
 use Rattle.protocol.specs.Shape.{inShape}
 use Rattle.protocol.specs.Run.{oneIf}
 use Rattle.network.specs.Abstract.{networkOf}
-use Rattle.network.proofs.Numbering.{Ends}
+use Rattle.clauses.proofs.Numbering.{Ends}
 use Rattle.network_laws.proofs.Changes.{FullArrays}
 use Rattle.network_laws.proofs.Handing.{Found, Stepped, bars-ask, step-asks, steps, storing}
 use Rattle.network_laws.proofs.Stepping.{few-agents}
