@@ -15,10 +15,9 @@ use Rattle.agent_rules.specs.Message.{Assignment, known, Back as Back′}
 use Rattle.agent_rules.specs.Agent.{Agent as Agent′, above}
 use Rattle.agent_rules.specs.Receiving.{matches, holds, unheard, accepting}
 use Rattle.agent_rules.specs.Shape.{maxNamed, RecordFits, MessageFits, anyValue}
-use Rattle.agent.specs.Abstract.{selfOf}
-use Rattle.agent.specs.Entries.{ViewFits}
-use Rattle.agent.specs.Parts.{Agreed, Coherent}
-use Rattle.agent.specs.declared.Own.{Own}
+use Rattle.choosing.specs.Barring.{selfOf, ViewFits}
+use Rattle.choosing.specs.Choosing.{Agreed, Coherent}
+use Rattle.choosing.specs.declared.Own.{Own}
 
 module _ (own : Own) (a : Agent′) (from : ℕ) (lhs : Assignment) (v : ℕ) (fits : RecordFits anyValue (selfOf own) a)
     (message : MessageFits anyValue (selfOf own) a from (Back′ lhs v)) (held : holds (selfOf own) a lhs v ≡ true) where

@@ -1,8 +1,7 @@
--- A reason that choosing gives agrees with the view, and a changed view stays coherent with what it leaves of the nogoods.
--- The reason names one agent at its value in the view; a changed view drops what would disagree.
+-- A changed view stays coherent with what it leaves of the nogoods: what would disagree with it is dropped.
 use Prim.Native.Nat.{ℕ, _<_, _≤_}
 use mathlib.Core.Path.{_≡_}
-use mathlib.Core.Bool.{true, not, _||_, false≢true}
+use mathlib.Core.Bool.{true, not, _||_}
 use mathlib.Core.Option.{Option, none, some}
 use lib.Dec.{eqb}
 use borrow.Author.Tests.{eqb-true, eqb-false}
@@ -10,22 +9,13 @@ use Rattle.base.specs.Finite.{at}
 use Rattle.base.proofs.Tests.{test, no-some}
 use Rattle.base.proofs.Search.{at-same, at-other}
 use Rattle.problem.specs.Problem.{maxDomain}
-use Rattle.agent_rules.specs.Message.{Assignment, known, nobody}
+use Rattle.agent_rules.specs.Message.{Assignment, known}
 use Rattle.agent_rules.specs.Agent.{Nogoods}
-use Rattle.agent_rules.specs.Choosing.{only}
 use Rattle.agent_rules.specs.Receiving.{keepIf}
 use Rattle.agent_rules.specs.Shape.{maxNamed}
-use Rattle.agent.specs.Parts.{Agreed, Coherent, keeping}
-use Rattle.agent.specs.declared.Own.{Own}
-
-pub only-agreed : (view : Assignment) (k : ℕ) → Agreed view (only k (view k))
-unfolding only nobody known
-only-agreed view k j lo hi e =
-    test (eqb j k)
-    (λ t. rw (eqb-true j k t, at-same nobody k (view k)))
-    (λ t. absurd (false≢true (rw (at-other nobody k (view k) j (eqb-false j k t)) at e)))
-
--- ---- a changed view keeps it
+use Rattle.choosing.specs.Choosing.{Agreed, Coherent}
+use Rattle.choosing.specs.declared.Own.{Own}
+use Rattle.agent.specs.Parts.{keeping}
 
 keeping-some : (k v : ℕ) (o : Option Assignment) (lhs : Assignment) → keeping k v o ≡ some lhs
     → (o ≡ some lhs) × (known (lhs k) ≡ true → lhs k ≡ v)

@@ -6,16 +6,17 @@ use Rattle.agent_rules.specs.Message.{Message as Message′}
 use Rattle.agent_rules.specs.Counts.{Sort, Counts as Counts′, messagesIn, counting}
 use Rattle.agent_rules.specs.Agent.{Bans, withCounts}
 use Rattle.agent_rules.specs.Receiving.{react, counted, receive}
-use Rattle.agent.specs.Abstract.{noneCounted, countsOf, agentOf, selfOf}
+use Rattle.choosing.specs.Barring.{selfOf}
+use Rattle.choosing.specs.declared.Bars.{Bars}
+use Rattle.choosing.specs.declared.Own.{Own}
+use Rattle.agent.specs.Abstract.{noneCounted, countsOf, agentOf}
 use Rattle.agent.specs.Posting.{postsLeft, stepOf}
 use Rattle.agent.specs.Entries.{StepsAs, Raised}
 use Rattle.agent.specs.Parts.{apart, agentIn, postsOf, stepWith}
 use Rattle.agent.specs.declared.Agent.{Agent}
-use Rattle.agent.specs.declared.Bars.{Bars}
 use Rattle.agent.specs.declared.Counts.{Counts}
-use Rattle.agent.specs.declared.Own.{Own}
 use Rattle.agent.specs.declared.Step.{Step}
-use Rattle.agent.specs.declared.choosing.Done.{Done}
+use Rattle.agent.specs.declared.backing.Done.{Done}
 use Rattle.agent.proofs.Uncounted.{receives}
 
 -- a step put together again, with these counts

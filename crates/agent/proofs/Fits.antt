@@ -14,9 +14,11 @@ use Rattle.problem.specs.Problem.{maxDomain}
 use Rattle.agent_rules.specs.Agent.{Agent as Agent′}
 use Rattle.agent_rules.specs.Shape.{RecordFits, anyValue}
 use Rattle.packed.specs.Packed.{members}
-use Rattle.agent.specs.Abstract.{assigned, agentOf, selfOf}
-use Rattle.agent.specs.Parts.{nogoodsOf, agentIn, Coherent, Sound}
-use Rattle.agent.specs.declared.Own.{Own}
+use Rattle.choosing.specs.Barring.{selfOf}
+use Rattle.choosing.specs.Choosing.{nogoodsOf, Coherent}
+use Rattle.choosing.specs.declared.Own.{Own}
+use Rattle.agent.specs.Abstract.{assigned, agentOf}
+use Rattle.agent.specs.Parts.{agentIn, Sound}
 use Rattle.agent.specs.declared.State.{State}
 
 -- a set in sixteen bits names the agents 1 to 16

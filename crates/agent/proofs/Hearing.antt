@@ -17,16 +17,16 @@ use Rattle.agent_rules.specs.Agent.{Bans, above}
 use Rattle.agent_rules.specs.Receiving.{matches, unheard}
 use Rattle.agent_rules.specs.Shape.{maxNamed}
 use Rattle.packed.specs.Packed.{assignment, members}
-use Rattle.agent.specs.Abstract.{assigned, byteOf, agentOf, selfOf, bansIn}
-use Rattle.agent.specs.Entries.{Able, ViewFits, Barring}
-use Rattle.agent.specs.Parts.{barredAt, listener, Listening, Hears}
-use Rattle.agent.specs.declared.Bars.{Bars}
-use Rattle.agent.specs.declared.Own.{Own}
+use Rattle.choosing.specs.Barring.{selfOf, Able, ViewFits, bansIn, barredAt, byteOf, Barring}
+use Rattle.choosing.specs.declared.Bars.{Bars}
+use Rattle.choosing.specs.declared.Own.{Own}
+use Rattle.agent.specs.Abstract.{assigned, agentOf}
+use Rattle.agent.specs.Parts.{listener, Listening, Hears}
 use Rattle.agent.specs.declared.State.{State}
 use Rattle.agent.specs.declared.receiving.Heard.{Heard}
 use Rattle.packed.proofs.Known.{known-true}
 use Rattle.packed.proofs.Sets.{no-members}
-use Rattle.agent.proofs.Barrings.{seen, barred-at-bits}
+use Rattle.choosing.proofs.Barrings.{seen, barred-at-bits}
 
 module _ (s : State) (lhs : Assignment) where
   -- agent k was passed, and not listened to

@@ -21,17 +21,18 @@ use Rattle.agent_rules.specs.Choosing.{noRefuser, after}
 use Rattle.agent_rules.specs.Receiving.{agreeing, updated, conflicts, onInfo}
 use Rattle.agent_rules.specs.Shape.{maxNamed, anyValue}
 use Rattle.packed.specs.Packed.{assignment, members}
-use Rattle.agent.specs.Abstract.{assigned, byteOf, noneCounted, countsOf, agentOf, selfOf, bansIn}
-use Rattle.agent.specs.Entries.{Barring}
-use Rattle.agent.specs.Parts.{barredAt, nogoodsOf, agentIn, Agreed, Coherent, Sound, keeping, Handed, takenAs, Takes}
-use Rattle.agent.specs.declared.Bars.{Bars}
-use Rattle.agent.specs.declared.Own.{Own}
+use Rattle.choosing.specs.Barring.{selfOf, bansIn, barredAt, byteOf, Barring}
+use Rattle.choosing.specs.Choosing.{nogoodsOf, Agreed, Coherent}
+use Rattle.choosing.specs.declared.Bars.{Bars}
+use Rattle.choosing.specs.declared.Own.{Own}
+use Rattle.agent.specs.Abstract.{assigned, noneCounted, countsOf, agentOf}
+use Rattle.agent.specs.Parts.{agentIn, Sound, keeping, Handed, takenAs, Takes}
 use Rattle.agent.specs.declared.State.{State}
-use Rattle.agent.proofs.Barrings.{first-barring, seen as seen-bytes, barred-at-bits}
+use Rattle.choosing.proofs.Barrings.{first-barring, seen as seen-bytes, barred-at-bits}
 use Rattle.agent.proofs.Telling.{no-refuser}
 use Rattle.agent.proofs.ToSet.{none-in, links-none, news-none}
 use Rattle.agent.proofs.Fits.{member-range, fits-sound}
-use Rattle.agent.proofs.Records.{nogoods-beyond}
+use Rattle.choosing.proofs.Records.{nogoods-beyond}
 use Rattle.agent.proofs.Coherence.{coherent-keeping}
 
 -- ---- the nogoods that disagree

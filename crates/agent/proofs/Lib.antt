@@ -1,11 +1,5 @@
-pub mod Bytes
-pub mod Marks
-pub mod Barrings
-pub mod Walking
-pub mod Records
 pub mod Coherence
 pub mod ToSet
-pub mod Named
 pub mod Sending
 pub mod Tallies
 pub mod Cursor
@@ -18,13 +12,7 @@ pub mod Infos
 pub mod Backs
 pub mod Hearing
 pub mod Stored
-pub mod Spared
-pub mod Unions
 pub mod Views
-pub mod Free
-pub mod Blaming
-pub mod Reasons
-pub mod Choices
 pub mod Settling
 pub mod Uncounted
 pub mod Counted

@@ -9,9 +9,10 @@ use Rattle.base.proofs.Tests.{eq-test}
 use Rattle.agent_rules.specs.Message.{AddLink as AddLink′}
 use Rattle.agent_rules.specs.Receiving.{answer, informing, onAddLink}
 use Rattle.packed.specs.Packed.{members}
-use Rattle.agent.specs.Abstract.{agentOf, selfOf, bansIn}
+use Rattle.choosing.specs.Barring.{selfOf, bansIn}
+use Rattle.choosing.specs.declared.Own.{Own}
+use Rattle.agent.specs.Abstract.{agentOf}
 use Rattle.agent.specs.Parts.{agentIn, Handed, Takes}
-use Rattle.agent.specs.declared.Own.{Own}
 use Rattle.agent.specs.declared.State.{State}
 use Rattle.agent.proofs.Fits.{fits-sound}
 use Rattle.agent.proofs.Steps.{takes-answer}

@@ -21,14 +21,15 @@ use Rattle.agent_rules.specs.Choosing.{refusing}
 use Rattle.agent_rules.specs.Shape.{maxNamed, EachNamed, EachIn}
 use Rattle.agent_rules.proofs.Assignments.{unknown-zero}
 use Rattle.packed.specs.Packed.{digit, assignment, members}
+use Rattle.choosing.specs.Barring.{OwnFits, Barring}
+use Rattle.choosing.specs.declared.Own.{Own}
 use Rattle.agent.specs.Abstract.{assigned}
 use Rattle.agent.specs.Posting.{postIf, postsTo, linksTo, newsTo, backOf, backsFrom, postsLeft, Ready, stepOf}
-use Rattle.agent.specs.Entries.{OwnFits, Above, Below, Barring, isOther, StepsAs}
-use Rattle.agent.specs.declared.Own.{Own}
+use Rattle.agent.specs.Entries.{Above, Below, isOther, StepsAs}
 use Rattle.agent.specs.declared.Posts.{Posts}
 use Rattle.agent.specs.declared.Step.{Step}
 use Rattle.packed.proofs.Wordwise.{short}
-use Rattle.agent.proofs.Named.{highest-named, named-some}
+use Rattle.choosing.proofs.Named.{highest-named, named-some}
 
 -- ---- a whole nogood that goes to an agent above: it names one, and none but those
 

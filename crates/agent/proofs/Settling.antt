@@ -18,13 +18,13 @@ use Rattle.agent_rules.specs.Choosing.{Choice, choice, infos, chosen, took, uni
 use Rattle.agent_rules.specs.Receiving.{keepIf}
 use Rattle.agent_rules.specs.Shape.{maxNamed}
 use Rattle.packed.specs.Packed.{numberOf}
-use Rattle.agent.specs.Abstract.{selfOf}
-use Rattle.agent.specs.Entries.{OwnFits}
-use Rattle.agent.specs.Parts.{Coherent, keeping}
-use Rattle.agent.specs.declared.Own.{Own}
+use Rattle.choosing.specs.Barring.{selfOf, OwnFits}
+use Rattle.choosing.specs.Choosing.{Coherent}
+use Rattle.choosing.specs.declared.Own.{Own}
+use Rattle.agent.specs.Parts.{keeping}
 use Rattle.packed.proofs.Known.{known-true}
-use Rattle.agent.proofs.Named.{number-none, number-some}
-use Rattle.agent.proofs.Unions.{union-agreed}
+use Rattle.choosing.proofs.Named.{number-none, number-some}
+use Rattle.choosing.proofs.Unions.{union-agreed}
 
 -- ---- one turn, once it is known what choosing comes to
 

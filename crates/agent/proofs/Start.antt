@@ -15,12 +15,14 @@ use Rattle.agent_rules.specs.Choosing.{bars, named, blame, blaming, reasonOf, r
 use Rattle.agent_rules.specs.Receiving.{fresh, begin, counted}
 use Rattle.agent_rules.specs.Counts.{Sort, Infos, Backs, AddLinks, Counts as Counts′, noCounts, number, messagesIn, top, raised, counting}
 use Rattle.packed.specs.Packed.{members}
-use Rattle.agent.specs.Abstract.{assigned, nogoodAt, noneCounted, countOf, countsOf, agentOf, selfOf}
+use Rattle.choosing.specs.Barring.{selfOf, OwnFits}
+use Rattle.choosing.specs.Choosing.{nogoodAt}
+use Rattle.choosing.specs.declared.Own.{Own}
+use Rattle.agent.specs.Abstract.{assigned, noneCounted, countOf, countsOf, agentOf}
 use Rattle.agent.specs.Posting.{newsTo, backsFrom, postsLeft, Ready}
-use Rattle.agent.specs.Entries.{OwnFits, Below, BeginsAs}
+use Rattle.agent.specs.Entries.{Below, BeginsAs}
 use Rattle.agent.specs.declared.Agent.{Agent}
 use Rattle.agent.specs.declared.Counts.{Counts}
-use Rattle.agent.specs.declared.Own.{Own}
 use Rattle.agent.specs.declared.Posts.{Posts}
 use Rattle.packed.proofs.Digits.{nobody-assigned}
 use Rattle.agent.proofs.Telling.{all-told}

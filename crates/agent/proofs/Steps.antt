@@ -13,11 +13,12 @@ use Rattle.agent_rules.specs.Agent.{Self, Bans}
 use Rattle.agent_rules.specs.Choosing.{after, checkView}
 use Rattle.agent_rules.specs.Receiving.{quiet, answer}
 use Rattle.packed.specs.Packed.{assignment, members}
+use Rattle.choosing.specs.Barring.{OwnFits, Barring}
+use Rattle.choosing.specs.declared.Own.{Own}
 use Rattle.agent.specs.Abstract.{assigned, agentOf}
 use Rattle.agent.specs.Posting.{linksTo, newsTo, backsFrom, postsLeft, stepOf}
-use Rattle.agent.specs.Entries.{OwnFits, Below, Barring, StepsAs}
+use Rattle.agent.specs.Entries.{Below, StepsAs}
 use Rattle.agent.specs.Parts.{agentIn, stepWith, Sound, takenAs, Takes}
-use Rattle.agent.specs.declared.Own.{Own}
 use Rattle.agent.specs.declared.State.{State}
 use Rattle.agent.specs.declared.Taken.{Taken}
 use Rattle.agent.proofs.Sending.{steps-as}

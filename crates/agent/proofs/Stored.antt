@@ -17,15 +17,17 @@ use Rattle.agent_rules.specs.Receiving.{matches, holds, unheard, accepting, out
 use Rattle.agent_rules.specs.Shape.{anyValue}
 use Rattle.problem.specs.Problem.{maxAgents, maxDomain}
 use Rattle.packed.specs.Packed.{assignment, members}
-use Rattle.agent.specs.Abstract.{assigned, noneCounted, countsOf, agentOf, selfOf, bansIn}
-use Rattle.agent.specs.Entries.{Above, ViewFits}
-use Rattle.agent.specs.Parts.{nogoodsOf, agentIn, Sound, Listening, Hears, Handed, takenAs, Takes}
-use Rattle.agent.specs.declared.Own.{Own}
+use Rattle.choosing.specs.Barring.{selfOf, ViewFits, bansIn}
+use Rattle.choosing.specs.Choosing.{nogoodsOf}
+use Rattle.choosing.specs.declared.Own.{Own}
+use Rattle.agent.specs.Abstract.{assigned, noneCounted, countsOf, agentOf}
+use Rattle.agent.specs.Entries.{Above}
+use Rattle.agent.specs.Parts.{agentIn, Sound, Listening, Hears, Handed, takenAs, Takes}
 use Rattle.agent.specs.declared.State.{State}
 use Rattle.agent.specs.declared.receiving.Heard.{Heard}
 use Rattle.agent.proofs.ToSet.{none-in, news-none, links-asked}
 use Rattle.agent.proofs.Fits.{fits-sound}
-use Rattle.agent.proofs.Records.{nogoods-stored}
+use Rattle.choosing.proofs.Records.{nogoods-stored}
 use Rattle.agent.proofs.Steps.{takes-quiet, takes-answer}
 use Rattle.agent.proofs.Backs.{coherent-accepting}
 

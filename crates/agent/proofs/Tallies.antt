@@ -3,7 +3,7 @@
 use Prim.Native.Nat.{ℕ, zero, suc, _+_, _*_, _-_, _/_, _%_, _^_, _≤_, _<_}
 use mathlib.Core.Path.{_≡_, refl, sym, ap, _∙_}
 use mathlib.Core.List.{List, [], _∷_, _++_, map}
-use native.Mathlib.Nat.{pow-suc, div-div-eq-div-mul, div-one}
+use native.Mathlib.Nat.{div-one}
 use native.Mathlib.Omega.{arith}
 use lib.Count.{ones, ones-step}
 use lib.ListN.{length, take, drop, length-drop}
@@ -28,15 +28,13 @@ use Rattle.agent_rules.specs.Choosing.{refusing}
 use Rattle.agent_rules.specs.Shape.{maxNamed, EachIn}
 use Rattle.agent_rules.proofs.Counts.{raised-none, number-append, messages-append}
 use Rattle.packed.specs.Packed.{members}
+use Rattle.choosing.proofs.Records.{half}
 use Rattle.agent.specs.Abstract.{countOf}
 use Rattle.agent.specs.Posting.{postIf, postsTo, linksTo, newsTo, backOf, backsFrom, postsLeft, Ready}
 use Rattle.agent.specs.declared.Counts.{Counts}
 use Rattle.agent.specs.declared.Posts.{Posts}
 
 -- ---- to a set
-
-pub half : (s k : ℕ) → s / 2 ^ suc k ≡ s / 2 ^ k / 2
-half s k = rw (pow-suc 2 k, ← div-div-eq-div-mul s (2 ^ k) 2)
 
 pub ones-none : ones 0 ≡ 0
 unfolding ones

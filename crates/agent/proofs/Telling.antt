@@ -16,10 +16,11 @@ use Rattle.agent_rules.specs.Receiving.{fresh}
 use Rattle.agent_rules.specs.Agent.{Self, unusedAgent}
 use Rattle.packed.specs.Packed.{members}
 use Rattle.packed.proofs.Sets.{no-members}
-use Rattle.agent.specs.Abstract.{agentOf, selfOf}
+use Rattle.choosing.specs.Barring.{selfOf}
+use Rattle.choosing.specs.declared.Own.{Own}
+use Rattle.agent.specs.Abstract.{agentOf}
 use Rattle.agent.specs.Entries.{Below}
 use Rattle.agent.specs.Parts.{listener, Refuser}
-use Rattle.agent.specs.declared.Own.{Own}
 use Rattle.agent.specs.declared.State.{State}
 
 pub no-refuser : (own : Own) → Refuser own 0

@@ -20,17 +20,19 @@ use Rattle.agent_rules.specs.Choosing.{choice, tells, chosen, union, refusing, 
 use Rattle.agent_rules.specs.Shape.{maxNamed}
 use Rattle.agent_rules.proofs.Assignments.{known-zero}
 use Rattle.packed.specs.Packed.{assignment, members, numberOf, maskFrom}
-use Rattle.agent.specs.Abstract.{byteOf, assigned, noneCounted, countsOf, agentOf, selfOf}
+use Rattle.choosing.specs.Barring.{selfOf, OwnFits, byteOf, Barring}
+use Rattle.choosing.specs.Choosing.{nogoodsOf, valueOf, Chose}
+use Rattle.choosing.specs.declared.Bars.{Bars}
+use Rattle.choosing.specs.declared.Own.{Own}
+use Rattle.agent.specs.Abstract.{assigned, noneCounted, countsOf, agentOf}
 use Rattle.agent.specs.Posting.{linksTo, newsTo, backOf, backsFrom, postsLeft, stepOf}
-use Rattle.agent.specs.Entries.{OwnFits, Above, Below, Barring, StepsAs}
-use Rattle.agent.specs.Parts.{nogoodsOf, agentIn, stepWith, Sound, Refuser, valueOf, Chose, ended, keeping, listener}
-use Rattle.agent.specs.declared.Bars.{Bars}
-use Rattle.agent.specs.declared.Own.{Own}
+use Rattle.agent.specs.Entries.{Above, Below, StepsAs}
+use Rattle.agent.specs.Parts.{agentIn, stepWith, Sound, Refuser, ended, keeping, listener}
 use Rattle.agent.specs.declared.State.{State}
 use Rattle.packed.proofs.Known.{known-from, known-true}
-use Rattle.agent.proofs.Barrings.{seen, unknown-bits}
+use Rattle.choosing.proofs.Barrings.{seen, unknown-bits}
 use Rattle.agent.proofs.Coherence.{coherent-keeping}
-use Rattle.agent.proofs.Spared.{spares}
+use Rattle.choosing.proofs.Spared.{spares}
 use Rattle.agent.proofs.Views.{kept-other}
 use Rattle.agent.proofs.Settling.{namedTo, named-le, named-forget, named-above, whom, refuses-nobody, refuses-one, refused-known, after-after, turn-took, turn-failed, turn-back, without-keeping}
 use Rattle.agent.proofs.Sending.{Refuses, Addressed, refuses, backs-more, steps-as}

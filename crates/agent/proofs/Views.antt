@@ -19,13 +19,13 @@ use Rattle.agent_rules.specs.Message.{Assignment, known}
 use Rattle.agent_rules.specs.Receiving.{keepIf}
 use Rattle.agent_rules.specs.Shape.{maxNamed}
 use Rattle.packed.specs.Packed.{assignment, maskFrom}
-use Rattle.agent.specs.Abstract.{nogoodAt}
-use Rattle.agent.specs.Parts.{nogoodsOf, Coherent, keeping}
-use Rattle.agent.specs.declared.Own.{Own}
+use Rattle.choosing.specs.Choosing.{nogoodAt, nogoodsOf, Coherent}
+use Rattle.choosing.specs.declared.Own.{Own}
+use Rattle.agent.specs.Parts.{keeping}
 use Rattle.packed.proofs.Known.{known-true}
 use Rattle.packed.proofs.Masks.{mask-bit}
-use Rattle.agent.proofs.Spared.{spares}
-use Rattle.agent.proofs.Records.{nogood-stored, nogood-none}
+use Rattle.choosing.proofs.Spared.{spares}
+use Rattle.choosing.proofs.Records.{nogood-stored, nogood-none}
 
 module _ (own : Own) (view : Assignment) (old : ℕ) (nogoods : List ℕ) (k v : ℕ) (c : Coherent own view (nogoodsOf old nogoods))
     (small : old < 2 ^ 8) (lo : 1 ≤ k) (hi : k ≤ 16) where

@@ -1,44 +1,25 @@
 -- What the entries of an agent need of the problem and of their caller, and what they promise.
-use Prim.Native.Nat.{ℕ, pred, _-_, _≤_, _<_}
+use Prim.Native.Nat.{ℕ, _≤_, _<_}
 use mathlib.Core.Path.{_≡_}
 use mathlib.Core.Bool.{Bool, true, false, not, _&&_}
 use mathlib.Core.List.{List}
 use lib.Dec.{eqb}
-use lib.ListN.{length}
 use Rattle.base.specs.Finite.{within, every}
-use Rattle.base.specs.Bits.{bit}
-use Rattle.problem.specs.Problem.{maxAgents, maxDomain}
-use Rattle.agent_rules.specs.Message.{Assignment, Message as Message′}
+use Rattle.problem.specs.Problem.{maxAgents}
+use Rattle.agent_rules.specs.Message.{Message as Message′}
 use Rattle.agent_rules.specs.Counts.{Sort, number, raised}
 use Rattle.agent_rules.specs.Agent.{Bans, Step as Step′}
-use Rattle.agent_rules.specs.Choosing.{bars}
-use Rattle.agent_rules.specs.Shape.{maxNamed, EachNamed, EachIn}
+use Rattle.agent_rules.specs.Shape.{EachIn}
 use Rattle.packed.specs.Packed.{members}
-use Rattle.agent.specs.Abstract.{assigned, byteOf, countOf, agentOf}
+use Rattle.choosing.specs.Barring.{Barring}
+use Rattle.choosing.specs.declared.Own.{Own}
+use Rattle.agent.specs.Abstract.{assigned, countOf, agentOf}
 use Rattle.agent.specs.Posting.{newsTo, Ready, stepOf}
 use Rattle.agent.specs.declared.Agent.{Agent}
-use Rattle.agent.specs.declared.Own.{Own}
-use Rattle.agent.specs.declared.Bars.{Bars}
 use Rattle.agent.specs.declared.Counts.{Counts}
 use Rattle.agent.specs.declared.Step.{Step}
 
 -- ---- what is asked
-
--- one of at most twelve agents, with at most eight values
-pub record OwnFits (own : Own) : Type 0 where
-  pub first : 1 ≤ own .number
-  pub last : own .number ≤ 12
-  pub some : 1 ≤ own .domain
-  pub few : own .domain ≤ 8
-
--- .. and a word of bans for each agent above
-pub record Able (own : Own) (words : List ℕ) : Type 0 where
-  pub fits : OwnFits own
-  pub bans : length words ≡ own .number - 1
-
--- a view names agents above, at values that a word of bans has room for
-abbrev pub ViewFits : Own → Assignment → Type 0
-ViewFits own view = EachNamed view (λ k v. (k < own .number) × (v ≤ maxDomain))
 
 -- the agents of a set are above, or below
 abbrev pub Above : Own → ℕ → Type 0
@@ -46,11 +27,6 @@ Above own set = EachIn (members set) (λ k. k < own .number)
 
 abbrev pub Below : Own → ℕ → Type 0
 Below own set = EachIn (members set) (λ k. (own .number < k) × (k ≤ maxAgents))
-
--- what the bans and a view bar: bit w - 1 of agent k's byte says whether its value in the view bans own value w
-abbrev pub Barring : Bans → Assignment → Bars → Type 0
-Barring bans view b =
-    (k w : ℕ) → 1 ≤ k → k ≤ maxNamed → 1 ≤ w → w ≤ maxDomain → bit (byteOf b k) (pred w) ≡ bars bans view w k
 
 -- ---- what is promised
 

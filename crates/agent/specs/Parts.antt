@@ -1,43 +1,36 @@
 -- What the parts of an agent's code compute or need, where the rules have no name for it. A primed name is the definitions'.
-use Prim.Native.Nat.{ℕ, zero, suc, pred, _*_, _-_, _/_, _%_, _^_, _≤_, _<_}
+use Prim.Native.Nat.{ℕ, _≤_, _<_}
 use mathlib.Core.Path.{_≡_}
 use mathlib.Core.Logic.{_≢_}
-use mathlib.Core.Bool.{Bool, true, false, not, cond, _||_}
+use mathlib.Core.Bool.{true, false, not, cond, _||_}
 use mathlib.Core.Option.{Option, none, some}
 use mathlib.Core.List.{List, []}
 use lib.Dec.{eqb}
 use lib.ListN.{length}
-use Rattle.base.specs.Finite.{fromOne, allTo, isSome, lowest}
-use Rattle.base.specs.Bits.{bit}
-use Rattle.problem.specs.Problem.{maxAgents, maxDomain}
+use Rattle.base.specs.Finite.{allTo}
+use Rattle.problem.specs.Problem.{maxAgents}
 use Rattle.agent_rules.specs.Message.{Assignment, known, Message as Message′}
-use Rattle.agent_rules.specs.Agent.{Self, Bans, Nogoods, Agent as Agent′, Step as Step′, above}
-use Rattle.agent_rules.specs.Choosing.{blame, choose, noRefuser, after, checkView}
+use Rattle.agent_rules.specs.Agent.{Self, Bans, Agent as Agent′, Step as Step′, above}
+use Rattle.agent_rules.specs.Choosing.{noRefuser, after, checkView}
 use Rattle.agent_rules.specs.Receiving.{keepIf, quiet, matches, unheard}
-use Rattle.agent_rules.specs.Shape.{maxNamed, EachNamed, RecordFits, MessageFits, anyValue}
+use Rattle.agent_rules.specs.Shape.{EachNamed, RecordFits, MessageFits, anyValue}
 use Rattle.packed.specs.Packed.{assignment, members}
-use Rattle.agent.specs.Abstract.{nogoodAt, noneCounted, agentOf, selfOf, bansIn, byteOf}
+use Rattle.choosing.specs.Barring.{selfOf, Able, bansIn, Barring}
+use Rattle.choosing.specs.Choosing.{nogoodsOf, Coherent}
+use Rattle.choosing.specs.declared.Bars.{Bars}
+use Rattle.choosing.specs.declared.Own.{Own}
+use Rattle.agent.specs.Abstract.{noneCounted, agentOf}
 use Rattle.agent.specs.Posting.{linksTo, newsTo}
-use Rattle.agent.specs.Entries.{Able, ViewFits, Above, Below, Barring}
+use Rattle.agent.specs.Entries.{Above, Below}
 use Rattle.agent.specs.declared.Agent.{Agent}
-use Rattle.agent.specs.declared.Bars.{Bars}
-use Rattle.agent.specs.declared.Own.{Own}
 use Rattle.agent.specs.declared.Posts.{Posts}
 use Rattle.agent.specs.declared.State.{State}
 use Rattle.agent.specs.declared.Step.{Step}
 use Rattle.agent.specs.declared.Taken.{Taken}
-use Rattle.agent.specs.declared.choosing.Done.{Done}
+use Rattle.agent.specs.declared.backing.Done.{Done}
 use Rattle.agent.specs.declared.receiving.Heard.{Heard}
 
--- the own values that an agent with this word of bans bars at value v: one byte of the word
-unfoldable pub barredAt : ℕ → ℕ → ℕ
-barredAt word v = word / 2 ^ (8 * (v - 1)) % 256
-
 -- ---- an agent taken apart
-
--- the nogoods of a mask and eight words
-unfoldable pub nogoodsOf : ℕ → List ℕ → Nogoods
-nogoodsOf stored nogoods = fromOne none (nogoodAt stored nogoods)
 
 abbrev pub apart : Agent → Bars → State
 apart a b =
@@ -86,16 +79,7 @@ stepWith d nogoods backs =
 
 -- ---- what a step may count on
 
--- a left side names agents at their values in the view
-abbrev pub Agreed : Assignment → Assignment → Type 0
-Agreed view lhs = EachNamed lhs (λ k u. u ≡ view k)
-
--- the view names agents above, at values that there are, and the nogoods agree with it
-pub record Coherent (own : Own) (view : Assignment) (nogoods : Nogoods) : Type 0 where
-  pub viewed : ViewFits own view
-  pub agreed : (v : ℕ) (lhs : Assignment) → 1 ≤ v → v ≤ maxDomain → nogoods v ≡ some lhs → Agreed view lhs
-
--- .. and those informed are below
+-- view and nogoods are coherent, and those informed are below
 pub record Sound (own : Own) (s : State) (nogoods : List ℕ) : Type 0 where
   pub places : length nogoods ≡ 8
   pub coherent : Coherent own (assignment (s .view)) (nogoodsOf (s .stored) nogoods)
@@ -106,38 +90,6 @@ abbrev pub Refuser : Own → ℕ → Type 0
 Refuser own refuser = refuser ≢ noRefuser → (own .number < refuser) × (refuser ≤ maxAgents)
 
 -- ---- choosing
-
--- own value v has no stored reason, and no byte bars it
-unfoldable pub leftFree : ℕ → Bars → ℕ → Bool
-leftFree stored b v = not (bit stored (pred v) || isSome (lowest maxNamed 1 (λ k. bit (byteOf b k) (pred v))))
-
--- none of the values 1 to m is left free
-abbrev pub Barred : ℕ → Bars → ℕ → Type 0
-Barred stored b m = (v : ℕ) → 1 ≤ v → v ≤ m → leftFree stored b v ≡ false
-
--- own value w has agent k to blame
-abbrev pub Blames : Own → Bars → Nogoods → ℕ → ℕ → Type 0
-Blames own b nogoods w k =
-    (1 ≤ k) × (k ≤ maxNamed)
-    × ((bans : Bans) (view : Assignment) → Barring bans view b → ViewFits own view → blame (selfOf own) bans view nogoods w ≡ some k)
-
--- the nogoods with the reasons of the values 1 to m: from there, choosing has only the values above m left to try
-pub record Reasoned (own : Own) (view : Assignment) (b : Bars) (m : ℕ) (old new : Nogoods) : Type 0 where
-  pub coherent : Coherent own view new
-  pub later : (v : ℕ) → m < v → new v ≡ old v
-  pub goes-on : (bans : Bans) → Barring bans view b
-      → choose (own .domain - m) (suc m) (selfOf own) bans view new ≡ choose (own .domain) 1 (selfOf own) bans view old
-
--- a value as an option, 0 for none
-unfoldable pub valueOf : ℕ → Option ℕ
-valueOf zero = none
-valueOf (suc v) = some (suc v)
-
--- choosing takes value v and leaves these nogoods
-pub record Chose (own : Own) (view : Assignment) (b : Bars) (old : Nogoods) (v : ℕ) (new : Nogoods) : Type 0 where
-  pub coherent : Coherent own view new
-  pub choice : (bans : Bans) → Barring bans view b
-      → choose (own .domain) 1 (selfOf own) bans view old ≡ record { value = valueOf v; nogoods = new }
 
 -- the step that ends with value v, told to the agents of a set; 0 for the verdict
 abbrev pub ended : State → ℕ → ℕ → ℕ → ℕ → Done

@@ -4,16 +4,19 @@ ghost use Rattle.agent_rules.specs.Agent.{Bans};
 ghost use Rattle.agent_rules.specs.Receiving.{receive, begin};
 ghost use Rattle.agent_rules.specs.Shape.{RecordFits, MessageFits, anyValue};
 ghost use Rattle.packed.specs.Packed.{members};
-ghost use Rattle.agent.specs.Abstract.{assigned, messageOf, agentOf, selfOf, bansIn};
-ghost use Rattle.agent.specs.Entries.{OwnFits, Able, Below, Barring, StepsAs, BeginsAs};
+ghost use Rattle.choosing.specs.Barring.{selfOf, OwnFits, Able, bansIn, Barring};
+ghost use Rattle.agent.specs.Abstract.{assigned, messageOf, agentOf};
+ghost use Rattle.agent.specs.Entries.{Below, StepsAs, BeginsAs};
 ghost use Rattle.agent.specs.Parts.{apart};
 
 mod assigning;
-mod barring;
-mod choosing;
+mod backing;
 mod counting;
 mod posting;
 mod receiving;
+
+use choosing::Bars;
+use choosing::Own;
 
 // A packed partial assignment: digit k - 1 in base 16 is the value of agent k, 0 where it is unknown or not named. A view, or the left side of
 // a nogood.
@@ -55,20 +58,6 @@ pub struct Agent {
     pub nogoods: [u64; 8],
     pub sent: Counts,
     pub received: Counts,
-}
-
-// An agent's number and domain (slot count), and the network's rule.
-pub struct Own {
-    pub number: u8,
-    pub domain: u8,
-    pub rule: u8,
-}
-
-// What an agent's view bars, worked out from the view and the bans: bit w - 1 of byte k - 1 says that agent k has a known value that bans own
-// value w. Agents 1 to 8 stand in `low`, 9 to 16 in `high`.
-pub struct Bars {
-    pub low: u64,
-    pub high: u64,
 }
 
 // A message and who gets it.

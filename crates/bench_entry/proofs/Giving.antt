@@ -24,7 +24,7 @@ use Rattle.agent.specs.Abstract.{countsOf, agentOf}
 use Rattle.sheet.specs.Abstract.{Outcome, outcome}
 use Rattle.network.specs.declared.Network.{Network}
 use Rattle.network.specs.Abstract.{isChannel, rowOf, agentsOf, networkOf}
-use Rattle.network.proofs.Numbering.{ends}
+use Rattle.clauses.proofs.Numbering.{ends}
 use Rattle.network_laws.specs.Held.{heldAt}
 use Rattle.network_laws.proofs.Changes.{channel-held}
 use Rattle.engine.specs.declared.Answer.{Answer}

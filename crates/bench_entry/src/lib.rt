@@ -15,11 +15,11 @@ ghost use Rattle.image_forms.specs.Moving.{move};
 ghost use Rattle.bench_entry.specs.Giving.{wordFor, WaitsFor, endingDigit, settledFor, playedTo, Playing, playedFor, countMixed, countsMixed, countsFor, agentMixed, readFor, formFor, WritesFor, MovesFor};
 use agent::Agent;
 use agent::Counts;
+use clauses::places::lines_of;
 use engine::Answer;
 use engine::Ending;
 use lent::Written;
 use network::Network;
-use network::places::lines_of;
 
 // Decoding alone: one word of an accepted sheet's ban table, or the number of the sheet's fault.
 #[no_mangle]

@@ -7,9 +7,9 @@ use agent::Agent;
 use agent::Counts;
 use agent::Lhs;
 use agent::Message;
+use clauses::places::channel_at;
+use clauses::places::place_at;
 use network::Network;
-use network::places::channel_at;
-use network::places::place_at;
 use packed::digit;
 use words::printing::Out;
 

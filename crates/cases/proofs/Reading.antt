@@ -10,7 +10,6 @@ use lib.Dec.{leb}
 use lib.ListN.{length, getD, drop}
 use lib.Seq.{drop-cons, drop-length}
 use borrow.Author.Tests.{leb-true, eq-eqb, ne-eqb}
-use Rattle.base.proofs.Tests.{test}
 use Rattle.cases.specs.declared.lines.Numbers.{Numbers}
 use Rattle.cases.specs.Lines.{endFrom, isDigit, withDigit, valueFrom, numberBegins, numbersAfter, withNumber, withNumbers}
 

@@ -10,8 +10,8 @@ use Rattle.protocol.specs.Network.{Network}
 use Rattle.protocol.specs.Delivery.{askValue}
 use Rattle.network.specs.declared.Network.{Network as Record}
 use Rattle.network.specs.Abstract.{problemOf, networkOf}
-use Rattle.words.specs.Text.{Appends}
-use Rattle.words.proofs.Appending.{appends-then}
+use Rattle.text.specs.Text.{Appends}
+use Rattle.text.proofs.Appending.{appends-then}
 use Rattle.dock_text.specs.Text.{slotLine, slotLines}
 
 abbrev pub slotOf : Network → ℕ → List ℕ

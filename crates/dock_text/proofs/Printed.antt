@@ -9,7 +9,7 @@ use Rattle.io.specs.Counts.{Counts}
 use Rattle.protocol.specs.Network.{Network, startSheet}
 use Rattle.protocol.specs.Run.{Plan, Ran}
 use Rattle.engine.specs.Answers.{endingOf}
-use Rattle.words.specs.Text.{lineOf, Appends}
+use Rattle.text.specs.Text.{lineOf, Appends}
 use Rattle.dock_text.specs.declared.Settlement.{Settlement}
 use Rattle.dock_text.specs.Settling.{programRule, Settles, settled}
 use Rattle.dock_text.specs.Text.{sheetRefused, answerText, settledText, dockText, Prints}

@@ -14,7 +14,7 @@ use Rattle.protocol.specs.Run.{Ending, None, Plan, Jammed, Open, Broken, ending
 use Rattle.network.specs.Abstract.{networkOf}
 use Rattle.engine.specs.declared.Answer.{Answer}
 use Rattle.engine.specs.Answers.{endingOf}
-use Rattle.words.specs.Text.{decimal, newline, lineOf}
+use Rattle.text.specs.Text.{decimal, newline, lineOf}
 use Rattle.dock_text.specs.Settling.{programRule, settled}
 
 -- ---- the words

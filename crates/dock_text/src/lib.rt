@@ -6,16 +6,16 @@ ghost use Rattle.protocol.specs.Run.{Plan};
 ghost use Rattle.io.specs.Counts.{Counts};
 ghost use Rattle.network.specs.Abstract.{networkOf};
 ghost use Rattle.engine.specs.Answers.{endingOf};
-ghost use Rattle.words.specs.Text.{Appends};
+ghost use Rattle.text.specs.Text.{Appends};
 ghost use Rattle.dock_text.specs.Settling.{programRounds, Settles};
 ghost use Rattle.dock_text.specs.Text.{slotLine, slotLines, planLines, answerText, Prints};
 use engine::Answer;
 use engine::Ending;
 use network::Network;
-use words::text::append;
-use words::text::append_ending;
-use words::text::append_line;
-use words::text::append_number;
+use text::append;
+use text::append_line;
+use text::append_number;
+use words::append_ending;
 
 // What a sheet comes to: the number of its fault, or 0, and the run on its start.
 pub struct Settlement {

@@ -7,7 +7,7 @@ use lib.ListN.{length, set, length-set}
 use Rattle.base.specs.Finite.{at}
 use Rattle.problem.specs.Problem.{pairsBefore}
 use Rattle.packed.specs.Packed.{assignment}
-use Rattle.agent.specs.declared.Bars.{Bars}
+use Rattle.choosing.specs.declared.Bars.{Bars}
 use Rattle.agent.specs.declared.Posts.{Posts}
 use Rattle.agent.specs.declared.Step.{Step}
 use Rattle.agent.specs.Posting.{postsLeft}

@@ -12,10 +12,10 @@ use Rattle.base.proofs.Tests.{eq-test}
 use Rattle.base.proofs.Search.{at-other}
 use Rattle.problem.specs.Problem.{pairsBefore}
 use Rattle.packed.specs.Packed.{members}
+use Rattle.choosing.specs.Barring.{bansIn, Barring}
+use Rattle.choosing.specs.declared.Bars.{Bars}
 use Rattle.agent.specs.declared.Agent.{Agent}
-use Rattle.agent.specs.declared.Bars.{Bars}
-use Rattle.agent.specs.Abstract.{assigned, noneCounted, bansIn}
-use Rattle.agent.specs.Entries.{Barring}
+use Rattle.agent.specs.Abstract.{assigned, noneCounted}
 use Rattle.network_laws.proofs.Words.{part}
 
 -- what an array past its end has

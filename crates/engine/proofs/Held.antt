@@ -5,12 +5,11 @@ use mathlib.Core.Path.{_≡_, refl, sym, ap, _∙_}
 use mathlib.Core.Logic.{_≢_}
 use mathlib.Core.List.{List}
 use native.Mathlib.Omega.{arith}
-use native.Mathlib.Numerals.{add-one}
 use lib.Dec.{eqb, leb}
 use lib.ListN.{length, getD, set, length-set}
-use borrow.Author.Tests.{eqb-true, eq-eqb, leb-true, leb-false, not-false}
+use borrow.Author.Tests.{eqb-true, eq-eqb, leb-true, leb-false}
 use Rattle.base.specs.Finite.{fromOne, allTo}
-use Rattle.base.proofs.Tests.{test, eq-test, to-both}
+use Rattle.base.proofs.Tests.{test, eq-test}
 use Rattle.base.proofs.Arrays.{getD-past}
 use Rattle.base.proofs.Peeling.{same-test}
 use Rattle.base.proofs.Search.{allTo-at, to-allTo}
@@ -21,7 +20,7 @@ use Rattle.packed.specs.Packed.{digit, assignment}
 use Rattle.packed.proofs.Digits.{nobody-assigned}
 use Rattle.packed.proofs.Wordwise.{zero-digits}
 use Rattle.network.specs.Abstract.{isChannel, rowOf}
-use Rattle.network.proofs.Numbering.{ends}
+use Rattle.clauses.proofs.Numbering.{ends}
 use Rattle.network_laws.specs.Held.{heldAt, Clean}
 use Rattle.network_laws.proofs.Changes.{row-is, row-same, row-other}
 
@@ -99,37 +98,27 @@ word-none r h =
     (λ e. to-allTo 16 _ (λ k l u. eq-eqb (assignment r k) 0 (rw (eqb-true r 0 e, nobody-assigned))))
     (λ a. eq-eqb r 0 (zero-digits 16 r h (λ k l. eqb-true _ 0 (allTo-at 16 _ a (suc k) (omega arith) (omega arith)))))
 
+pub not-not : (b : Bool) → not (not b) ≡ b
+not-not true = refl
+not-not false = refl
+
 -- row by row
 abbrev pub idleRow : List ℕ → ℕ → Bool
 idleRow counts i = allTo maxAgents (λ j. eqb (heldAt counts i j) 0)
 
-module _ (counts : List ℕ) (clean : Clean counts) (m : ℕ) where
-  digit-is : (j : ℕ) → assignment (getD counts m 0) j ≡ heldAt counts (m + 1) j
-  digit-is j =
-      let k : m ≡ m + 1 - 1 = omega arith in
-      ap (λ (x : ℕ). assignment (getD counts x 0) j) k ∙ ap (λ (g : ℕ → ℕ). g j) (sym (row-is counts (m + 1) (omega arith))) ∙ clean (m + 1) j
+module _ (counts : List ℕ) (clean : Clean counts) (i : ℕ) (lo : 1 ≤ i) where
+  digit-is : (j : ℕ) → assignment (getD counts (i - 1) 0) j ≡ heldAt counts i j
+  digit-is j = ap (λ (g : ℕ → ℕ). g j) (sym (row-is counts i lo)) ∙ clean i j
 
-  this-row : idleRow counts (m + 1) ≡ allTo maxNamed (λ k. eqb (assignment (getD counts m 0) k) 0)
+  this-row : idleRow counts i ≡ allTo maxNamed (λ k. eqb (assignment (getD counts (i - 1) 0) k) 0)
   unfolding maxAgents maxNamed
   this-row =
       same-test _ _
       (λ a. to-allTo 16 _ (λ j l u. rw (digit-is j) (test (leb j 12)
       (λ t. allTo-at 12 _ a j l (leb-true j 12 t))
-      (λ t. eq-eqb _ 0 (held-few counts (m + 1) j (leb-false j 12 t))))))
+      (λ t. eq-eqb _ 0 (held-few counts i j (leb-false j 12 t))))))
       (λ a. to-allTo 12 _ (λ j l u. rw (← digit-is j) (allTo-at 16 _ a j l (omega arith))))
 
-  module _ (b : Bool) (e : b ≡ not (allTo maxNamed (λ k. eqb (assignment (getD counts m 0) k) 0))) where
-    pub row-waits : (n : ℕ) → m < n → b ≡ true → true ≡ not (allTo n (idleRow counts))
-    row-waits n l k =
-        test (allTo n (idleRow counts))
-        (λ t. sym k ∙ e ∙ ap not (sym this-row ∙ allTo-at n (idleRow counts) t (m + 1) (omega arith) (omega arith) ∙ sym t))
-        (λ t. rw t)
-
-    pub row-passes : b ≡ false → allTo m (idleRow counts) ≡ true → allTo (m + 1) (idleRow counts) ≡ true
-    unfolding allTo
-    row-passes z a =
-        let c : idleRow counts (m + 1) ≡ true = this-row ∙ not-false _ (sym e ∙ z) in
-        rw (add-one m) (to-both _ _ (rw (add-one m) at c) a)
-
-pub rows-idle : (counts : List ℕ) (n i : ℕ) → n ≤ i → i ≤ n → allTo i (idleRow counts) ≡ true → false ≡ not (allTo n (idleRow counts))
-rows-idle counts n i l h a = let e : n ≡ i = omega arith in rw (e, a)
+  -- where its word holds something or not
+  pub row-holds : (b : Bool) → b ≡ not (allTo maxNamed (λ k. eqb (assignment (getD counts (i - 1) 0) k) 0)) → idleRow counts i ≡ not b
+  row-holds b e = this-row ∙ sym (ap not e ∙ not-not _)

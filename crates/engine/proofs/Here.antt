@@ -9,7 +9,7 @@ use lib.Dec.{eqb}
 use lib.ListN.{length}
 use Rattle.base.specs.Finite.{any}
 use Rattle.base.proofs.Lists.{All}
-use Rattle.agent.specs.declared.Bars.{Bars}
+use Rattle.choosing.specs.declared.Bars.{Bars}
 use Rattle.protocol.specs.Shape.{inShape}
 use Rattle.protocol.specs.Run.{Line, Try, Sweep, passedBy, sweep, Round}
 use Rattle.shape_laws.proofs.RunFaults.{Supplied}

@@ -12,7 +12,7 @@ use borrow.Author.Tests.{eq-eqb, ne-eqb, eqb-true, eqb-false}
 use Rattle.base.specs.Finite.{allTo, any}
 use Rattle.base.proofs.Tests.{test, eq-test, or-false-both}
 use Rattle.problem.specs.Problem.{maxAgents}
-use Rattle.agent.specs.declared.Bars.{Bars}
+use Rattle.choosing.specs.declared.Bars.{Bars}
 use Rattle.protocol.specs.Network.{Network as Network′}
 use Rattle.protocol.specs.Delivery.{rejectionNumber}
 use Rattle.protocol.specs.Run.{Line, idle, visits, Sweep, beginRound, sweep, endingNumber, endingAt, finish, oneIf, isStuck}
@@ -30,6 +30,7 @@ use Rattle.engine.proofs.After.{roundNumber, numberAt, stuck-number, me
 use Rattle.engine.proofs.Ahead.{ahead-all}
 use Rattle.engine.proofs.Visits.{visits-are, idle-is}
 use Rattle.engine.proofs.Resuming.{onward, recorded, further, stops, goes-on}
+use Rattle.engine.proofs.Held.{not-not}
 use Rattle.engine.proofs.Here.{sweepOf, Fresh, Kind, single, rounds, Live, Here}
 
 -- ---- numbers and words
@@ -52,10 +53,6 @@ run-ending w (suc d) = rw (ne-eqb (suc d) 0 (λ e. absurd (omega arith)))
 broken-ending : (j k v a b : Bool) (number : ℕ) → number ≡ 5 → endsBy j v a number ≡ endsBy k v b number
 unfolding endsBy rejectionNumber
 broken-ending j k v a b number e = rw (eq-eqb number 5 e, endsBy)
-
-not-not : (b : Bool) → not (not b) ≡ b
-not-not true = refl
-not-not false = refl
 
 -- the rounds made, counted on if nothing was missed
 pub one-more : (made m : ℕ) (missed : Bool) → not missed ≡ true → m ≡ made + 1 → m ≡ made + oneIf (not missed)

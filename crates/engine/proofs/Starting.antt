@@ -20,7 +20,7 @@ use Rattle.agent_rules.specs.Shape.{maxNamed}
 use Rattle.packed.specs.Packed.{assignment}
 use Rattle.packed.proofs.Digits.{nobody-assigned}
 use Rattle.packed.proofs.Sets.{no-members}
-use Rattle.agent.specs.declared.Bars.{Bars}
+use Rattle.choosing.specs.declared.Bars.{Bars}
 use Rattle.protocol.specs.Shape.{inShape}
 use Rattle.protocol.specs.Delivery.{
   Rejection,

@@ -20,7 +20,7 @@ use Rattle.agent.specs.Posting.{postsLeft, tailOf, Ready}
 use Rattle.protocol.specs.Run.{oneIf}
 use Rattle.network.specs.declared.Network.{Network}
 use Rattle.network.specs.Abstract.{isChannel, placeOf, rowOf}
-use Rattle.network.proofs.Numbering.{Ends, ends}
+use Rattle.clauses.proofs.Numbering.{Ends, ends}
 use Rattle.network_laws.specs.Held.{heldAt, rowFits, Clean}
 use Rattle.network_laws.proofs.Changes.{FullArrays, wordAt, placed, row-is, row-same, row-other}
 use Rattle.network_laws.proofs.Handing.{Found, found-ends}

@@ -17,7 +17,7 @@ use Rattle.base.proofs.Search.{at-same}
 use Rattle.base.proofs.Lists.{All, All-right, All-both, All-map, any-snoc}
 use Rattle.agent_rules.specs.Message.{Post as Post′}
 use Rattle.packed.specs.Packed.{assignment}
-use Rattle.agent.specs.declared.Bars.{Bars}
+use Rattle.choosing.specs.declared.Bars.{Bars}
 use Rattle.protocol.specs.Shape.{inShape}
 use Rattle.protocol.specs.Delivery.{NoRoom, rejectionNumber, Answer, Accepted, Rejected, Delivery, rejecting, numbersGood, deliver}
 use Rattle.protocol.specs.Run.{Line, isLine, Try, Sweep, stopped, isNoRoom, passedBy, passedOver, counts, tally, attempt, sweep}
@@ -26,7 +26,7 @@ use Rattle.shape_laws.proofs.Shape.{attempt-keeps}
 use Rattle.shape_laws.proofs.RunFaults.{Supplied, supplied-waits, attempt-supplied}
 use Rattle.network.specs.declared.Network.{Network}
 use Rattle.network.specs.Abstract.{isChannel, channelAt, networkOf}
-use Rattle.network.proofs.Numbering.{Ends, ends}
+use Rattle.clauses.proofs.Numbering.{Ends, ends}
 use Rattle.network_laws.specs.Held.{heldAt}
 use Rattle.network_laws.proofs.Changes.{FullArrays, wordAt, channel-held, held-is}
 use Rattle.network_laws.proofs.Handing.{Found, numbers-line}

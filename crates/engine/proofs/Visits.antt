@@ -22,7 +22,7 @@ use Rattle.shape_laws.proofs.ShapeClauses.{MessageShaped, Shaped, shaped}
 use Rattle.base.proofs.Gathers.{gather-same, gather-low}
 use Rattle.network.specs.declared.Network.{Network}
 use Rattle.network.specs.Abstract.{isChannel, rowOf, problemOf, networkOf}
-use Rattle.network.proofs.Numbering.{ends}
+use Rattle.clauses.proofs.Numbering.{ends}
 use Rattle.network_laws.specs.Held.{heldAt, Clean}
 use Rattle.network_laws.proofs.Changes.{channel-held}
 use Rattle.engine.specs.Lines.{line, cell, row, rows}

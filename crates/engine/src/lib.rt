@@ -14,13 +14,13 @@ use crate::tests::cleaned;
 use crate::tests::ending_at;
 use crate::tests::tested;
 use crate::tests::waits;
-use agent::Bars;
-use agent::Own;
+use choosing::Bars;
+use choosing::Own;
+use clauses::places::channel_at;
+use clauses::places::place_at;
+use clauses::places::words_before;
 use network::Network;
 use network::Place;
-use network::places::channel_at;
-use network::places::place_at;
-use network::places::words_before;
 use packed::add;
 use packed::digit;
 use packed::has;
@@ -114,7 +114,7 @@ pub fn work(r: Network, once: bool, sender: u8, receiver: u8, allowed: u64) -> A
             };
             let mine = &bans[words..words + at];
             if !has(ready, to) {
-                let b = Bars::of(agent.view, own, mine);
+                let b = Bars::of(agent.view.digits, own, mine);
                 bars[at] = b;
                 ready = add(ready, to);
             }

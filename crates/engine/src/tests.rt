@@ -13,7 +13,7 @@ ghost use Rattle.network_laws.specs.Held.{heldAt, Clean};
 ghost use Rattle.engine.specs.Answers.{endingOf};
 ghost use Rattle.engine.specs.Working.{endsBy, testedBy};
 use crate::Ending;
-use network::places::lines_of;
+use clauses::places::lines_of;
 use packed::digit;
 
 // The rows of counts, less the digits that are no channel's.
@@ -61,17 +61,17 @@ fn holds_some(row: u64) -> bool
     row != 0
 }
 
-// Something waits on a line of the agents 1 to n, where the rows are clean.
+// Something waits on a line of the agents 1 to n, where the rows are clean. The last senders come first: it is they that mostly have something.
 pub fn waits(counts: &[u64; 12], n: u8) -> bool
     requires { ⌜ n ≤ 12 ⌝ }
     ensures { λ b. ⌜ (Clean (now (counts .entry)) → b ≡ not (allTo n (λ i. allTo maxAgents (λ j. eqb (heldAt (now (counts .entry)) i j) 0)))) ⌝ }
 {
-    let mut i: u8 = 0;
-    while i < n {
-        if holds_some(counts[i as usize]) {
+    let mut i = n;
+    while 0 < i {
+        if holds_some(counts[i as usize - 1]) {
             return true;
         }
-        i += 1;
+        i -= 1;
     }
     false
 }

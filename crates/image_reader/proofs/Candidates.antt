@@ -15,7 +15,7 @@ use Rattle.agent.specs.Abstract.{agentOf}
 use Rattle.network.specs.declared.Place.{Place}
 use Rattle.network.specs.declared.Network.{Network}
 use Rattle.network.specs.Abstract.{isChannel, channelAt, placeOf, noPlace, ring, rowOf, channelOf, problemOf, agentsOf, networkOf}
-use Rattle.network.proofs.Numbering.{channel-below}
+use Rattle.clauses.proofs.Numbering.{channel-below}
 use Rattle.network.proofs.Zeros.{zero-row}
 use Rattle.image_format.specs.Bytes.{stretch}
 use Rattle.image_format.specs.Reading.{messageIn, bansIn, problemIn, channelIn, agentsIn, parse}

@@ -17,10 +17,11 @@ use Rattle.agent_rules.specs.Agent.{unusedAgent}
 use Rattle.agent_rules.specs.Shape.{maxNamed}
 use Rattle.packed.specs.Packed.{assignment, members}
 use Rattle.packed.proofs.Digits.{assignment-above}
+use Rattle.choosing.specs.Choosing.{nogoodAt}
 use Rattle.agent.specs.declared.Agent.{Agent}
 use Rattle.agent.specs.declared.Message.{Message}
 use Rattle.agent.specs.declared.Message.the-variants.{Info, Back, AddLink}
-use Rattle.agent.specs.Abstract.{assigned, unpacked, messageOf, nogoodAt, agentOf}
+use Rattle.agent.specs.Abstract.{assigned, unpacked, messageOf, agentOf}
 use Rattle.network.specs.declared.Place.{Place}
 use Rattle.network.specs.declared.Network.{Network}
 use Rattle.network.specs.Abstract.{isChannel, placeOf, noPlace, ring, channelOf, agentsOf, networkOf}

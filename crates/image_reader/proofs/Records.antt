@@ -18,8 +18,9 @@ use Rattle.problem.specs.Problem.{maxDomain}
 use Rattle.agent_rules.specs.Counts.{Sort, Infos, Backs, AddLinks}
 use Rattle.packed.specs.Packed.{assignment, members, maskFrom}
 use Rattle.packed.proofs.Masks.{mask-bit, mask-fits}
+use Rattle.choosing.specs.Choosing.{nogoodAt}
 use Rattle.agent.specs.declared.Agent.{Agent}
-use Rattle.agent.specs.Abstract.{assigned, nogoodAt, countOf, countsOf, agentOf}
+use Rattle.agent.specs.Abstract.{assigned, countOf, countsOf, agentOf}
 use Rattle.image_format.specs.Bytes.{numberIn, stretch}
 use Rattle.image_format.specs.Reading.{slotsIn, reasonIn, reasonsIn, countsIn, agentIn}
 use Rattle.image_reader.specs.Narrow.{narrowLhs, narrowReason, narrowAgent}

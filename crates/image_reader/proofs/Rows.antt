@@ -10,7 +10,7 @@ use Rattle.base.proofs.Search.{at-same, at-other}
 use Rattle.base.proofs.Tests.{eq-test}
 use Rattle.packed.specs.Packed.{assignment}
 use Rattle.network.specs.Abstract.{isChannel, channelAt, rowOf}
-use Rattle.network.proofs.Numbering.{ends}
+use Rattle.clauses.proofs.Numbering.{ends}
 use Rattle.network_laws.proofs.Changes.{row-same, row-other}
 
 module _ (lengths : List ℕ) (i : ℕ) where

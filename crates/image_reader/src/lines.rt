@@ -14,8 +14,8 @@ use crate::bytes::byte;
 use crate::bytes::two_bytes;
 use agent::Carried;
 use agent::Message;
+use clauses::places::channel_at;
 use network::Place;
-use network::places::channel_at;
 use packed::with_digit;
 
 // How many messages each line has, and where its first one stands.

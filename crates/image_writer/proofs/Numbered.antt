@@ -16,7 +16,7 @@ use Rattle.protocol.specs.Network.{Network as Network′}
 use Rattle.packed.specs.Packed.{assignment}
 use Rattle.network.specs.declared.Network.{Network}
 use Rattle.network.specs.Abstract.{isChannel, channelAt, ring, rowOf, channelOf, networkOf}
-use Rattle.network.proofs.Numbering.{to-channel, channel-up, channel-down}
+use Rattle.clauses.proofs.Numbering.{to-channel, channel-up, channel-down}
 use Rattle.network.proofs.Rings.{ring-length, channel-is}
 use Rattle.image_format.specs.Image.{allLines}
 use Rattle.image_format.proofs.Lengths.{total}

@@ -19,7 +19,8 @@ use Rattle.agent_rules.specs.Message.{nobody}
 use Rattle.packed.specs.Packed.{assignment, members}
 use Rattle.packed.proofs.Masks.{mask-is}
 use Rattle.packed.proofs.Digits.{nobody-assigned}
-use Rattle.agent.specs.Abstract.{nogoodAt, agentOf}
+use Rattle.choosing.specs.Choosing.{nogoodAt}
+use Rattle.agent.specs.Abstract.{agentOf}
 use Rattle.agent.specs.declared.Agent.{Agent}
 use Rattle.network.specs.declared.Network.{Network}
 use Rattle.network.specs.Abstract.{networkOf}

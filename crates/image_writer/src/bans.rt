@@ -8,7 +8,7 @@ ghost use Rattle.image_format.specs.Bytes.{bytesOf};
 ghost use Rattle.image_format.specs.Image.{banBytes};
 ghost use Rattle.image_writer.specs.Puts.{Puts};
 use crate::bytes::put_number;
-use network::places::words_before;
+use clauses::places::words_before;
 
 // The bans of one lower agent, by higher agent.
 fn put_bans_of(out: &mut [u8], at: usize, bans: &[u64; 66], lower: u8) -> usize

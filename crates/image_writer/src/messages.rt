@@ -16,8 +16,8 @@ use crate::bytes::put_number;
 use crate::bytes::put_slots;
 use crate::lines::on_line;
 use agent::Message;
+use clauses::places::place_at;
 use network::Network;
-use network::places::place_at;
 
 // The number of the first of so many messages, behind `before` others; 0 where there is none.
 fn first_of(before: u64, count: u8) -> u64

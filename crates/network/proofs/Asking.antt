@@ -16,7 +16,7 @@ use Rattle.agent.specs.declared.Agent.{Agent}
 use Rattle.agent.specs.Abstract.{agentOf}
 use Rattle.network.specs.Abstract.{networkOf}
 use Rattle.network.specs.declared.Network.{Network}
-use Rattle.network.proofs.Clauses.{agent-at}
+use Rattle.network.proofs.Agents.{agent-at}
 
 module _ (w : Network′) (i : ℕ) where
   pub ask-broken : inShape w ≡ false → askValue w i ≡ record { answer = Rejected BadShape; value = 0 }

@@ -1,12 +1,4 @@
-pub mod Numbering
-pub mod Columns
-pub mod Pairs
-mod Lines
-mod Words
-mod Ranges
-mod BanWords
-mod Clauses
-mod Links
+mod Agents
 pub mod Rings
 mod Sweeping
 mod Whole

@@ -21,7 +21,7 @@ use Rattle.protocol.specs.Shape.{capacity, messageFits, hasRoom, oneRequest, ch
 use Rattle.protocol.specs.Run.{oneIf}
 use Rattle.packed.specs.Packed.{assignment}
 use Rattle.network.specs.Abstract.{isChannel, channelAt, placeOf, noPlace, ring, rowOf, channelOf, networkOf}
-use Rattle.network.specs.Parts.{isLink, fitsNow}
+use Rattle.clauses.specs.Parts.{isLink, fitsNow}
 use Rattle.network.specs.declared.Place.{Place}
 use Rattle.network.specs.declared.Network.{Network}
 

@@ -17,9 +17,9 @@ use Rattle.protocol.specs.Shape.{channelInShape}
 use Rattle.packed.specs.Packed.{assignment}
 use Rattle.packed.proofs.Digits.{nobody-assigned}
 use Rattle.network.specs.Abstract.{isChannel, rowOf, networkOf}
-use Rattle.network.specs.Parts.{isLink, fitsNow}
+use Rattle.clauses.specs.Parts.{isLink, fitsNow}
 use Rattle.network.specs.declared.Network.{Network}
-use Rattle.network.proofs.Numbering.{ends}
+use Rattle.clauses.proofs.Numbering.{ends}
 use Rattle.network.proofs.Rings.{leftFits, lastLeft, nothing-left, last-fits, no-channel-fits, channel-fits}
 
 -- Sender i is looked at: the digits of `rest` are the counts of its channels that are left, and of the one to j the first `left` messages are. No request

@@ -18,10 +18,10 @@ use Rattle.packed.specs.Packed.{members}
 use Rattle.agent.specs.Abstract.{agentOf}
 use Rattle.agent.specs.declared.Agent.{Agent}
 use Rattle.network.specs.Abstract.{problemOf, agentsOf, networkOf}
-use Rattle.network.specs.Parts.{Domains, setOf, agentPasses}
+use Rattle.clauses.specs.Parts.{Domains, setOf, agentPasses}
 use Rattle.network.specs.declared.Network.{Network}
 use Rattle.packed.proofs.Sets.{no-members}
-use Rattle.network.proofs.Links.{agents-pass}
+use Rattle.clauses.proofs.Links.{agents-pass}
 use Rattle.network.proofs.Sweeping.{channelsInShape}
 
 -- ---- the masks

@@ -15,7 +15,8 @@ use Rattle.agent_rules.specs.Counts.{Sort, Infos, Backs, AddLinks, noCounts}
 use Rattle.agent_rules.specs.Agent.{Agent as Agent′, unusedAgent, noNogoods}
 use Rattle.protocol.specs.Network.{emptyNetwork}
 use Rattle.packed.specs.Packed.{members}
-use Rattle.agent.specs.Abstract.{assigned, nogoodAt, countOf, noneCounted, agentOf, countsOf}
+use Rattle.choosing.specs.Choosing.{nogoodAt}
+use Rattle.agent.specs.Abstract.{assigned, countOf, noneCounted, agentOf, countsOf}
 use Rattle.packed.proofs.Digits.{nobody-assigned}
 use Rattle.network.specs.Abstract.{isChannel, ring, rowOf, channelOf, problemOf, agentsOf, networkOf}
 use Rattle.network.specs.Empty.{emptyAgent, emptyRecord}

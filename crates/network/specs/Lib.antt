@@ -1,3 +1,2 @@
 pub mod Abstract
 pub mod Empty
-pub mod Parts

@@ -9,25 +9,18 @@ use agent::Agent;
 use agent::Counts;
 use agent::Lhs;
 use agent::Message;
+use clauses::agents::agent_passes;
+use clauses::channels::is_link;
+use clauses::channels::message_fits;
+use clauses::places::channel_at;
+use clauses::places::lines_of;
+use clauses::places::place_at;
+use clauses::range::domain_digits;
+use clauses::range::in_range;
 use packed::digit;
 use packed::first_digit;
 use packed::has;
 use packed::with_digit;
-
-mod agents;
-mod channels;
-pub mod places;
-mod range;
-mod sets;
-
-use agents::agent_passes;
-use channels::is_link;
-use channels::message_fits;
-use places::channel_at;
-use places::lines_of;
-use places::place_at;
-use range::domain_digits;
-use range::in_range;
 
 // One place of a channel.
 pub struct Place {

@@ -22,9 +22,9 @@ use Rattle.agent.specs.Abstract.{agentOf}
 use Rattle.network.specs.declared.Place.{Place}
 use Rattle.network.specs.declared.Network.{Network}
 use Rattle.network.specs.Abstract.{isChannel, channelAt, placeOf, ring, rowOf, channelOf, problemOf, agentsOf, networkOf}
-use Rattle.network.proofs.Numbering.{Ends, ends, channel-below}
+use Rattle.clauses.proofs.Numbering.{Ends, ends, channel-below}
 use Rattle.network_laws.specs.Held.{heldAt}
-use Rattle.network.proofs.Columns.{channel-one}
+use Rattle.clauses.proofs.Columns.{channel-one}
 use Rattle.network.proofs.Rings.{ring-length, channel-is}
 use Rattle.network_laws.proofs.Rings.{ring-head, ring-moved, ring-put, ring-spared, ring-apart}
 

@@ -20,12 +20,13 @@ use Rattle.agent_rules.specs.Agent.{Step as Step′}
 use Rattle.agent_rules.specs.Receiving.{receive}
 use Rattle.agent_rules.specs.Shape.{anyValue, RecordFits, MessageFits}
 use Rattle.packed.specs.Packed.{assignment}
+use Rattle.choosing.specs.Barring.{selfOf as selfOf′, Able, ViewFits, bansIn}
 use Rattle.agent.specs.declared.Agent.{Agent}
 use Rattle.agent.specs.declared.Message.{Message}
 use Rattle.agent.specs.declared.Message.the-variants.{Info}
 use Rattle.agent.specs.declared.Step.{Step}
-use Rattle.agent.specs.Entries.{Able, ViewFits, isOther, StepsAs}
-use Rattle.agent.specs.Abstract.{assigned, messageOf, agentOf, selfOf as selfOf′, bansIn}
+use Rattle.agent.specs.Entries.{isOther, StepsAs}
+use Rattle.agent.specs.Abstract.{assigned, messageOf, agentOf}
 use Rattle.agent.specs.Posting.{postsLeft, stepOf}
 use Rattle.protocol.specs.Network.{Network as Network′, posted, withStep, withChannel, stepOn, handed}
 use Rattle.protocol.specs.Shape.{capacity, inShape}
@@ -43,7 +44,7 @@ use Rattle.shape_laws.proofs.DeliverShape.{Head, at-head}
 use Rattle.network.specs.declared.Place.{Place}
 use Rattle.network.specs.declared.Network.{Network}
 use Rattle.network.specs.Abstract.{isChannel, channelAt, placeOf, ring, problemOf, networkOf}
-use Rattle.network.proofs.Numbering.{Ends, ends, to-channel}
+use Rattle.clauses.proofs.Numbering.{Ends, ends, to-channel}
 use Rattle.network_laws.specs.Held.{heldAt, rowFits}
 use Rattle.network_laws.proofs.Changes.{
   FullArrays,

@@ -21,7 +21,7 @@ use Rattle.protocol.specs.Shape.{capacity}
 use Rattle.network.specs.declared.Place.{Place}
 use Rattle.network.specs.declared.Network.{Network}
 use Rattle.network.specs.Abstract.{isChannel, channelAt, placeOf, networkOf}
-use Rattle.network.proofs.Numbering.{Ends, ends}
+use Rattle.clauses.proofs.Numbering.{Ends, ends}
 use Rattle.network_laws.specs.Held.{heldAt, rowFits}
 use Rattle.network_laws.proofs.Changes.{
   FullArrays,

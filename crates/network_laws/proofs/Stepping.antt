@@ -13,11 +13,11 @@ use Rattle.agent_rules.specs.Message.{Message as Message′, Info as Info′, B
 use Rattle.agent_rules.specs.Agent.{Self, Agent as Agent′}
 use Rattle.agent_rules.specs.Receiving.{receive}
 use Rattle.agent_rules.specs.Shape.{anyValue, RecordFits, MessageFits}
+use Rattle.choosing.specs.Barring.{selfOf as selfOf′, Able, ViewFits, bansIn}
+use Rattle.choosing.specs.declared.Own.{Own}
 use Rattle.agent.specs.declared.Agent.{Agent}
 use Rattle.agent.specs.declared.Message.{Message}
-use Rattle.agent.specs.declared.Own.{Own}
-use Rattle.agent.specs.Entries.{Able, ViewFits}
-use Rattle.agent.specs.Abstract.{assigned, messageOf, agentOf, selfOf as selfOf′, bansIn}
+use Rattle.agent.specs.Abstract.{assigned, messageOf, agentOf}
 use Rattle.protocol.specs.Network.{selfOf, bansOf, stepOn}
 use Rattle.protocol.specs.Shape.{inShape}
 use Rattle.shape_laws.proofs.ShapeClauses.{MessageShaped, shaped}

@@ -10,9 +10,9 @@ use borrow.Author.Tests.{le-leb, lt-leb, ltb-true, ltb-false}
 use Rattle.base.specs.Finite.{within}
 use Rattle.base.proofs.Tests.{test, within-true}
 use Rattle.problem.specs.Problem.{Problem, maxAgents, pairsBefore, wordAt, isPair, banned}
-use Rattle.agent.specs.Abstract.{bansIn}
+use Rattle.choosing.specs.Barring.{bansIn}
 use Rattle.protocol.specs.Network.{bansOf}
-use Rattle.network.proofs.Pairs.{words-fit}
+use Rattle.clauses.proofs.Pairs.{words-fit}
 
 abbrev pub part : List ℕ → ℕ → ℕ → List ℕ
 part bans a j = take (a + (j - 1) - a) (drop a bans)

@@ -24,4 +24,4 @@ use Rattle.problem.specs.Row.{agentsGood, valuesGood, signed, between, gapsGood
 
 pub further-nights-hold : AllHold furtherNights
 unfolding at fromOne within lowest highest allTo every any gather isSome bit withBit maxAgents maxDomain maxPairs domain owns pairsBefore wordAt bitAt isPair banned linked noBans countInRange domainInRange wordOwned bansOwned sized inRange emptyProblem faultNumber headerLength recordLength maxRecords byteAt wordFrom agentsIn firstIn recordsIn domainsIn withoutBans headerGood recordStart nextOf recordGood walk decode sameNumbers twoBytes known nobody sentTo noNogoods unusedAgent above agrees bars blame only blaming reasonOf reason choose choice quietRule noRefuser tells infoTo infos chosen took join lhsOf union failed refusing dropIf without forget after settle checkView quiet answer keepIf agreeing updated conflicts onInfo matches holds unheard addLinkTo addLinks accepting outdated onBack informing onAddLink receive fresh begin maxNamed values sameAssignment sameMessage emptyNetwork selfOf bansOf posted withStep withChannel stepOn handed begun startAgent startChannel start isRule badRule startedOn startSheet capacity eachNamed eachIn holdsValue lastFits listensUpward informsDownward linkedListen informedListen viewListened nogoodFits nogoodsFit unused agentInShape lhsFits messageFits hasRoom oneRequest channelInShape inShape rejectionNumber answerNumber isAccepted rejecting numbersGood fits deliverHead deliver askValue isLine isEmpty idle visits beginRound stopped isNoRoom passedBy passedOver counts tally skipped attempt sweep round isFull endingNumber endingWord endingAt finish isStuck oneIf runFrom maxRounds allowed run padded sheet sameMessages asked ranAs triesIn triesOf holdsFrom sheet1 sheet2 sheet3 sheet4 sheet5 sheet9 sheetBlame sheetUnknown sheetOrder empty furtherNights withTable rowAt rowOf agentsGood valuesGood rowGood withRow headerBytes rowBytes indexAfter chained written each withBits withBans editionIn signed between gapsGood fieldsGood gap hits sheetOf sameBool member nogoods sameSet sameNogood sameAgent sheetShared told1 told2 crowded sheetHigher sheetEarlier noCounts eachSort eachCount ofSort number messageIn messagesIn top raised counting react counted countsFit bySort sameSorts sameCounts sheetBans sheetGaps minus
-further-nights-hold = (refl, (refl, (refl, (refl, (refl, (refl, tt))))))
+further-nights-hold = (refl, (refl, (refl, (refl, (refl, (refl, (refl, tt)))))))

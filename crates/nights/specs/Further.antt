@@ -3,11 +3,11 @@ use Prim.Native.Nat.{ℕ}
 use mathlib.Core.Option.{none, some}
 use mathlib.Core.List.{List, [], _∷_}
 use Rattle.problem.specs.Cases.{ban, gaps, minus}
-use Rattle.agent_rules.specs.Message.{Back}
+use Rattle.agent_rules.specs.Message.{Info, Back, AddLink}
 use Rattle.agent_rules.specs.Agent.{withCounts}
 use Rattle.agent_rules.specs.Cases.{values, agent, counts}
 use Rattle.protocol.specs.Run.{None, Plan, Open}
-use Rattle.protocol.specs.Nights.{sheet, sheetOf, Runs, Waiting, Values, Holds, Night, Played, SameStart, Forged, empty, crowded}
+use Rattle.protocol.specs.Nights.{sheet, sheet9, sheetOf, Runs, Waiting, Values, Holds, Night, Played, SameStart, Forged, empty, crowded}
 
 -- the highest-numbered blamed would end in 3 rounds
 unfoldable pub sheetBlame : List ℕ
@@ -36,8 +36,17 @@ sheetEarlier = sheet (1 ∷ 1 ∷ 2 ∷ []) (ban 1 1 3 2 ∷ ban 2 1 3 1 ∷ ban
 
 unfoldable pub furtherNights : List Night
 furtherNights =
+    -- P9, round by round: agent 2 sends to 3 at the start and in rounds 2 and 4 only, and asks agent 1 for a link before it refuses its value
+    Played sheet9 (
+    Waiting 2 3 (Info 1 ∷ [])
+    ∷ Runs 1 Open 1 ∷ Waiting 2 3 []
+    ∷ Runs 1 Open 1 ∷ Waiting 2 1 (AddLink ∷ Back empty 1 ∷ []) ∷ Waiting 2 3 (Info 1 ∷ [])
+    ∷ Runs 1 Open 1 ∷ Waiting 2 3 []
+    ∷ Runs 1 Open 1 ∷ Waiting 2 3 (Info 1 ∷ [])
+    ∷ Runs 1 Plan 1 ∷ Waiting 2 3 []
+    ∷ Values (2 ∷ 1 ∷ 1 ∷ []) ∷ [])
     -- the same bans by slots and by gaps
-    SameStart sheetGaps sheetBans
+    ∷ SameStart sheetGaps sheetBans
     ∷ Played sheetBlame (Runs 100000 None 4 ∷ [])
     ∷ Played sheetUnknown (Runs 100000 Plan 4 ∷ Values (2 ∷ 2 ∷ 1 ∷ []) ∷ [])
     -- whom to blame: with reasons of lower values alone agent 3 would have none for value 2

@@ -1,2 +1,3 @@
+pub mod Dispatched
 pub mod Further
 pub mod Quiet

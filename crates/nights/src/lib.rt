@@ -1,1 +1,1 @@
-// Further worked nights, and those under the quiet rule; no code.
+// Further worked nights, those under the quiet rule, and those of the dispatcher; no code.

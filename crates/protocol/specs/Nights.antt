@@ -11,7 +11,7 @@ use Rattle.problem.specs.Problem.{noBans}
 use Rattle.problem.specs.Row.{Row}
 use Rattle.problem.specs.Writing.{written}
 use Rattle.problem.specs.Cases.{ban}
-use Rattle.agent_rules.specs.Message.{Assignment, Message, Info, Back, AddLink}
+use Rattle.agent_rules.specs.Message.{Assignment, Message, Info, Back}
 use Rattle.agent_rules.specs.Agent.{Agent, withCounts}
 use Rattle.agent_rules.specs.Cases.{values, agent, sameAgent, sameMessage, counts, sameCounts}
 use Rattle.agent_rules.specs.Choosing.{quietRule}
@@ -179,15 +179,6 @@ nights =
     ∷ Counted 1 (4 ∷ 0 ∷ 0 ∷ []) (0 ∷ 1 ∷ 1 ∷ [])
     ∷ Counted 2 (3 ∷ 1 ∷ 1 ∷ []) (2 ∷ 2 ∷ 0 ∷ [])
     ∷ Counted 3 (0 ∷ 2 ∷ 0 ∷ []) (5 ∷ 0 ∷ 0 ∷ []) ∷ [])
-    -- P9, round by round: agent 2 sends to 3 at the start and in rounds 2 and 4 only, and asks agent 1 for a link before it refuses its value
-    ∷ Played sheet9 (
-    Waiting 2 3 (Info 1 ∷ [])
-    ∷ Runs 1 Open 1 ∷ Waiting 2 3 []
-    ∷ Runs 1 Open 1 ∷ Waiting 2 1 (AddLink ∷ Back empty 1 ∷ []) ∷ Waiting 2 3 (Info 1 ∷ [])
-    ∷ Runs 1 Open 1 ∷ Waiting 2 3 []
-    ∷ Runs 1 Open 1 ∷ Waiting 2 3 (Info 1 ∷ [])
-    ∷ Runs 1 Plan 1 ∷ Waiting 2 3 []
-    ∷ Values (2 ∷ 1 ∷ 1 ∷ []) ∷ [])
     ∷ Played sheetOrder (Runs 100000 None 2 ∷ [])
     -- two rails alike in agent 2, which is handed the same on both: it has the same record and sends the same
     ∷ Played sheet5 (Delivers 1 2 0 ∷ told1 ++ Delivers 2 1 0 ∷ Delivers 1 2 0 ∷ told2)

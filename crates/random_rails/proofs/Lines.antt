@@ -9,7 +9,7 @@ use lib.ListN.{getD}
 use borrow.Author.Tests.{lt-ltb, le-ltb, leb-true, leb-false, eq-eqb, ne-eqb}
 use Rattle.base.proofs.Tests.{test, eq-test}
 use Rattle.packed.specs.Packed.{assignment}
-use Rattle.network.proofs.Numbering.{channel-up, channel-down}
+use Rattle.clauses.proofs.Numbering.{channel-up, channel-down}
 use Rattle.random_rails.specs.Lines.{senderOf, receiverOf, EndsOf, heldOn, restsBelow, restsOn, Waiting}
 
 -- ---- the ends of a line

@@ -4,7 +4,7 @@ use mathlib.Core.Path.{_≡_, sym, ap, subst, _∙_}
 use mathlib.Core.List.{List}
 use native.Mathlib.Omega.{arith}
 use lib.ListN.{getD, List·getD-eq-default}
-use Rattle.words.specs.Text.{Appends}
+use Rattle.text.specs.Text.{Appends}
 use Rattle.scribe_rules.specs.Drafts.{Fault as Fault′, LongText}
 use Rattle.scribe_rules.specs.Faults.{faultWords}
 use Rattle.scribe_drafts.specs.declared.Fault.{Fault}

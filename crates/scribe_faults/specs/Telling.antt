@@ -1,7 +1,7 @@
 -- The words of a fault behind other text in a buffer.
 use Prim.Native.Nat.{ℕ, _+_, _≤_}
 use mathlib.Core.List.{List}
-use Rattle.words.specs.Text.{Appends}
+use Rattle.text.specs.Text.{Appends}
 use Rattle.scribe_rules.specs.Faults.{faultWords}
 use Rattle.scribe_drafts.specs.declared.Fault.{Fault}
 use Rattle.scribe_drafts.specs.Drafting.{faultOf}

@@ -3,13 +3,13 @@ ghost use Prim.Native.Nat.{_+_, _≤_};
 ghost use mathlib.Core.Path.{_≡_};
 ghost use mathlib.Core.Logic.{_≢_};
 ghost use lib.ListN.{length};
-ghost use Rattle.words.specs.Text.{Appends};
+ghost use Rattle.text.specs.Text.{Appends};
 ghost use Rattle.scribe_rules.specs.Faults.{faultText};
 ghost use Rattle.scribe_drafts.specs.Drafting.{faultOf};
 ghost use Rattle.scribe_faults.specs.Telling.{Says};
 use scribe_drafts::Fault;
-use words::text::append;
-use words::text::append_number;
+use text::append;
+use text::append_number;
 
 // Of faults 1 to 6.
 fn append_first(out: &mut [u8], at: usize, f: Fault) -> usize

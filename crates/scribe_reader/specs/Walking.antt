@@ -9,7 +9,6 @@ use Rattle.base.specs.Lent.{Written as Written′, untouched, put}
 use Rattle.lent.specs.Abstract.{writtenOf}
 use Rattle.scribe_rules.specs.Drafts.{Fault as Fault′}
 use Rattle.scribe_rules.specs.Reading.{Outcome, Made, Faulty, atEnd, readFrom}
-use Rattle.scribe_drafts.specs.declared.Fault.{Fault}
 use Rattle.scribe_reader.specs.declared.lines.Walk.{Walk}
 use Rattle.scribe_reader.specs.declared.Read.{Read}
 use Rattle.scribe_drafts.specs.Drafting.{faultOf, draftIn, Fit}

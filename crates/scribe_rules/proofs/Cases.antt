@@ -11,7 +11,7 @@ use Rattle.problem.specs.Writing.{twoBytes, headerBytes, rowBytes, indexAfter, 
 use Rattle.base.specs.Same.{sameNumbers}
 use Rattle.problem.specs.Cases.{header, row, gapHeader, minus, gapRow, garbage, one, twos, eights, twoThree, plain}
 use Rattle.numerals.specs.Reading.{isDigit, valueFrom, top, isNumber}
-use Rattle.words.specs.Text.{lastDigits, decimal, newline, lineOf}
+use Rattle.text.specs.Text.{lastDigits, decimal, newline, lineOf}
 use Rattle.scribe_rules.specs.Words.{isNewline, isReturn, isBlank, isHash, isColon, isMinus, firstAt, countOf, onFirst, piecesOf, filled, linesOf, wholeLines, withoutReturn, withoutComment, wordsOf, isNumeral, numeral, beforeColon, behindColon, isPlace, hasMinus, withoutMinus, isSigned, signedNumeral}
 use Rattle.scribe_rules.specs.Statements.{slotsWord, banWord, gapWord, argument, slotsSaid, banOf, banSaid, gapOf, gapSaid, wordsSay, lineSays}
 use Rattle.scribe_rules.specs.Drafts.{noDraft, begun, withSlots, withRecord, banRecord, gapByte, gapRecord, tested, isAgent, slotsTests, pairTests, roomTests, banTests, isGap, gapTests, withStatement, withSaid, withLine}

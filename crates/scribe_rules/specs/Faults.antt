@@ -1,7 +1,7 @@
 -- What is said of a fault, as bytes in ASCII: "`line N: ` and what is wrong". docs/RULES.md, 'Sheets as text'.
 use Prim.Native.Nat.{ℕ}
 use mathlib.Core.List.{List, [], _∷_, _++_}
-use Rattle.words.specs.Text.{decimal, newline}
+use Rattle.text.specs.Text.{decimal, newline}
 use Rattle.scribe_rules.specs.Drafts.{Fault, NotStatement, SlotsFirst, SlotsTwice, AgentCount, DomainSize, BothKinds, NoAgent, SameAgent, HigherFirst, NotOwned, GapRange, LeastAbove, ManyRecords, LongText}
 
 -- ---- the words

@@ -1,7 +1,7 @@
 -- What `scribe` writes: bytes on standard output, or one line on standard error. docs/RULES.md, 'Sheets as text'.
 use Prim.Native.Nat.{ℕ}
 use mathlib.Core.List.{List, [], _∷_}
-use Rattle.words.specs.Text.{lineOf}
+use Rattle.text.specs.Text.{lineOf}
 use Rattle.scribe_rules.specs.Reading.{Outcome, Made, Faulty, sheetOf}
 use Rattle.scribe_rules.specs.Telling.{Told, Text, Refused, textOf}
 use Rattle.scribe_rules.specs.Faults.{faultText}

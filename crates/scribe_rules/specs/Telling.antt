@@ -9,7 +9,7 @@ use Rattle.problem.specs.Problem.{Problem, domain}
 use Rattle.problem.specs.Row.{Row, signed}
 use Rattle.problem.specs.Sheet.{Decoded, Valid, Invalid, faultNumber, editionIn, decode}
 use Rattle.problem.specs.Chain.{rowsIn}
-use Rattle.words.specs.Text.{decimal, newline}
+use Rattle.text.specs.Text.{decimal, newline}
 use Rattle.scribe_rules.specs.Statements.{slotsWord, banWord, gapWord}
 
 -- " "

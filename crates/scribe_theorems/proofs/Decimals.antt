@@ -12,7 +12,7 @@ use Rattle.base.specs.Finite.{every}
 use Rattle.base.proofs.Tests.{test, to-both}
 use Rattle.base.proofs.Lists.{every-snoc}
 use Rattle.numerals.specs.Reading.{isDigit, valueFrom, top, isNumber}
-use Rattle.words.specs.Text.{lastDigits, decimal}
+use Rattle.text.specs.Text.{lastDigits, decimal}
 use Rattle.scribe_rules.specs.Words.{isNumeral, numeral}
 
 value-snoc : (v : ℕ) (l : List ℕ) (b : ℕ) → valueFrom v (l ++ (b ∷ [])) ≡ 10 * valueFrom v l + (b - 48)

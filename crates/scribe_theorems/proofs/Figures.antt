@@ -15,7 +15,7 @@ use Rattle.base.proofs.Tests.{both, to-both}
 use Rattle.base.proofs.Lists.{All-append, All-map, every-all}
 use Rattle.problem.specs.Row.{between}
 use Rattle.numerals.specs.Reading.{isDigit}
-use Rattle.words.specs.Text.{decimal}
+use Rattle.text.specs.Text.{decimal}
 use Rattle.scribe_rules.specs.Words.{isColon, isMinus, firstAt, beforeColon, behindColon, isPlace, hasMinus, withoutMinus, isSigned, signedNumeral}
 use Rattle.scribe_rules.specs.Drafts.{isGap}
 use Rattle.scribe_theorems.proofs.Decimals.{decimal-says, decimal-numeral, decimal-value}

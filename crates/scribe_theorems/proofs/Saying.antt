@@ -14,7 +14,7 @@ use Rattle.base.specs.Lists.{All}
 use Rattle.base.proofs.Tests.{to-both}
 use Rattle.base.proofs.Lists.{All-map, every-all}
 use Rattle.base.specs.Same.{sameNumbers}
-use Rattle.words.specs.Text.{decimal}
+use Rattle.text.specs.Text.{decimal}
 use Rattle.scribe_rules.specs.Words.{isNumeral, numeral}
 use Rattle.scribe_rules.specs.Statements.{Slots, Ban, Gap, Says, slotsWord, banWord, gapWord, argument, slotsSaid, banOf, banSaid, gapOf, gapSaid, wordsSay, lineSays}
 use Rattle.scribe_rules.specs.Drafts.{isGap}

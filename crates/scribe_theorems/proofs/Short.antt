@@ -17,7 +17,7 @@ use Rattle.problem.specs.Row.{Row, signed, between, valuesGood, fieldsGood, row
 use Rattle.problem.specs.Sheet.{maxRecords}
 use Rattle.problem.proofs.Range.{Ranged, domain-small}
 use Rattle.problem.proofs.Fields.{AgentsFit, row-agents, row-fields}
-use Rattle.words.specs.Text.{newline}
+use Rattle.text.specs.Text.{newline}
 use Rattle.scribe_rules.specs.Statements.{slotsWord, banWord, gapWord}
 use Rattle.scribe_rules.specs.Drafts.{isGap}
 use Rattle.scribe_rules.specs.Telling.{blank, colon, dash, figure, place, signedFigure, slotsLine, banLine, gapLine, rowLine, rowLines, textFrom, longestTold}

@@ -12,7 +12,7 @@ use Rattle.base.proofs.Tests.{test}
 use Rattle.base.proofs.Lists.{All-map}
 use Rattle.problem.specs.Problem.{Problem, domain}
 use Rattle.problem.specs.Row.{Row, signed}
-use Rattle.words.specs.Text.{decimal, newline}
+use Rattle.text.specs.Text.{decimal, newline}
 use Rattle.scribe_rules.specs.Words.{isNewline, linesOf}
 use Rattle.scribe_rules.specs.Statements.{slotsWord, banWord, gapWord}
 use Rattle.scribe_rules.specs.Telling.{blank, colon, dash, figure, place, signedFigure, slotsLine, banLine, gapLine, rowLine, rowLines, textFrom}

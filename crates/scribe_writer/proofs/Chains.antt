@@ -19,9 +19,9 @@ use Rattle.problem.specs.Chain.{chainFrom, rowsIn}
 use Rattle.problem.proofs.Fields.{header-fits, record-fits}
 use Rattle.problem.proofs.Walk.{freeWalk, free-none, free-fails, free-goes}
 use Rattle.problem.proofs.Checks.{bad-length, invalid, accepted}
-use Rattle.sheet.proofs.Records.{start-at}
+use Rattle.sheet_parts.proofs.Records.{start-at}
 use Rattle.sheet.proofs.Walking.{next-there}
-use Rattle.words.specs.Text.{Appends}
+use Rattle.text.specs.Text.{Appends}
 use Rattle.scribe_rules.specs.Telling.{rowLine, rowLines}
 use Rattle.scribe_writer.specs.Parts.{Room, Readable}
 use Rattle.scribe_writer.proofs.Rooms.{room-first, Partly, partly-none, partly-room, partly-more, partly-all}

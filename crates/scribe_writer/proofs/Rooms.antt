@@ -5,8 +5,8 @@ use mathlib.Core.Path.{_≡_, refl, sym, ap, subst, _∙_}
 use mathlib.Core.List.{List, [], _++_, append-assoc, append-nil}
 use native.Mathlib.Omega.{arith}
 use lib.ListN.{length, length-append}
-use Rattle.words.specs.Text.{Appends}
-use Rattle.words.proofs.Appending.{appends-none, appends-then}
+use Rattle.text.specs.Text.{Appends}
+use Rattle.text.proofs.Appending.{appends-none, appends-then}
 use Rattle.scribe_writer.specs.Parts.{Room}
 
 pub room-first : {old : List ℕ} {at : ℕ} (s t : List ℕ) → Room old at (s ++ t) → Room old at s

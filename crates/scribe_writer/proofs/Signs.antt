@@ -7,7 +7,7 @@ use native.Mathlib.Omega.{arith}
 use lib.IntN.{pos, negsuc}
 use borrow.Author.Tests.{lt-ltb, le-ltb}
 use Rattle.problem.specs.Row.{signed}
-use Rattle.words.specs.Text.{decimal, Appends}
+use Rattle.text.specs.Text.{decimal, Appends}
 
 pub sign-none : (b : ℕ) → b < 128 → signed b ≡ pos b
 unfolding signed

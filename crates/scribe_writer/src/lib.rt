@@ -4,7 +4,7 @@ ghost use Rattle.base.specs.Lent.{put};
 ghost use Rattle.problem.specs.Sheet.{Valid, editionIn, decode};
 ghost use Rattle.problem.specs.Chain.{rowsIn};
 ghost use Rattle.sheet.specs.Abstract.{problemOf, Sized};
-ghost use Rattle.words.specs.Text.{Appends};
+ghost use Rattle.text.specs.Text.{Appends};
 ghost use Rattle.lent.specs.Abstract.{writtenOf};
 ghost use Rattle.scribe_rules.specs.Telling.{textFrom, textOf};
 ghost use Rattle.scribe_writer.specs.Parts.{Room, putTold};

@@ -3,11 +3,11 @@ ghost use Prim.Native.Nat.{_+_, _≤_};
 ghost use lib.ListN.{length};
 ghost use Rattle.problem.specs.Row.{signed};
 ghost use Rattle.problem.specs.Sheet.{editionIn, rowAt};
-ghost use Rattle.words.specs.Text.{Appends};
+ghost use Rattle.text.specs.Text.{Appends};
 ghost use Rattle.scribe_rules.specs.Telling.{figure, place, signedFigure, banLine, gapLine, rowLine};
 ghost use Rattle.scribe_writer.specs.Parts.{Room};
-use words::text::append;
-use words::text::append_number;
+use text::append;
+use text::append_number;
 
 // A blank, and a number.
 pub fn append_figure(out: &mut [u8], at: usize, k: u8) -> usize

@@ -3,14 +3,14 @@ ghost use Prim.Native.Nat.{_≤_};
 ghost use Rattle.problem.specs.Sheet.{editionIn};
 ghost use Rattle.problem.specs.Chain.{rowsIn};
 ghost use Rattle.sheet.specs.Abstract.{problemOf, Sized};
-ghost use Rattle.words.specs.Text.{Appends};
+ghost use Rattle.text.specs.Text.{Appends};
 ghost use Rattle.scribe_rules.specs.Telling.{slotsLine, rowLines};
 ghost use Rattle.scribe_writer.specs.Parts.{Room, Readable};
 use crate::lines::append_figure;
 use crate::lines::append_row;
 use sheet::Problem;
-use sheet::header::two_bytes;
-use words::text::append;
+use sheet_parts::header::two_bytes;
+use text::append;
 
 // The slot counts of the agents.
 pub fn append_slots(out: &mut [u8], at: usize, p: Problem) -> usize

@@ -3,8 +3,8 @@ ghost use mathlib.Core.Path.{_≡_};
 ghost use lib.ListN.{length};
 use crate::printing::put_answer;
 use crate::printing::start_of;
+use text::append;
 use words::printing::Out;
-use words::text::append;
 
 // One byte more than a text may have, all of them the beginning of a comment.
 fn room() -> [u8; 1048577]

@@ -9,7 +9,7 @@ use Rattle.problem.specs.Sheet.{byteAt, wordFrom}
 use Rattle.problem.specs.Writing.{twoBytes, headerBytes, rowBytes, indexAfter, chained, written}
 use Rattle.protocol.specs.Run.{None, Plan, oneIf}
 use Rattle.protocol.specs.Nights.{padded, sheetOf, sheet, sheet1, sheet2, sheet3}
-use Rattle.words.specs.Text.{lastDigits, decimal, newline, lineOf}
+use Rattle.text.specs.Text.{lastDigits, decimal, newline, lineOf}
 use Rattle.season_rules.specs.Season.{Refused, Ended, noFigures, place, hasRounds, oneMore, withRounds, counting, withOutcome, figuresOf}
 use Rattle.season_rules.specs.Stream.{mostSheets, lengthBytes, lengthIn, isWhole, ended, split, Season, seasonFrom, season}
 use Rattle.season_rules.proofs.Theorems.{reads-stream}

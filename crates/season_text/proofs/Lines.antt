@@ -5,7 +5,7 @@ use Prim.Native.Nat.{ℕ, min}
 use native.Mathlib.Omega.{arith}
 use lib.ListN.{length, take, length-take}
 use Rattle.io.specs.Counts.{Counts}
-use Rattle.words.specs.Text.{lineOf, Appends}
+use Rattle.text.specs.Text.{lineOf, Appends}
 use Rattle.season_rules.specs.Stream.{Season}
 use Rattle.season_text.specs.Text.{seasonText, Prints}
 

@@ -5,7 +5,7 @@ use mathlib.Core.List.{List, [], _∷_, _++_}
 use mathlib.Core.Option.{Option, none, some}
 use lib.ListN.{length, take}
 use Rattle.protocol.specs.Run.{oneIf}
-use Rattle.words.specs.Text.{decimal, newline, lineOf}
+use Rattle.text.specs.Text.{decimal, newline, lineOf}
 use Rattle.season_rules.specs.Season.{Rounds}
 use Rattle.season_rules.specs.Stream.{Season}
 

@@ -5,7 +5,7 @@ ghost use Prim.Native.Nat.{_+_, _≤_};
 ghost use lib.ListN.{length};
 ghost use Rattle.io.specs.Counts.{Counts};
 ghost use Rattle.protocol.specs.Run.{oneIf};
-ghost use Rattle.words.specs.Text.{Appends};
+ghost use Rattle.text.specs.Text.{Appends};
 ghost use Rattle.season_rules.specs.Stream.{season as seasonBy};
 ghost use Rattle.season_figures.specs.Abstract.{kinds, roundsOf, roundsFrom};
 ghost use Rattle.season_figures.specs.Pieces.{seasonOf};
@@ -13,9 +13,9 @@ ghost use Rattle.season_text.specs.Text.{figure, fourLine, meanLine, rou
 use season_figures::figures::Rounds;
 use season_figures::stream::Season;
 use season_figures::stream::read_stream;
-use words::text::append;
-use words::text::append_line;
-use words::text::append_number;
+use text::append;
+use text::append_line;
+use text::append_number;
 
 // What stands before a number, and the number.
 fn append_figure(out: &mut [u8], at: usize, before: &[u8], n: u64) -> usize

@@ -21,8 +21,8 @@ use cases::sheets::blank;
 use cases::sheets::built;
 use libc::STDIN_FILENO;
 use little_sheet::little;
+use text::append;
 use words::printing::Out;
-use words::text::append;
 
 // ---- the stream
 

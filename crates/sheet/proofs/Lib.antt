@@ -1,8 +1,2 @@
-mod Headers
-mod Table
-mod Gaps
-mod Pairs
-mod Bands
-pub mod Records
 pub mod Walking
 pub mod Outcomes

@@ -20,10 +20,10 @@ use Rattle.problem.proofs.Range.{domain-same}
 use Rattle.problem.proofs.Bits.{bits-below}
 use Rattle.problem.proofs.Walk.{freeWalk, free-fails, free-goes, record-same}
 use Rattle.problem.proofs.Checks.{walked}
+use Rattle.sheet_parts.specs.Parts.{Good, Short, tableWith}
+use Rattle.sheet_parts.proofs.Headers.{header}
+use Rattle.sheet_parts.proofs.Records.{start-at, good-record}
 use Rattle.sheet.specs.Abstract.{Framed}
-use Rattle.sheet.specs.Parts.{Good, Short, tableWith}
-use Rattle.sheet.proofs.Headers.{header}
-use Rattle.sheet.proofs.Records.{start-at, good-record}
 
 pub record Walking (s : List ℕ) (bans : List ℕ) (r left : ℕ) : Type 0 where
   pub header : headerGood s ≡ true

@@ -1,2 +1,1 @@
 pub mod Abstract
-pub mod Parts

@@ -4,14 +4,10 @@ ghost use Rattle.problem.specs.Problem.{emptyProblem};
 ghost use Rattle.problem.specs.Sheet.{decode};
 ghost use Rattle.sheet.specs.Abstract.{outcome, outcomeOf, Sized};
 
-mod bans;
-pub mod header;
-pub mod index;
-mod record;
 mod walk;
 
-use header::header_good;
-use header::two_bytes;
+use sheet_parts::header::header_good;
+use sheet_parts::header::two_bytes;
 use walk::walk;
 
 // The arrays are those of the definition: twelve slot counts, and 66 words of 64 bits for the pairs of agents.

@@ -6,11 +6,11 @@ use crate::BAD_RECORD;
 use crate::CYCLE;
 use crate::Decoded;
 use crate::Problem;
-use crate::bans::add_record;
-use crate::header::domains_in;
-use crate::header::two_bytes;
-use crate::record::record_good;
 use crate::rejected;
+use sheet_parts::bans::add_record;
+use sheet_parts::header::domains_in;
+use sheet_parts::header::two_bytes;
+use sheet_parts::record::record_good;
 
 // From the first record on. No record is marked as met: a walk of more than m records has come back to one, so `left` finds every return.
 pub fn walk(s: &[u8]) -> Decoded

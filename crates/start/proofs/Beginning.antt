@@ -9,9 +9,10 @@ use Rattle.agent_rules.specs.Agent.{Agent as Agent′, Step}
 use Rattle.agent_rules.specs.Receiving.{begin}
 use Rattle.protocol.specs.Network.{selfOf, bansOf, withStep, begun}
 use Rattle.shape_laws.proofs.Start.{begins}
+use Rattle.choosing.specs.Barring.{selfOf as ownOf}
+use Rattle.choosing.specs.declared.Own.{Own}
 use Rattle.agent.specs.declared.Agent.{Agent}
-use Rattle.agent.specs.declared.Own.{Own}
-use Rattle.agent.specs.Abstract.{agentOf, selfOf as ownOf}
+use Rattle.agent.specs.Abstract.{agentOf}
 use Rattle.agent.specs.Posting.{newsTo}
 use Rattle.agent.specs.Entries.{BeginsAs}
 use Rattle.packed.specs.Packed.{members}

@@ -17,8 +17,8 @@ use Rattle.packed.proofs.Digits.{nobody-assigned}
 use Rattle.network.specs.declared.Place.{Place}
 use Rattle.network.specs.declared.Network.{Network}
 use Rattle.network.specs.Abstract.{isChannel, channelAt, placeOf, noPlace}
-use Rattle.network.proofs.Numbering.{channel-below}
-use Rattle.network.proofs.Columns.{channel-one}
+use Rattle.clauses.proofs.Numbering.{channel-below}
+use Rattle.clauses.proofs.Columns.{channel-one}
 
 -- the network with these places
 abbrev pub withPlaces : Network → List Place → Network

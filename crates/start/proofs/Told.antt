@@ -15,7 +15,7 @@ use Rattle.packed.proofs.Sets.{no-members}
 use Rattle.agent.specs.Posting.{newsTo}
 use Rattle.network.specs.declared.Network.{Network}
 use Rattle.network.specs.Abstract.{isChannel, channelAt, ring, channelOf, problemOf, networkOf}
-use Rattle.network.proofs.Numbering.{ends}
+use Rattle.clauses.proofs.Numbering.{ends}
 use Rattle.network.proofs.Zeros.{zero-row}
 use Rattle.network_laws.proofs.Rings.{ring-same}
 use Rattle.network_laws.proofs.Changes.{row-here, row-elsewhere}

@@ -15,7 +15,7 @@ use Rattle.network.specs.declared.Place.{Place}
 use Rattle.network.specs.declared.Network.{Network}
 use Rattle.network.specs.Abstract.{isChannel, noPlace, channelOf, networkOf}
 use Rattle.network.specs.Empty.{emptyAgent, emptyRecord}
-use Rattle.network.proofs.Numbering.{to-channel}
+use Rattle.clauses.proofs.Numbering.{to-channel}
 use Rattle.start.specs.Started.{unbegun}
 use Rattle.start.proofs.Posting.{Silent, withRow}
 use Rattle.start.proofs.Telling.{Telling}

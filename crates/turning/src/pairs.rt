@@ -7,7 +7,7 @@ ghost use Rattle.sheet.specs.Abstract.{problemOf};
 ghost use Rattle.turning.specs.Pairs.{Means, wordSayable};
 use crate::gaps::gaps_of;
 use sheet::Problem;
-use sheet::index::word_at;
+use sheet_parts::index::word_at;
 
 // Lower and higher agent, their slot counts, and their word of the table.
 pub struct Pair {

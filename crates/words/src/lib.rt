@@ -1,14 +1,16 @@
 // What the programs print with: the words, and printing.
 ghost use mathlib.Core.Path.{_≡_};
-ghost use lib.ListN.{take};
+ghost use Prim.Native.Nat.{_+_, _≤_};
+ghost use lib.ListN.{length, take};
 ghost use Rattle.protocol.specs.Run.{endingWord};
 ghost use Rattle.io.specs.Counts.{Counts};
 ghost use Rattle.engine.specs.Answers.{endingOf};
+ghost use Rattle.text.specs.Text.{Appends};
 
 pub mod printing;
-pub mod text;
 
 use engine::Ending;
+use text::append;
 
 // A word: the first `length` letters.
 pub struct Word {
@@ -42,4 +44,15 @@ pub fn word_for(e: Ending) -> Word
             length: 0,
         },
     }
+}
+
+// The word for how a run ended, which has at most six letters.
+pub fn append_ending(out: &mut [u8], at: usize, e: Ending) -> usize
+    requires { ⌜ at + 6 ≤ length (now out) ⌝ }
+    ensures { λ k. ⌜ Appends (now (out .entry)) at (endingWord (endingOf e)) (now (out .exit)) k × (k ≤ at + 6) ⌝ }
+{
+    let word = word_for(e);
+    let letters = word.letters;
+    let n = word.length;
+    append(out, at, &letters[..n])
 }

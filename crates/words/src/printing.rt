@@ -1,9 +1,9 @@
 // Printing, on standard output.
 ghost use mathlib.Core.Path.{_≡_};
 ghost use mathlib.Core.Bool.{true, false};
-use crate::text::append_number;
 use crate::word_for;
 use engine::Ending;
+use text::append_number;
 use tool::written;
 
 // Standard output, and whether something could not be written there.

@@ -7,9 +7,9 @@ ghost use Rattle.network.specs.Abstract.{isChannel};
 use agent::Agent;
 use agent::Counts;
 use agent::Message;
+use clauses::places::channel_at;
+use clauses::places::place_at;
 use network::Network;
-use network::places::channel_at;
-use network::places::place_at;
 use packed::digit;
 
 fn same_bans(a: [u64; 66], b: [u64; 66]) -> bool {

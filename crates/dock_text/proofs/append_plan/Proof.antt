@@ -4,7 +4,7 @@ use borrow.Enum.Known.{lives-at}
 use Rattle.engine.specs.declared.Ending.the-variants.{None, Plan, Jammed, Open, Broken}
 use Rattle.engine.specs.Answers.{endingOf}
 use Rattle.engine.proofs.Ending as E
-use Rattle.words.proofs.Appending.{appends-none}
+use Rattle.text.proofs.Appending.{appends-none}
 use Rattle.dock_text.specs.Text.{planLines}
 use borrow.Author.Needs.{needs}
 use Rattle.dock_text.proofs.append_plan.Statement.{statement}

@@ -1,6 +1,6 @@
 -- The word, the rounds and the slots one behind the other. Assumes nothing.
-use Rattle.words.specs.Text.{newline}
-use Rattle.words.proofs.Appending.{appends-then}
+use Rattle.text.specs.Text.{newline}
+use Rattle.text.proofs.Appending.{appends-then}
 use Rattle.dock_text.specs.Text.{verdict, rounds, ranText, answerText}
 use borrow.Author.Needs.{needs}
 use Rattle.dock_text.proofs.append_ran.Statement.{statement}

@@ -1,6 +1,6 @@
 -- The number, then the slot. Assumes nothing.
 use native.Mathlib.Omega.{arith}
-use Rattle.words.proofs.Appending.{appends-then}
+use Rattle.text.proofs.Appending.{appends-then}
 use Rattle.dock_text.specs.Text.{slotLine, scanner, slot}
 use borrow.Author.Needs.{needs}
 use Rattle.dock_text.proofs.append_slot.Statement.{statement}

@@ -4,8 +4,8 @@ use native.Mathlib.Omega.{arith}
 use borrow.Author.Needs.{needs}
 use Rattle.base.specs.Finite.{gather}
 use Rattle.network.specs.Abstract.{networkOf}
-use Rattle.words.specs.Text.{Appends}
-use Rattle.words.proofs.Appending.{appends-none}
+use Rattle.text.specs.Text.{Appends}
+use Rattle.text.proofs.Appending.{appends-none}
 use Rattle.dock_text.proofs.Lines.{slotOf, slots-more, slots-all}
 use Rattle.dock_text.proofs.append_slots.Statement.{statement}
 use Rattle.dock_text.proofs.append_slots.Tie as tie

@@ -11,11 +11,12 @@ use borrow.Author.Tests.{not-true, not-false}
 use Rattle.base.specs.Finite.{at}
 use Rattle.base.proofs.Tests.{both}
 use Rattle.packed.specs.Packed.{assignment}
+use Rattle.agent.specs.Abstract.{assigned}
 use Rattle.agent.specs.Posting.{postsLeft}
 use Rattle.protocol.specs.Shape.{inShape}
 use Rattle.protocol.specs.Run.{oneIf}
 use Rattle.network.specs.Abstract.{networkOf}
-use Rattle.network.proofs.Numbering.{Ends}
+use Rattle.clauses.proofs.Numbering.{Ends}
 use Rattle.network_laws.proofs.Changes.{FullArrays}
 use Rattle.network_laws.proofs.Handing.{Found, Stepped, bars-ask, step-asks, steps, storing}
 use Rattle.network_laws.proofs.Stepping.{few-agents}
@@ -106,6 +107,7 @@ finding c = finds (c .before .before .before .before .before .before .before .be
 -- agent `to` has its bars, or they are worked out now
 readied : (c : tie.Joined6 Inv-loop2 μ-loop2 Inv-loop μ-loop)
     → Readied (c .before .before .before .before .before .before .before .before .before .before .before .before .before .before .before .before .before .before .before .if1 .o .bans) (c .before .before .before .before .before .before .before .before .before .before .before .before .before .before .next-visit .result .to) (c .before .before .before .before .words-before .result) (getD (c .before .before .before .before .before .before .before .before .before .before .before .before .before .before .before .before .loop .o .agents) (c .before .before .before .before .before .before .before .before .before .before .before .before .before .before .next-visit .result .to - 1) noAgent) (c .before .before .before .before .before .before .before .before .before .before .before .before .before .before .before .before .loop .bars) (c .before .before .before .before .before .before .before .before .before .before .before .before .before .before .before .before .loop .ready) (c .if6 .bars) (c .if6 .ready)
+unfolding assigned
 readied c =
     ⊎-elim
     (λ a. worked (a .1 .result) (a .2 .result) (a .1 .ensures) (a .2 .ensures) (a .3) (a .4))
@@ -219,6 +221,7 @@ has-requires : tie.Need-has-requires Inv-loop2 μ-loop2 Inv-loop μ-loop
 has-requires c κs = let b = visited (c .before .before .before .before .before .before .before .before .before .before) in (b .to-low, omega (arith, b .to-high))
 
 of-requires : tie.Need-of-requires Inv-loop2 μ-loop2 Inv-loop μ-loop
+unfolding assigned
 of-requires c κs = let a = bars-ask (finding (c .before .before .before .before .before .before .before)) noAgent _ _ (c .before .before .before .before .words-before .result) (alive (c .before .before .before .before .before .before .before .before .before .before .before .before) .owned) (alive (c .before .before .before .before .before .before .before .before .before .before .before .before) .table) (c .before .before .before .before .words-before .ensures .0) in (a .0, a .1)
 
 mul-bars : tie.Need-mul-bars Inv-loop2 μ-loop2 Inv-loop μ-loop

@@ -21,13 +21,13 @@ use Rattle.packed.proofs.Naming.{naming, naming-few, naming-fewer}
 use Rattle.protocol.specs.Network.{isRule}
 use Rattle.protocol.specs.Shape.{inShape}
 use Rattle.network.specs.Abstract.{isChannel, problemOf, placeOf, networkOf}
-use Rattle.network.specs.Parts.{Domains, agentPasses, isLink, fitsNow}
+use Rattle.clauses.specs.Parts.{Domains, agentPasses, isLink, fitsNow}
 use Rattle.network.specs.declared.Place.{Place}
 use Rattle.network.specs.declared.Network.{Network}
-use Rattle.network.proofs.Numbering.{ends}
-use Rattle.network.proofs.Ranges.{small-domain}
-use Rattle.network.proofs.Clauses.{agent-at}
-use Rattle.network.proofs.Words.{set-at}
+use Rattle.clauses.proofs.Numbering.{ends}
+use Rattle.clauses.proofs.Ranges.{small-domain}
+use Rattle.network.proofs.Agents.{agent-at}
+use Rattle.clauses.proofs.Words.{set-at}
 use Rattle.network.proofs.Rings.{lastLeft, message-at}
 use Rattle.network.proofs.Sweeping.{Swept, channelsInShape, beginning, one-unfit, message-unfit, message-passed, channel-here, channel-full, channel-next, sender-next, swept}
 use Rattle.network.proofs.Whole.{listensOf, informsOf, Linking, linking, lengths, head-unfit, AgentsFit, agent-unfit, agent-passed, agents-passed}

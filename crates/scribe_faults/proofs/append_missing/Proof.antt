@@ -1,7 +1,7 @@
 -- The words and a number. Assumes nothing.
 use mathlib.Core.Path.{refl}
 use native.Mathlib.Omega.{arith}
-use Rattle.words.proofs.Appending.{appends-then}
+use Rattle.text.proofs.Appending.{appends-then}
 use Rattle.scribe_rules.specs.Drafts.{NoAgent}
 use Rattle.scribe_rules.specs.Faults.{noAgent, faultWords}
 use Rattle.scribe_drafts.specs.Drafting.{faults}

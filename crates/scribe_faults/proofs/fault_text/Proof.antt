@@ -1,7 +1,7 @@
 -- The parts of the line one behind the other. Assumes nothing.
 use native.Mathlib.Omega.{arith}
-use Rattle.words.specs.Text.{newline}
-use Rattle.words.proofs.Appending.{appends-then}
+use Rattle.text.specs.Text.{newline}
+use Rattle.text.proofs.Appending.{appends-then}
 use Rattle.scribe_rules.specs.Faults.{lineWord, colonWord, faultText}
 use borrow.Author.Needs.{needs}
 use Rattle.scribe_faults.proofs.fault_text.Statement.{statement}

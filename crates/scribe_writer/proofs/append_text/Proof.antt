@@ -1,7 +1,7 @@
 -- `append_text` puts the slot counts and the records.
 -- The two parts one behind the other.
 use Rattle.sheet.specs.Abstract.{problemOf}
-use Rattle.words.proofs.Appending.{appends-then}
+use Rattle.text.proofs.Appending.{appends-then}
 use Rattle.scribe_rules.specs.Telling.{textFrom}
 use Rattle.scribe_writer.proofs.Rooms.{room-first, room-rest}
 use Rattle.scribe_writer.proofs.Answers.{agents-few}

@@ -1,6 +1,6 @@
 -- The number behind what stands before it. Assumes nothing.
 use native.Mathlib.Omega.{arith}
-use Rattle.words.proofs.Appending.{appends-then}
+use Rattle.text.proofs.Appending.{appends-then}
 use Rattle.season_text.specs.Text.{figure}
 use borrow.Author.Needs.{needs}
 use Rattle.season_text.proofs.append_figure.Statement.{statement}

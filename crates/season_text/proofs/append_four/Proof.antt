@@ -1,6 +1,6 @@
 -- Four numbers one behind the other. Assumes nothing.
 use native.Mathlib.Omega.{arith}
-use Rattle.words.proofs.Appending.{appends-then}
+use Rattle.text.proofs.Appending.{appends-then}
 use Rattle.season_figures.specs.Abstract.{kinds}
 use Rattle.season_text.specs.Text.{blank, fourLine}
 use borrow.Author.Needs.{needs}

@@ -1,6 +1,6 @@
 -- The sum over the count. Assumes nothing.
 use native.Mathlib.Omega.{arith}
-use Rattle.words.proofs.Appending.{appends-then}
+use Rattle.text.proofs.Appending.{appends-then}
 use Rattle.season_figures.specs.Abstract.{roundsFrom}
 use Rattle.season_text.specs.Text.{mean, over, meanLine}
 use borrow.Author.Needs.{needs}

@@ -1,6 +1,6 @@
 -- Dashes where no sheet is counted. Assumes nothing.
 use native.Mathlib.Omega.{arith}
-use Rattle.words.specs.Text.{newline}
+use Rattle.text.specs.Text.{newline}
 use Rattle.season_figures.proofs.Counting.{rounds-none, rounds-some}
 use Rattle.season_text.specs.Text.{fewest, most, sum, mean, dash, dashLine, roundsLines}
 use borrow.Author.Needs.{needs}

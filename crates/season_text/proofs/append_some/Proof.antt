@@ -1,6 +1,6 @@
 -- Four lines one behind the other. Assumes nothing.
 use native.Mathlib.Omega.{arith}
-use Rattle.words.proofs.Appending.{appends-then}
+use Rattle.text.proofs.Appending.{appends-then}
 use Rattle.season_figures.specs.Abstract.{roundsFrom}
 use Rattle.season_text.specs.Text.{fewest, most, sum, roundsLines}
 use borrow.Author.Needs.{needs}

@@ -1,5 +1,5 @@
 -- The eight lines one behind the other. Assumes nothing.
-use Rattle.words.proofs.Appending.{appends-then}
+use Rattle.text.proofs.Appending.{appends-then}
 use Rattle.season_figures.specs.Abstract.{figuresOf}
 use Rattle.season_figures.specs.Pieces.{seasonOf}
 use Rattle.season_text.specs.Text.{sheets, refused, words, cut, seasonText}

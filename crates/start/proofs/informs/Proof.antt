@@ -7,7 +7,7 @@ use lib.Dec.{eqb}
 use lib.ListN.{getD}
 use borrow.Author.Needs.{needs}
 use Rattle.problem.specs.Problem.{linked}
-use Rattle.network.proofs.Pairs.{word-place}
+use Rattle.clauses.proofs.Pairs.{word-place}
 use Rattle.start.proofs.Words.{table, table-linked, not-linked, is-linked}
 use Rattle.start.proofs.Masks.{Masked, mask-begins, mask-fits, mask-goes, mask-moved}
 use Rattle.start.proofs.informs.Statement.{statement}

@@ -13,7 +13,8 @@ use Rattle.problem.specs.Problem.{Problem, maxAgents, maxDomain, maxPairs, noBa
 use Rattle.problem.proofs.Range.{linked-pair}
 use Rattle.protocol.specs.Network.{selfOf, bansOf, begun, start}
 use Rattle.packed.specs.Packed.{members}
-use Rattle.agent.specs.Abstract.{messageOf, selfOf as ownOf}
+use Rattle.choosing.specs.Barring.{selfOf as ownOf}
+use Rattle.agent.specs.Abstract.{messageOf}
 use Rattle.agent.specs.Entries.{BeginsAs}
 use Rattle.network.specs.Abstract.{isChannel, channelAt, placeOf}
 use Rattle.network.specs.Empty.{emptyRecord}

@@ -8,7 +8,8 @@ use Rattle.problem.specs.Problem.{maxAgents}
 use Rattle.agent_rules.specs.Message.{Message as Message′, AddLink as AddLink′}
 use Rattle.agent_rules.specs.Agent.{Step as Step′}
 use Rattle.agent_rules.specs.Receiving.{react}
-use Rattle.agent.specs.Abstract.{assigned, messageOf, agentOf, selfOf, bansIn}
+use Rattle.choosing.specs.Barring.{selfOf, bansIn}
+use Rattle.agent.specs.Abstract.{assigned, messageOf, agentOf}
 use Rattle.agent.specs.Entries.{StepsAs}
 use Rattle.agent.specs.Parts.{apart, agentIn, stepWith, Handed, Takes}
 use Rattle.agent.specs.declared.Message.the-variants.{AddLink}

@@ -6,7 +6,7 @@ use lib.ListN.{getD}
 use native.Mathlib.Omega.{arith}
 use Rattle.agent.specs.Abstract.{messageOf, postOf}
 use Rattle.agent.specs.Posting.{Sendable}
-use Rattle.agent.proofs.Named.{highest-named, still-short}
+use Rattle.choosing.proofs.Named.{highest-named, still-short}
 use Rattle.agent.proofs.Cursor.{first-is, link-first, back-sendable, back-first, back-read, news-first, news-left}
 use borrow.Author.Needs.{needs}
 use Rattle.agent.proofs.Posts.first.Statement.{statement}

@@ -8,7 +8,7 @@ use lib.ListN.{length}
 use Rattle.packed.specs.Packed.{assignment}
 use Rattle.packed.proofs.Digits.{nobody-assigned}
 use Rattle.packed.proofs.Naming.{naming, naming-fewer}
-use Rattle.agent.proofs.Named.{named-range}
+use Rattle.choosing.proofs.Named.{named-range}
 use Rattle.agent.proofs.Hearing.{Hearing, hear-begins, hear-matched, near, hear-new, hear-ends, hear-fails, hear-within}
 use Rattle.agent.proofs.State.hear.Statement.{statement}
 use Rattle.agent.proofs.State.hear.Tie as tie

@@ -12,8 +12,9 @@ use borrow.Author.Tests.{eqb-false, ne-eqb, not-true}
 use Rattle.base.proofs.Tests.{eq-test, both}
 use Rattle.packed.specs.Packed.{assignment}
 use Rattle.agent_rules.specs.Receiving.{onInfo}
-use Rattle.agent.specs.Abstract.{selfOf, bansIn}
-use Rattle.agent.specs.Parts.{nogoodsOf, agentIn, keeping, Takes}
+use Rattle.choosing.specs.Barring.{selfOf, bansIn}
+use Rattle.choosing.specs.Choosing.{nogoodsOf}
+use Rattle.agent.specs.Parts.{agentIn, keeping, Takes}
 use Rattle.agent.proofs.Fits.{fits-sound}
 use Rattle.agent.proofs.Views.{kept-same, kept-new, kept-other}
 use Rattle.agent.proofs.Infos.{sender, valued, takes-info}

@@ -1,7 +1,7 @@
 -- The loop over the eight places of a channel ends; the ends of a channel are agents of 1 to 12.
 use Prim.Native.Nat.{_-_}
 use native.Mathlib.Omega.{arith}
-use Rattle.network.proofs.Numbering.{ends}
+use Rattle.clauses.proofs.Numbering.{ends}
 use borrow.Author.Needs.{needs}
 use Rattle.board_text.proofs.drawing.put_channel.Statement.{statement}
 use Rattle.board_text.proofs.drawing.put_channel.Tie as tie

@@ -1,6 +1,6 @@
 -- The loop over the receivers ends, and names agents of 1 to 12. Assumes nothing.
 use Prim.Native.Nat.{_-_, _≤_}
-use Rattle.network.proofs.Numbering.{to-channel}
+use Rattle.clauses.proofs.Numbering.{to-channel}
 use borrow.Author.Needs.{needs}
 use Rattle.board_text.proofs.drawing.put_channels_from.Statement.{statement}
 use Rattle.board_text.proofs.drawing.put_channels_from.Tie as tie

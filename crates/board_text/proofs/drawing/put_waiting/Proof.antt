@@ -1,6 +1,6 @@
 -- The ends of a channel are agents of 1 to 12.
 use native.Mathlib.Omega.{arith}
-use Rattle.network.proofs.Numbering.{ends}
+use Rattle.clauses.proofs.Numbering.{ends}
 use borrow.Author.Needs.{needs}
 use Rattle.board_text.proofs.drawing.put_waiting.Statement.{statement}
 use Rattle.board_text.proofs.drawing.put_waiting.Tie as tie

@@ -4,7 +4,7 @@ use Prim.Native.Nat.{_-_, _≤_}
 use mathlib.Core.Path.{sym}
 use mathlib.Core.Logic.{⊎-elim}
 use native.Mathlib.Omega.{arith}
-use Rattle.network.proofs.Numbering.{ends, to-channel}
+use Rattle.clauses.proofs.Numbering.{ends, to-channel}
 use Rattle.image_reader.proofs.Rows.{Rowed, none-rowed, one-rowed, none-more}
 use borrow.Author.Needs.{needs}
 use Rattle.image_reader.proofs.lines.row.Statement.{statement}

@@ -4,7 +4,7 @@ use Prim.Native.Nat.{_-_, _≤_}
 use mathlib.Core.Path.{_≡_, refl, _∙_}
 use native.Mathlib.Omega.{arith}
 use lib.ListN.{length, length-set}
-use Rattle.network.proofs.Numbering.{ends}
+use Rattle.clauses.proofs.Numbering.{ends}
 use Rattle.image_reader.proofs.Rows.{AllRowed, none-sent, one-sent}
 use borrow.Author.Needs.{needs}
 use Rattle.image_reader.proofs.lines.rows.Statement.{statement}

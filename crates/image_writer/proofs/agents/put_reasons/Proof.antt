@@ -7,7 +7,7 @@ use native.Mathlib.Omega.{arith}
 use lib.ListN.{length}
 use borrow.Author.Needs.{needs}
 use Rattle.base.specs.Finite.{fromOne}
-use Rattle.agent.specs.Abstract.{nogoodAt}
+use Rattle.choosing.specs.Choosing.{nogoodAt}
 use Rattle.image_format.proofs.Lengths.{reasons-length}
 use Rattle.image_writer.proofs.Puts.{Left, all-left, left-as, less-left, none-left, puts-as}
 use Rattle.image_writer.proofs.Records.{reasonsLeft, all-reasons, first-reason, no-reasons}

@@ -5,7 +5,7 @@ use mathlib.Core.Path.{_≡_, refl, sym}
 use native.Mathlib.Omega.{arith}
 use lib.ListN.{length}
 use borrow.Author.Needs.{needs}
-use Rattle.network.proofs.Pairs.{word-place}
+use Rattle.clauses.proofs.Pairs.{word-place}
 use Rattle.image_writer.proofs.Puts.{Left, all-left, left-as, less-left, none-left, puts-as}
 use Rattle.image_writer.proofs.BanTable.{wordsLeft, all-words, words-length, first-word, no-words}
 use Rattle.image_writer.proofs.bans.put_bans_of.Statement.{statement}

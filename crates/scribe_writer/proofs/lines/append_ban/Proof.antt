@@ -1,8 +1,8 @@
 -- `append_ban` puts the word and two places.
 -- The four parts one behind the other.
 use Rattle.problem.specs.Sheet.{byteAt, rowAt}
-use Rattle.words.specs.Text.{newline}
-use Rattle.words.proofs.Appending.{appends-then}
+use Rattle.text.specs.Text.{newline}
+use Rattle.text.proofs.Appending.{appends-then}
 use Rattle.scribe_rules.specs.Statements.{banWord}
 use Rattle.scribe_rules.specs.Telling.{banLine}
 use Rattle.scribe_writer.proofs.Rooms.{room-first, room-rest, room-put}

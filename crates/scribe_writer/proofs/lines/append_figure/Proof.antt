@@ -1,7 +1,7 @@
 -- `append_figure` puts a blank and the number.
 -- The two parts one behind the other.
-use Rattle.words.specs.Text.{decimal}
-use Rattle.words.proofs.Appending.{appends-then}
+use Rattle.text.specs.Text.{decimal}
+use Rattle.text.proofs.Appending.{appends-then}
 use Rattle.scribe_rules.specs.Telling.{blank, figure}
 use Rattle.scribe_writer.proofs.Rooms.{room-first, room-rest, room-put, room-digits}
 use borrow.Author.Needs.{needs}

@@ -1,8 +1,8 @@
 -- `append_gap` puts the word, two agents and two signed numbers.
 -- The six parts one behind the other.
 use Rattle.problem.specs.Sheet.{byteAt, rowAt}
-use Rattle.words.specs.Text.{newline}
-use Rattle.words.proofs.Appending.{appends-then}
+use Rattle.text.specs.Text.{newline}
+use Rattle.text.proofs.Appending.{appends-then}
 use Rattle.scribe_rules.specs.Statements.{gapWord}
 use Rattle.scribe_rules.specs.Telling.{gapLine}
 use Rattle.scribe_writer.proofs.Rooms.{room-first, room-rest, room-put}

@@ -1,8 +1,8 @@
 -- `append_place` puts a blank, the agent, a colon and the value.
 -- The three parts one behind the other.
 use mathlib.Core.List.{_++_}
-use Rattle.words.specs.Text.{decimal}
-use Rattle.words.proofs.Appending.{appends-then}
+use Rattle.text.specs.Text.{decimal}
+use Rattle.text.proofs.Appending.{appends-then}
 use Rattle.scribe_rules.specs.Telling.{colon, figure, place}
 use Rattle.scribe_writer.proofs.Rooms.{room-first, room-rest, room-put, room-digits}
 use borrow.Author.Needs.{needs}

@@ -2,7 +2,7 @@
 -- By the sign of the byte.
 use mathlib.Core.List.{_++_}
 use native.Mathlib.Omega.{arith}
-use Rattle.words.proofs.Appending.{appends-then}
+use Rattle.text.proofs.Appending.{appends-then}
 use Rattle.scribe_rules.specs.Telling.{blank, dash, signedFigure}
 use Rattle.scribe_writer.proofs.Rooms.{room-first, room-rest, room-put, room-digits}
 use Rattle.scribe_writer.proofs.Signs.{sign-none, sign-some, number-is}

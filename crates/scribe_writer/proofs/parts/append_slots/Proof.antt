@@ -9,8 +9,8 @@ use Rattle.base.specs.Finite.{gather}
 use Rattle.problem.specs.Problem.{domain}
 use Rattle.sheet.specs.Abstract.{problemOf}
 use Rattle.sheet.specs.declared.Problem.{Problem}
-use Rattle.words.specs.Text.{newline}
-use Rattle.words.proofs.Appending.{appends-then}
+use Rattle.text.specs.Text.{newline}
+use Rattle.text.proofs.Appending.{appends-then}
 use Rattle.scribe_rules.specs.Statements.{slotsWord}
 use Rattle.scribe_rules.specs.Telling.{figure, slotsLine}
 use Rattle.scribe_writer.specs.Parts.{Room}

@@ -2,7 +2,7 @@
 use mathlib.Core.Bool.{false≢true}
 use borrow.Author.Needs.{needs}
 use borrow.Author.Tests.{eqb-false, not-true}
-use Rattle.network.proofs.Numbering.{to-channel}
+use Rattle.clauses.proofs.Numbering.{to-channel}
 use Rattle.worked_cases.proofs.rails.is_line.Statement.{statement}
 use Rattle.worked_cases.proofs.rails.is_line.Tie as tie
 

@@ -1,7 +1,7 @@
 -- The loops over the senders and the receivers end, and name agents of 1 to 12. Assumes nothing.
 use Prim.Native.Nat.{_-_, _≤_}
 use borrow.Author.Needs.{needs}
-use Rattle.network.proofs.Numbering.{to-channel}
+use Rattle.clauses.proofs.Numbering.{to-channel}
 use Rattle.worked_cases.proofs.rails.same_lines.Statement.{statement}
 use Rattle.worked_cases.proofs.rails.same_lines.Tie as tie
 

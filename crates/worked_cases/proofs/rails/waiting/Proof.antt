@@ -1,7 +1,7 @@
 -- The ends of a channel are agents of 1 to 12.
 use borrow.Author.Needs.{needs}
 use native.Mathlib.Omega.{arith}
-use Rattle.network.proofs.Numbering.{ends}
+use Rattle.clauses.proofs.Numbering.{ends}
 use Rattle.worked_cases.proofs.rails.waiting.Statement.{statement}
 use Rattle.worked_cases.proofs.rails.waiting.Tie as tie
 

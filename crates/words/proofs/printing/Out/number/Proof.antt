@@ -6,7 +6,7 @@ use borrow.Author.Needs.{needs}
 use Rattle.words.proofs.printing.Out.number.Statement.{statement}
 use Rattle.words.proofs.printing.Out.number.Tie as tie
 use Rattle.words.proofs.printing.Out.put.Reads as put-reads
-use Rattle.words.proofs.text.append_number.Reads as append-number-reads
+use Rattle.text.proofs.append_number.Reads as append-number-reads
 
 slice-aggregate-append-number : tie.Need-slice-aggregate-append-number
 slice-aggregate-append-number c = search needs

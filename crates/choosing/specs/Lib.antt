@@ -1,0 +1,2 @@
+pub mod Barring
+pub mod Choosing

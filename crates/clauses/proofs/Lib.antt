@@ -1,0 +1,9 @@
+pub mod Numbering
+pub mod Columns
+pub mod Pairs
+mod Lines
+pub mod Words
+pub mod Ranges
+mod BanWords
+mod Clauses
+pub mod Links
