@@ -11,6 +11,7 @@ use lib.Seq.{length-take-le}
 use borrow.Author.Tests.{eqb-true, eqb-false}
 use Rattle.base.specs.Bits.{bit}
 use Rattle.base.specs.Finite.{fromOne, gather}
+use Rattle.base.proofs.Bits.{half}
 use Rattle.base.proofs.Gathers.{gather-low}
 use Rattle.base.proofs.Tests.{test}
 use Rattle.problem.specs.Problem.{maxAgents}
@@ -28,7 +29,6 @@ use Rattle.agent_rules.specs.Choosing.{refusing}
 use Rattle.agent_rules.specs.Shape.{maxNamed, EachIn}
 use Rattle.agent_rules.proofs.Counts.{raised-none, number-append, messages-append}
 use Rattle.packed.specs.Packed.{members}
-use Rattle.choosing.proofs.Records.{half}
 use Rattle.agent.specs.Abstract.{countOf}
 use Rattle.agent.specs.Posting.{postIf, postsTo, linksTo, newsTo, backOf, backsFrom, postsLeft, Ready}
 use Rattle.agent.specs.declared.Counts.{Counts}

@@ -23,6 +23,9 @@ pub bit-suc : (x k : ℕ) → bit x (suc k) ≡ bit (x / 2) k
 unfolding bit
 bit-suc x k = rw (pow-succ' 2 k, ← div-div-eq-div-mul x 2 (2 ^ k))
 
+pub half : (s k : ℕ) → s / 2 ^ suc k ≡ s / 2 ^ k / 2
+half s k = rw (pow-suc 2 k, ← div-div-eq-div-mul s (2 ^ k) 2)
+
 half-plus : (x k : ℕ) → (x + 2 ^ suc k) / 2 ≡ x / 2 + 2 ^ k
 half-plus x k = omega arith
 

@@ -33,6 +33,10 @@ unfolding isSome
 isSome-true none e = absurd (false≢true e)
 isSome-true (some a) e = (a, refl)
 
+pub not-not : (b : Bool) → not (not b) ≡ b
+not-not true = refl
+not-not false = refl
+
 pub not-true : (b : Bool) → not b ≡ true → b ≡ false
 not-true true e = cc
 not-true false e = refl

@@ -1,10 +1,10 @@
 -- The nogoods of a mask and its words, value by value: place v - 1 of the words, where bit v - 1 of the mask says that one is stored.
-use Prim.Native.Nat.{ℕ, zero, suc, _*_, _/_, _%_, _^_, _<_}
+use Prim.Native.Nat.{ℕ, zero, suc, _*_, _%_, _^_, _<_}
 use mathlib.Core.Path.{_≡_, refl, sym, _∙_, fun-ext}
 use mathlib.Core.Bool.{true, false, _||_, or-true, or-false}
 use mathlib.Core.Option.{none, some}
 use mathlib.Core.List.{List}
-use native.Mathlib.Nat.{pow-suc, div-div-eq-div-mul, one-mul}
+use native.Mathlib.Nat.{one-mul}
 use native.Mathlib.Omega.{arith}
 use lib.Bits.{bitOr}
 use lib.Dec.{eqb}
@@ -20,10 +20,6 @@ use Rattle.base.proofs.Tests.{test, eq-test, no-some}
 use Rattle.agent_rules.specs.Message.{Assignment}
 use Rattle.packed.specs.Packed.{assignment}
 use Rattle.choosing.specs.Choosing.{nogoodAt, nogoodsOf}
-
--- a mask's bits, one after the other
-pub half : (s k : ℕ) → s / 2 ^ suc k ≡ s / 2 ^ k / 2
-half s k = rw (pow-suc 2 k, ← div-div-eq-div-mul s (2 ^ k) 2)
 
 pub nogood-stored : (stored : ℕ) (nogoods : List ℕ) (i : ℕ) → bit stored i ≡ true
     → nogoodAt stored nogoods i ≡ some (assignment (getD nogoods i 0))

@@ -9,7 +9,7 @@ use lib.Dec.{eqb, leb}
 use lib.ListN.{length, getD, set, length-set}
 use borrow.Author.Tests.{eqb-true, eq-eqb, leb-true, leb-false}
 use Rattle.base.specs.Finite.{fromOne, allTo}
-use Rattle.base.proofs.Tests.{test, eq-test}
+use Rattle.base.proofs.Tests.{test, eq-test, not-not}
 use Rattle.base.proofs.Arrays.{getD-past}
 use Rattle.base.proofs.Peeling.{same-test}
 use Rattle.base.proofs.Search.{allTo-at, to-allTo}
@@ -97,10 +97,6 @@ word-none r h =
     same-test _ _
     (λ e. to-allTo 16 _ (λ k l u. eq-eqb (assignment r k) 0 (rw (eqb-true r 0 e, nobody-assigned))))
     (λ a. eq-eqb r 0 (zero-digits 16 r h (λ k l. eqb-true _ 0 (allTo-at 16 _ a (suc k) (omega arith) (omega arith)))))
-
-pub not-not : (b : Bool) → not (not b) ≡ b
-not-not true = refl
-not-not false = refl
 
 -- row by row
 abbrev pub idleRow : List ℕ → ℕ → Bool

@@ -10,7 +10,7 @@ use lib.Dec.{eqb}
 use lib.ListN.{length}
 use borrow.Author.Tests.{eq-eqb, ne-eqb, eqb-true, eqb-false}
 use Rattle.base.specs.Finite.{allTo, any}
-use Rattle.base.proofs.Tests.{test, eq-test, or-false-both}
+use Rattle.base.proofs.Tests.{test, eq-test, not-not, or-false-both}
 use Rattle.problem.specs.Problem.{maxAgents}
 use Rattle.choosing.specs.declared.Bars.{Bars}
 use Rattle.protocol.specs.Network.{Network as Network′}
@@ -30,7 +30,6 @@ use Rattle.engine.proofs.After.{roundNumber, numberAt, stuck-number, me
 use Rattle.engine.proofs.Ahead.{ahead-all}
 use Rattle.engine.proofs.Visits.{visits-are, idle-is}
 use Rattle.engine.proofs.Resuming.{onward, recorded, further, stops, goes-on}
-use Rattle.engine.proofs.Held.{not-not}
 use Rattle.engine.proofs.Here.{sweepOf, Fresh, Kind, single, rounds, Live, Here}
 
 -- ---- numbers and words

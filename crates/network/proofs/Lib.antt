@@ -1,4 +1,4 @@
-mod Agents
+pub mod Agents
 pub mod Rings
 mod Sweeping
 mod Whole

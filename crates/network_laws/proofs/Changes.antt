@@ -7,9 +7,9 @@ use mathlib.Core.Logic.{_≢_}
 use mathlib.Core.List.{List, [], _∷_, _++_, map}
 use native.Mathlib.Omega.{arith}
 use lib.Dec.{eqb}
-use lib.ListN.{getD, set, length, length-set, length-map, List·getD-map}
+use lib.ListN.{getD, set, length, length-set, length-map}
 use lib.Seq.{getD-set-same, getD-set-other}
-use Rattle.base.proofs.Arrays.{getD-below, map-set}
+use Rattle.base.proofs.Arrays.{map-set}
 use borrow.Author.Tests.{eqb-true, eqb-false}
 use Rattle.base.specs.Finite.{at, fromOne}
 use Rattle.base.proofs.Tests.{test, eq-test}
@@ -25,6 +25,7 @@ use Rattle.network.specs.Abstract.{isChannel, channelAt, placeOf, ring, rowOf, 
 use Rattle.clauses.proofs.Numbering.{Ends, ends, channel-below}
 use Rattle.network_laws.specs.Held.{heldAt}
 use Rattle.clauses.proofs.Columns.{channel-one}
+use Rattle.network.proofs.Agents.{agent-at}
 use Rattle.network.proofs.Rings.{ring-length, channel-is}
 use Rattle.network_laws.proofs.Rings.{ring-head, ring-moved, ring-put, ring-spared, ring-apart}
 
@@ -312,13 +313,7 @@ rowed-channel o j z lo hi =
 -- ---- agents
 
 pub agent-is : (o : Network) (d : Agent) (j : ℕ) → FullArrays o → 1 ≤ j → j ≤ 12 → networkOf o .agents j ≡ agentOf (getD (o .agents) (j - 1) d)
-unfolding networkOf agentsOf fromOne
-agent-is o d zero z lo hi = absurd (omega arith)
-agent-is o d (suc k) z lo hi =
-    let e : suc k - 1 ≡ k = omega arith in
-    rw e
-    (getD-below (map agentOf (o .agents)) k unusedAgent (agentOf d) (rw (length-map (o .agents) agentOf, z .agents) (omega arith))
-    ∙ List·getD-map agentOf (o .agents) k d)
+agent-is o d j z lo hi = let e : j - 1 + 1 ≡ j = omega arith in rw e at (agent-at o (j - 1) d (z .agents) (omega arith))
 
 agents-set : (l : List Agent′) (k : ℕ) (b : Agent′) → k < length l → agentsOf (set l k b) ≡ at (agentsOf l) (suc k) b
 unfolding agentsOf fromOne

@@ -1,13 +1,13 @@
 -- A text piece by piece: what stands before the first byte that ends a piece is the first piece, and the rest has the others.
 -- By induction on the bytes before it, none of which ends a piece.
-use Prim.Native.Nat.{ℕ, suc, _<_}
+use Prim.Native.Nat.{ℕ, _<_}
 use mathlib.Core.Path.{_≡_, refl}
 use mathlib.Core.Bool.{Bool, true, false}
 use mathlib.Core.List.{List, [], _∷_, _++_}
 use native.Mathlib.Omega.{arith}
 use lib.ListN.{length}
 use Rattle.base.specs.Lists.{All}
-use Rattle.scribe_rules.specs.Words.{isNewline, countOf, onFirst, piecesOf, linesOf, wholeLines}
+use Rattle.scribe_rules.specs.Words.{isNewline, onFirst, piecesOf, linesOf}
 
 -- no byte of l ends a piece
 abbrev pub Plain : (ℕ → Bool) → List ℕ → Type 0
@@ -29,17 +29,7 @@ module _ (ends : ℕ → Bool) where
   pieces-last (b ∷ []) h s = rw (h .0, piecesOf)
   pieces-last (b ∷ c ∷ l) h s = rw (h .0, piecesOf, pieces-last (c ∷ l) (h .1) (omega arith))
 
-  pub count-plain : (l : List ℕ) → Plain ends l → countOf ends l ≡ 0
-  unfolding countOf
-  count-plain [] h = refl
-  count-plain (b ∷ l) h = rw (h .0, countOf) (count-plain l (h .1))
-
-  pub count-ended : (l : List ℕ) (c : ℕ) (bs : List ℕ) → Plain ends l → ends c ≡ true → countOf ends (l ++ c ∷ bs) ≡ suc (countOf ends bs)
-  unfolding countOf
-  count-ended [] c bs h e = rw (e, countOf)
-  count-ended (b ∷ l) c bs h e = rw (h .0, countOf) (count-ended l c bs (h .1) e)
-
--- ---- lines, and those that a newline ends
+-- ---- lines
 
 pub lines-none : linesOf [] ≡ []
 unfolding linesOf
@@ -48,15 +38,3 @@ lines-none = pieces-none isNewline
 pub lines-ended : (l bs : List ℕ) → Plain isNewline l → linesOf (l ++ 10 ∷ bs) ≡ l ∷ linesOf bs
 unfolding linesOf isNewline
 lines-ended l bs h = pieces-ended isNewline l 10 bs h refl
-
-pub lines-last : (l : List ℕ) → Plain isNewline l → 0 < length l → linesOf l ≡ l ∷ []
-unfolding linesOf
-lines-last l h s = pieces-last isNewline l h s
-
-pub whole-ended : (l bs : List ℕ) → Plain isNewline l → wholeLines (l ++ 10 ∷ bs) ≡ l ∷ wholeLines bs
-unfolding wholeLines isNewline
-whole-ended l bs h = rw (count-ended isNewline l 10 bs h refl, lines-ended l bs h)
-
-pub whole-none : (l : List ℕ) → Plain isNewline l → wholeLines l ≡ []
-unfolding wholeLines
-whole-none l h = rw (count-plain isNewline l h)

@@ -9,11 +9,11 @@ use native.Mathlib.Omega.{arith}
 use lib.Bits.{or-lt}
 use lib.ListN.{length, length-set}
 use borrow.Author.Needs.{needs}
+use Rattle.base.proofs.Bits.{half}
 use Rattle.agent_rules.specs.Shape.{maxNamed}
 use Rattle.packed.specs.Packed.{assignment}
 use Rattle.agent_rules.specs.Choosing.{union}
 use Rattle.choosing.specs.Choosing.{nogoodsOf, Reasoned}
-use Rattle.choosing.proofs.Records.{half}
 use Rattle.choosing.proofs.Reasons.{reasons-none, reasons-kept, barred-by, reasons-given, joined-none, joined-kept, joined-given}
 use Rattle.choosing.proofs.give_reasons.Statement.{statement}
 use Rattle.choosing.proofs.give_reasons.Tie as tie

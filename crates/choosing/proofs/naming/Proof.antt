@@ -7,8 +7,8 @@ use native.Mathlib.Nat.{div-one}
 use native.Mathlib.Numerals.{add-one}
 use native.Mathlib.Omega.{arith}
 use borrow.Author.Needs.{needs}
+use Rattle.base.proofs.Bits.{half}
 use Rattle.choosing.proofs.Blaming.{Overlaid, overlaid-none, overlaid-stored, overlaid-other}
-use Rattle.choosing.proofs.Records.{half}
 use Rattle.choosing.proofs.naming.Statement.{statement}
 use Rattle.choosing.proofs.naming.Tie as tie
 
