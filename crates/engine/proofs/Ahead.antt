@@ -131,6 +131,13 @@ pub visit-less : (quota : List ℕ) (n left : ℕ) {i rest : ℕ} {v : Visit} �
     → left * 4000 + length (ahead quota n (v .from) (v .rest)) < left * 4000 + length (ahead quota n i rest)
 visit-less quota n left h e = let a = ap length (h .some e) in omega arith
 
+pub none-less : (quota : List ℕ) (n left : ℕ) {i rest : ℕ} {v : Visit} → NextVisit quota n i rest v → v .over ≡ false
+    → left * 4000 + length (ahead quota n n 0) < left * 4000 + length (ahead quota n i rest)
+none-less quota n left h e =
+    let a = ap length (h .some e) in
+    let z = ap length (ahead-none quota n n 0 refl (omega arith)) in
+    omega arith
+
 pub passed-less : (quota : List ℕ) (n left : ℕ) {i rest : ℕ} {v : Visit} → NextVisit quota n i rest v → v .over ≡ false → 1 ≤ v .to → v .to ≤ 16
     → (rest′ : ℕ) → assignment rest′ ≡ at (assignment (v .rest)) (v .to) 0
     → left * 4000 + length (ahead quota n (v .from) rest′) < left * 4000 + length (ahead quota n i rest)

@@ -47,7 +47,8 @@ pub struct Answer {
 
 // The network is one local, changed where it stands. With `once`, the head of the line between two agents is delivered, and that is all; else rounds are
 // made. Rounds left and full rounds made are two figures; a round is full if nothing that waited when it began was missed. A line that meets a 10 is passed
-// over for the rest of the round, and after a verdict all lines are. A round in which nothing was delivered ends the work, with 10.
+// over for the rest of the round, and after a verdict all lines are: it is looked at where it falls, and then none is ahead. A round in which nothing was
+// delivered ends the work, with 10.
 pub fn work(r: Network, once: bool, sender: u8, receiver: u8, allowed: u64) -> Answer
     requires { ⌜ allowed ≤ 1000000 ⌝ }
     requires { ⌜ (once ≡ true → allowed ≡ 0) ⌝ }
@@ -95,10 +96,6 @@ pub fn work(r: Network, once: bool, sender: u8, receiver: u8, allowed: u64) -> A
         from = visit.from;
         rest = visit.rest;
         if !visit.over {
-            if o.verdict {
-                missed = true;
-                continue;
-            }
             let to = visit.to;
             let at = to as usize - 1;
             let row = from as usize - 1;
@@ -148,6 +145,11 @@ pub fn work(r: Network, once: bool, sender: u8, receiver: u8, allowed: u64) -> A
                 bars[at] = barred;
                 o.verdict = step.verdict;
                 number = 0;
+                if step.verdict {
+                    missed = missed | !next_visit(from, rest, &quota, n).over;
+                    from = n;
+                    rest = 0;
+                }
             } else {
                 rest = with_digit(rest, to, 0);
                 missed = true;

@@ -1,11 +1,11 @@
--- The work on a network. The outer loop's invariant is `Here`: the work left, described at the network as it stands, is the whole work. The inner loop's is
--- `Storing`: what is not left of the receiver's posts is stored.
+-- The work on a network. The outer loop's invariant is `Here`: the work left, described at the network as it stands, is the whole work; and `Settled`: where
+-- a verdict stands, no line is ahead. The inner loop's is `Storing`: what is not left of the receiver's posts is stored.
 use Prim.Native.Nat.{_+_, _*_, _-_}
-use mathlib.Core.Bool.{not}
+use mathlib.Core.Bool.{false, not, false≢true}
 use mathlib.Core.Path.{_≡_, refl, sym, ap, _∙_}
 use mathlib.Core.Logic.{⊎-elim, inl, inr}
 use native.Mathlib.Omega.{arith}
-use lib.ListN.{length, getD, length-map}
+use lib.ListN.{length, getD, set, length-map}
 use borrow.Author.Needs.{needs}
 use borrow.Author.Tests.{not-true, not-false}
 use Rattle.base.specs.Finite.{at}
@@ -17,17 +17,17 @@ use Rattle.protocol.specs.Shape.{inShape}
 use Rattle.protocol.specs.Run.{oneIf}
 use Rattle.network.specs.Abstract.{networkOf}
 use Rattle.clauses.proofs.Numbering.{Ends}
-use Rattle.network_laws.proofs.Changes.{FullArrays}
+use Rattle.network_laws.proofs.Changes.{FullArrays, rowed, arrived}
 use Rattle.network_laws.proofs.Handing.{Found, Stepped, bars-ask, step-asks, steps, storing}
 use Rattle.network_laws.proofs.Stepping.{few-agents}
 use Rattle.engine.specs.Lines.{ahead}
 use Rattle.engine.specs.Working.{workBy}
-use Rattle.engine.proofs.Ahead.{visit-less, passed-less, round-less}
+use Rattle.engine.proofs.Ahead.{ahead-none, visit-less, none-less, passed-less, round-less}
 use Rattle.engine.proofs.Barrings.{noAgent, noBars, Barred, BarsOf, Readied, had, worked, bars-ready}
 use Rattle.engine.proofs.Testing.{fresh-line}
-use Rattle.engine.proofs.Here.{Live, Here}
-use Rattle.engine.proofs.Starting.{Rows, Began, broken, running, refused, found, clean-shape, began-network, began-untouched, begins}
-use Rattle.engine.proofs.Visiting.{passes-over, line-channel, line-ends, here, finds}
+use Rattle.engine.proofs.Here.{Live, Here, Settled}
+use Rattle.engine.proofs.Starting.{Rows, Began, broken, running, refused, found, clean-shape, began-network, began-settled, began-untouched, begins}
+use Rattle.engine.proofs.Visiting.{passes-all, line-channel, line-ends, here, no-verdict, finds}
 use Rattle.engine.proofs.Storing.{
   Storing,
   turns,
@@ -43,7 +43,7 @@ use Rattle.engine.proofs.Storing.{
   waits-still,
 }
 use Rattle.engine.proofs.Accepting.{stored-jams, stored-goes}
-use Rattle.engine.proofs.Resting.{one-more, no-more, work-stops, stops-untouched, round-left, round-begins}
+use Rattle.engine.proofs.Resting.{one-more, no-more, work-stops, stops-untouched, round-left, round-settled, round-begins}
 use Rattle.engine.proofs.work.Statement.{statement}
 use Rattle.engine.proofs.work.Tie as tie
 
@@ -58,6 +58,7 @@ abbrev μ-loop2 : tie.MeasureT-loop2
 abbrev Inv-loop : tie.InvT-loop
 Inv-loop once sender receiver allowed o₀ n number₀ from₀ rest₀ domains bans bars₀ ready₀ quota₀ missed₀ left₀ made₀ o number from rest bars ready quota missed left made =
     Here once (workBy once sender receiver allowed (networkOf o₀)) o₀ number₀ o n domains bans bars ready quota missed left made number from rest
+    × Settled o quota n from rest
 
 abbrev μ-loop : tie.MeasureT-loop
 μ-loop once sender receiver allowed o₀ n number₀ from₀ rest₀ domains bans bars₀ ready₀ quota₀ missed₀ left₀ made₀ o number from rest bars ready quota missed left made =
@@ -96,37 +97,48 @@ began c =
 
 -- a line is visited: its ends, the network, and the message at its head
 visited : (c : tie.Then4 Inv-loop2 μ-loop2 Inv-loop μ-loop) → Ends (c .before .before .next-visit .result .from) (c .before .before .next-visit .result .to)
-visited c = line-ends (c .before .before .before .before .loop .inv) (c .before .before .next-visit .result) (c .before .before .next-visit .ensures) (not-true _ (c .if4 .taken))
+visited c = line-ends (c .before .before .before .before .loop .inv .0) (c .before .before .next-visit .result) (c .before .before .next-visit .ensures) (not-true _ (c .if4 .taken))
 
 alive : (c : tie.Then4 Inv-loop2 μ-loop2 Inv-loop μ-loop) → Live (c .before .before .before .before .loop .o) (c .before .before .before .before .before .before .before .if1 .n) (c .before .before .before .before .before .before .before .if1 .o .domains) (c .before .before .before .before .before .before .before .if1 .o .bans) (c .before .before .before .before .loop .bars) (c .before .before .before .before .loop .ready)
-alive c = here (c .before .before .before .before .loop .inv) (c .before .before .next-visit .result) (c .before .before .next-visit .ensures) (not-true _ (c .if4 .taken))
+alive c = here (c .before .before .before .before .loop .inv .0) (c .before .before .next-visit .result) (c .before .before .next-visit .ensures) (not-true _ (c .if4 .taken))
 
-finding : (c : tie.After-place-at Inv-loop2 μ-loop2 Inv-loop μ-loop) → Found (c .before .before .before .before .before .before .before .before .before .loop .o) (c .before .before .before .before .before .before .before .next-visit .result .from) (c .before .before .before .before .before .before .before .next-visit .result .to) (c .place-at .result)
-finding c = finds (c .before .before .before .before .before .before .before .before .before .loop .inv) (c .before .before .before .before .before .before .before .next-visit .result) (c .before .before .before .before .before .before .before .next-visit .ensures) (not-true _ (c .before .before .before .before .before .if4 .taken)) (c .before .before .before .before .if5 .left) (c .before .channel-at .result) (c .before .before .digit .result) (c .place-at .result) (c .before .channel-at .ensures .0) (c .before .before .digit .ensures .0) (c .place-at .ensures .0)
+going : (c : tie.Then4 Inv-loop2 μ-loop2 Inv-loop μ-loop) → c .before .before .before .before .loop .o .verdict ≡ false
+going c = no-verdict (c .before .before .before .before .loop .inv .0) (c .before .before .next-visit .result) (c .before .before .next-visit .ensures) (not-true _ (c .if4 .taken)) (c .before .before .before .before .loop .inv .1)
+
+finding : (c : tie.After-place-at Inv-loop2 μ-loop2 Inv-loop μ-loop) → Found (c .before .before .before .before .before .before .before .before .loop .o) (c .before .before .before .before .before .before .next-visit .result .from) (c .before .before .before .before .before .before .next-visit .result .to) (c .place-at .result)
+finding c = finds (c .before .before .before .before .before .before .before .before .loop .inv .0) (c .before .before .before .before .before .before .next-visit .result) (c .before .before .before .before .before .before .next-visit .ensures) (not-true _ (c .before .before .before .before .if4 .taken)) (going (c .before .before .before .before)) (c .before .channel-at .result) (c .before .before .digit .result) (c .place-at .result) (c .before .channel-at .ensures .0) (c .before .before .digit .ensures .0) (c .place-at .ensures .0)
 
 -- agent `to` has its bars, or they are worked out now
-readied : (c : tie.Joined6 Inv-loop2 μ-loop2 Inv-loop μ-loop)
-    → Readied (c .before .before .before .before .before .before .before .before .before .before .before .before .before .before .before .before .before .before .before .if1 .o .bans) (c .before .before .before .before .before .before .before .before .before .before .before .before .before .before .next-visit .result .to) (c .before .before .before .before .words-before .result) (getD (c .before .before .before .before .before .before .before .before .before .before .before .before .before .before .before .before .loop .o .agents) (c .before .before .before .before .before .before .before .before .before .before .before .before .before .before .next-visit .result .to - 1) noAgent) (c .before .before .before .before .before .before .before .before .before .before .before .before .before .before .before .before .loop .bars) (c .before .before .before .before .before .before .before .before .before .before .before .before .before .before .before .before .loop .ready) (c .if6 .bars) (c .if6 .ready)
+readied : (c : tie.Joined5 Inv-loop2 μ-loop2 Inv-loop μ-loop)
+    → Readied (c .before .before .before .before .before .before .before .before .before .before .before .before .before .before .before .before .before .before .if1 .o .bans) (c .before .before .before .before .before .before .before .before .before .before .before .before .before .next-visit .result .to) (c .before .before .before .before .words-before .result) (getD (c .before .before .before .before .before .before .before .before .before .before .before .before .before .before .before .loop .o .agents) (c .before .before .before .before .before .before .before .before .before .before .before .before .before .next-visit .result .to - 1) noAgent) (c .before .before .before .before .before .before .before .before .before .before .before .before .before .before .before .loop .bars) (c .before .before .before .before .before .before .before .before .before .before .before .before .before .before .before .loop .ready) (c .if5 .bars) (c .if5 .ready)
 unfolding assigned
 readied c =
     ⊎-elim
     (λ a. worked (a .1 .result) (a .2 .result) (a .1 .ensures) (a .2 .ensures) (a .3) (a .4))
     (λ a. had (sym (c .before .has .ensures) ∙ not-false _ (a .0 .left)) (a .1) (a .2))
-    (c .if6 .came)
+    (c .if5 .came)
 
-bars-now : (c : tie.Joined6 Inv-loop2 μ-loop2 Inv-loop μ-loop)
-    → (length (c .if6 .bars) ≡ 12)
-    × Barred (c .before .before .before .before .before .before .before .before .before .before .before .before .before .before .before .before .before .before .before .if1 .o .bans) (c .before .before .before .before .before .before .before .before .before .before .before .before .before .before .before .before .loop .o .agents) (c .if6 .bars) (c .if6 .ready)
-    × BarsOf (c .before .before .before .before .before .before .before .before .before .before .before .before .before .before .before .before .before .before .before .if1 .o .bans) (c .before .before .before .before .before .before .before .before .before .before .before .before .before .before .next-visit .result .to) (c .before .before .before .before .words-before .result) (getD (c .before .before .before .before .before .before .before .before .before .before .before .before .before .before .before .before .loop .o .agents) (c .before .before .before .before .before .before .before .before .before .before .before .before .before .before .next-visit .result .to - 1) noAgent) (getD (c .if6 .bars) (c .before .before .before .before .before .before .before .before .before .before .before .before .before .before .next-visit .result .to - 1) noBars)
-bars-now c = bars-ready (c .before .before .before .before .before .before .before .before .before .before .before .before .before .before .before .before .before .before .before .if1 .o .bans) (c .before .before .before .before .before .before .before .before .before .before .before .before .before .before .next-visit .result .to) (c .before .before .before .before .words-before .result) (visited (c .before .before .before .before .before .before .before .before .before .before .before .before) .to-low) (visited (c .before .before .before .before .before .before .before .before .before .before .before .before) .to-high) (c .before .before .before .before .words-before .ensures .0) (c .before .before .before .before .before .before .before .before .before .before .before .before .before .before .before .before .loop .o .agents) (c .before .before .before .before .before .before .before .before .before .before .before .before .before .before .before .before .loop .bars) (c .before .before .before .before .before .before .before .before .before .before .before .before .before .before .before .before .loop .ready) (alive (c .before .before .before .before .before .before .before .before .before .before .before .before) .beside) (alive (c .before .before .before .before .before .before .before .before .before .before .before .before) .barred) (c .if6 .bars) (c .if6 .ready) (readied c)
+bars-now : (c : tie.Joined5 Inv-loop2 μ-loop2 Inv-loop μ-loop)
+    → (length (c .if5 .bars) ≡ 12)
+    × Barred (c .before .before .before .before .before .before .before .before .before .before .before .before .before .before .before .before .before .before .if1 .o .bans) (c .before .before .before .before .before .before .before .before .before .before .before .before .before .before .before .loop .o .agents) (c .if5 .bars) (c .if5 .ready)
+    × BarsOf (c .before .before .before .before .before .before .before .before .before .before .before .before .before .before .before .before .before .before .if1 .o .bans) (c .before .before .before .before .before .before .before .before .before .before .before .before .before .next-visit .result .to) (c .before .before .before .before .words-before .result) (getD (c .before .before .before .before .before .before .before .before .before .before .before .before .before .before .before .loop .o .agents) (c .before .before .before .before .before .before .before .before .before .before .before .before .before .next-visit .result .to - 1) noAgent) (getD (c .if5 .bars) (c .before .before .before .before .before .before .before .before .before .before .before .before .before .next-visit .result .to - 1) noBars)
+bars-now c = bars-ready (c .before .before .before .before .before .before .before .before .before .before .before .before .before .before .before .before .before .before .if1 .o .bans) (c .before .before .before .before .before .before .before .before .before .before .before .before .before .next-visit .result .to) (c .before .before .before .before .words-before .result) (visited (c .before .before .before .before .before .before .before .before .before .before .before) .to-low) (visited (c .before .before .before .before .before .before .before .before .before .before .before) .to-high) (c .before .before .before .before .words-before .ensures .0) (c .before .before .before .before .before .before .before .before .before .before .before .before .before .before .before .loop .o .agents) (c .before .before .before .before .before .before .before .before .before .before .before .before .before .before .before .loop .bars) (c .before .before .before .before .before .before .before .before .before .before .before .before .before .before .before .loop .ready) (alive (c .before .before .before .before .before .before .before .before .before .before .before) .beside) (alive (c .before .before .before .before .before .before .before .before .before .before .before) .barred) (c .if5 .bars) (c .if5 .ready) (readied c)
 
 -- the receiver has made its step
-stepped : (c : tie.After-receive Inv-loop2 μ-loop2 Inv-loop μ-loop) → Stepped (c .before .before .before .before .before .before .before .before .before .before .before .before .before .before .before .before .before .before .loop .o) (c .before .before .before .before .before .before .before .before .before .before .before .before .before .before .before .before .next-visit .result .from) (c .before .before .before .before .before .before .before .before .before .before .before .before .before .before .before .before .next-visit .result .to) (c .before .before .before .before .before .before .before .before .before .place-at .result) (c .receive .result)
-stepped c = steps (finding (c .before .before .before .before .before .before .before .before .before)) noAgent _ _ (c .before .before .before .before .before .before .words-before .result) (alive (c .before .before .before .before .before .before .before .before .before .before .before .before .before .before) .owned) (alive (c .before .before .before .before .before .before .before .before .before .before .before .before .before .before) .table) (c .before .before .before .before .before .before .words-before .ensures .0) (c .receive .result) (c .receive .ensures)
+stepped : (c : tie.After-receive Inv-loop2 μ-loop2 Inv-loop μ-loop) → Stepped (c .before .before .before .before .before .before .before .before .before .before .before .before .before .before .before .before .before .loop .o) (c .before .before .before .before .before .before .before .before .before .before .before .before .before .before .before .next-visit .result .from) (c .before .before .before .before .before .before .before .before .before .before .before .before .before .before .before .next-visit .result .to) (c .before .before .before .before .before .before .before .before .before .place-at .result) (c .receive .result)
+stepped c = steps (finding (c .before .before .before .before .before .before .before .before .before)) noAgent _ _ (c .before .before .before .before .before .before .words-before .result) (alive (c .before .before .before .before .before .before .before .before .before .before .before .before .before) .owned) (alive (c .before .before .before .before .before .before .before .before .before .before .before .before .before) .table) (c .before .before .before .before .before .before .words-before .ensures .0) (c .receive .result) (c .receive .ensures)
+
+-- the delivery is made
+gone : (c : tie.After-barred Inv-loop2 μ-loop2 Inv-loop μ-loop)
+    → Here (c .before .before .before .before .before .before .before .before .before .before .before .before .before .before .before .before .before .before .before .before .before .before .before .before .before .before .before .before .before .before .before .before .before .before .before .before .before .before .args .once) (workBy (c .before .before .before .before .before .before .before .before .before .before .before .before .before .before .before .before .before .before .before .before .before .before .before .before .before .before .before .before .before .before .before .before .before .before .before .before .before .before .args .once) (c .before .before .before .before .before .before .before .before .before .before .before .before .before .before .before .before .before .before .before .before .before .before .before .before .before .before .before .before .before .before .before .before .before .before .before .before .before .before .args .sender) (c .before .before .before .before .before .before .before .before .before .before .before .before .before .before .before .before .before .before .before .before .before .before .before .before .before .before .before .before .before .before .before .before .before .before .before .before .before .before .args .receiver) (c .before .before .before .before .before .before .before .before .before .before .before .before .before .before .before .before .before .before .before .before .before .before .before .before .before .before .before .before .before .before .before .before .before .before .before .before .before .before .args .allowed) (networkOf (c .before .before .before .before .before .before .before .before .before .before .before .before .before .before .before .before .before .before .before .before .before .before .before .before .before .before .before .before .before .before .before .before .before .before .if1 .o))) (c .before .before .before .before .before .before .before .before .before .before .before .before .before .before .before .before .before .before .before .before .before .before .before .before .before .before .before .before .before .before .before .before .before .before .if1 .o) (c .before .before .before .before .before .before .before .before .before .before .before .before .before .before .before .before .before .before .before .before .before .before .before .before .before .before .before .before .before .before .before .before .before .before .if1 .number) (arrived (rowed (c .before .before .before .before .before .before .before .before .before .before .loop2 .o) (c .before .before .before .before .before .before .before .before .before .before .before .before .before .before .before .before .before .before .before .before .before .before .before .before .before .before .before .before .before .next-visit .result .to) (c .before .before .before .before .before .before .before .before .before .before .loop2 .now)) (c .before .before .before .before .before .before .before .before .before .before .before .before .before .before .before .before .before .before .before .before .before .before .before .before .before .before .before .before .before .next-visit .result .from) (c .before .before .before .before .before .before .before .before .before .before .before .before .before .before .before .before .before .before .before .before .before .before .before .before .before .before .before .before .before .next-visit .result .to) (c .before .before .before .before .with-digit .result) (c .before .before .one-less .result) (c .before .before .before .before .before .before .before .before .before .before .before .before .before .before .receive .result .agent) (c .before .before .before .before .before .before .before .before .before .before .before .before .before .before .receive .result .verdict)) (c .before .before .before .before .before .before .before .before .before .before .before .before .before .before .before .before .before .before .before .before .before .before .before .before .before .before .before .before .before .before .before .before .before .before .if1 .n) (c .before .before .before .before .before .before .before .before .before .before .before .before .before .before .before .before .before .before .before .before .before .before .before .before .before .before .before .before .before .before .before .before .before .before .if1 .o .domains) (c .before .before .before .before .before .before .before .before .before .before .before .before .before .before .before .before .before .before .before .before .before .before .before .before .before .before .before .before .before .before .before .before .before .before .if1 .o .bans) (set (c .before .before .before .before .before .before .before .before .before .before .before .before .before .before .before .before .if5 .bars) (c .before .before .before .before .before .before .before .before .before .before .before .before .before .before .before .before .before .before .before .before .before .before .before .before .before .before .before .before .before .next-visit .result .to - 1) (c .before .before .before .before .before .before .before .before .before .before .before .before .before .before .receive .result .bars)) (c .before .before .before .before .before .before .before .before .before .before .before .before .before .before .before .before .if5 .ready) (c .before .before .before .before .before .before .before .before .before .before .before .before .before .before .before .before .before .before .before .before .before .before .before .before .before .before .before .before .before .before .before .loop .quota) (c .before .before .before .before .before .before .before .before .before .before .before .before .before .before .before .before .before .before .before .before .before .before .before .before .before .before .before .before .before .before .before .loop .missed) (c .before .before .before .before .before .before .before .before .before .before .before .before .before .before .before .before .before .before .before .before .before .before .before .before .before .before .before .before .before .before .before .loop .left) (c .before .before .before .before .before .before .before .before .before .before .before .before .before .before .before .before .before .before .before .before .before .before .before .before .before .before .before .before .before .before .before .loop .made) 0 (c .before .before .before .before .before .before .before .before .before .before .before .before .before .before .before .before .before .before .before .before .before .before .before .before .before .before .before .before .before .next-visit .result .from) (c .before .before .before .before .before .before .before .before .before .before .before .before .before .before .before .before .before .before .before .before .before .before .before .before .before .before .before .before .before .next-visit .result .rest)
+gone c =
+    let q = bars-now (c .before .before .before .before .before .before .before .before .before .before .before .before .before .before .before .before) in
+    stored-goes (c .before .before .before .before .before .before .before .before .before .before .before .before .before .before .before .before .before .before .before .before .before .before .before .before .before .before .before .before .before .before .before .loop .inv .0) (c .before .before .before .before .before .before .before .before .before .before .before .before .before .before .before .before .before .before .before .before .before .before .before .before .before .before .before .before .before .next-visit .result) (c .before .before .before .before .before .before .before .before .before .before .before .before .before .before .before .before .before .before .before .before .before .before .before .before .before .before .before .before .before .next-visit .ensures) (not-true _ (c .before .before .before .before .before .before .before .before .before .before .before .before .before .before .before .before .before .before .before .before .before .before .before .before .before .before .before .if4 .taken)) (going (c .before .before .before .before .before .before .before .before .before .before .before .before .before .before .before .before .before .before .before .before .before .before .before .before .before .before .before)) (c .before .before .before .before .before .before .before .before .before .before .before .before .before .before .before .before .if5 .bars) (c .before .before .before .before .before .before .before .before .before .before .before .before .before .before .before .before .if5 .ready) (q .0) (q .1) (stepped (c .before .before .before .before .before .before .before .before .before .before .before .before .before .before)) (c .before .before .before .before .before .before .before .before .before .before .loop2 .inv) (no-posts _ _ _ _ (c .before .before .before .before .before .before .before .before .before .is-empty .ensures .1) (c .before .before .before .before .before .before .before .before .if6 .left) (c .before .before .before .before .before .before .before .if8 .taken) (c .before .before .before .before .before .before .before .before .before .before .loop2 .inv .ready))
+    (record { head = head-moved _ _ _ _ (c .before .before .before .before .with-digit .ensures) (c .before .before .before .before .before .digit4 .ensures .0); count = c .before .before .one-less .ensures .0 }) _ (c .before .before .before .before .before .before .before .before .before .before .before .before .before .before .before .before .before .before .before .before .words-before .ensures .0) (c .before .before .before .before .before .before .before .before .before .before .before .before .before .before .receive .ensures .barring)
 
 -- a line that meets a 10 is passed over for the rest of the round, and no other line of its sender
 passed : (c : tie.After-with-digit2 Inv-loop2 μ-loop2 Inv-loop μ-loop)
-    → assignment (c .with-digit2 .result) ≡ at (assignment (c .before .before .before .before .before .before .before .before .before .before .before .before .before .before .before .before .before .before .before .before .before .before .before .before .next-visit .result .rest)) (c .before .before .before .before .before .before .before .before .before .before .before .before .before .before .before .before .before .before .before .before .before .before .before .before .next-visit .result .to) 0
+    → assignment (c .with-digit2 .result) ≡ at (assignment (c .before .before .before .before .before .before .before .before .before .before .before .before .before .before .before .before .before .before .before .before .before .before .before .next-visit .result .rest)) (c .before .before .before .before .before .before .before .before .before .before .before .before .before .before .before .before .before .before .before .before .before .before .before .next-visit .result .to) 0
 passed c = search needs
 
 -- a round counts if nothing was missed
@@ -146,40 +158,34 @@ one-more-requires : tie.Need-one-more-requires Inv-loop2 μ-loop2 Inv-loop μ-lo
 one-more-requires c κs = (fresh-line _ _ _ _ _ _ (few-agents _ (sym (c .before .before .before .before .before .before .in-shape .ensures) ∙ c .before .before .before .before .before .if1 .taken)) (c .before .tested .ensures) (c .if3 .taken))
 
 loop-holds : tie.Need-loop-holds Inv-loop2 μ-loop2 Inv-loop μ-loop
-loop-holds c = begins (c .before .before .before .before .before .before .args .once) (c .before .before .before .before .before .before .args .sender) (c .before .before .before .before .before .before .args .receiver) (c .before .before .before .before .before .before .args .allowed) (c .before .before .before .before .before .before .pre .0) _ refl (began (c .before .before)) (sizes (c .before .before .before .before .before .before)) (c .before .before .before .before .before .before .pre .1)
+loop-holds c = (begins (c .before .before .before .before .before .before .args .once) (c .before .before .before .before .before .before .args .sender) (c .before .before .before .before .before .before .args .receiver) (c .before .before .before .before .before .before .args .allowed) (c .before .before .before .before .before .before .pre .0) _ refl (began (c .before .before)) (sizes (c .before .before .before .before .before .before)) (c .before .before .before .before .before .before .pre .1), began-settled (began (c .before .before)) _)
 
 next-visit-requires : tie.Need-next-visit-requires Inv-loop2 μ-loop2 Inv-loop μ-loop
-next-visit-requires c κs = (c .before .loop .inv .high, c .before .loop .inv .agents)
-
-loop-less : tie.Need-loop-less Inv-loop2 μ-loop2 Inv-loop μ-loop
-loop-less c = visit-less _ _ _ (c .before .before .before .next-visit .ensures) (not-true _ (c .before .if4 .taken))
-
-loop-again : tie.Need-loop-again Inv-loop2 μ-loop2 Inv-loop μ-loop
-loop-again c = passes-over (c .before .before .before .before .before .loop .inv) (c .before .before .before .next-visit .result) (c .before .before .before .next-visit .ensures) (not-true _ (c .before .if4 .taken)) (c .if5 .taken)
+next-visit-requires c κs = (c .before .loop .inv .0 .high, c .before .loop .inv .0 .agents)
 
 cast-at : tie.Need-cast-at Inv-loop2 μ-loop2 Inv-loop μ-loop
-cast-at c = let b = visited (c .before) in search needs
+cast-at c = let b = visited c in search needs
 
 sub-at : tie.Need-sub-at Inv-loop2 μ-loop2 Inv-loop μ-loop
-sub-at c = let b = visited (c .before) in search needs
+sub-at c = let b = visited c in search needs
 
 cast-row : tie.Need-cast-row Inv-loop2 μ-loop2 Inv-loop μ-loop
-cast-row c = let b = visited (c .before) in search needs
+cast-row c = let b = visited c in search needs
 
 sub-row : tie.Need-sub-row Inv-loop2 μ-loop2 Inv-loop μ-loop
-sub-row c = let b = visited (c .before) in search needs
+sub-row c = let b = visited c in search needs
 
 mul-digit : tie.Need-mul-digit Inv-loop2 μ-loop2 Inv-loop μ-loop
-mul-digit c = let b = visited (c .before) in search needs
+mul-digit c = let b = visited c in search needs
 
 element-copy-out-digit : tie.Need-element-copy-out-digit Inv-loop2 μ-loop2 Inv-loop μ-loop
-element-copy-out-digit c = let b = visited (c .before) in search needs
+element-copy-out-digit c = let b = visited c in search needs
 
 digit-requires : tie.Need-digit-requires Inv-loop2 μ-loop2 Inv-loop μ-loop
-digit-requires c κs = let b = visited (c .before .before) in (b .to-low, omega (arith, b .to-high))
+digit-requires c κs = let b = visited (c .before) in (b .to-low, omega (arith, b .to-high))
 
 channel-at-requires : tie.Need-channel-at-requires Inv-loop2 μ-loop2 Inv-loop μ-loop
-channel-at-requires c κs = line-channel (c .before .before .before .before .before .before .before .loop .inv) (c .before .before .before .before .before .next-visit .result) (c .before .before .before .before .before .next-visit .ensures) (not-true _ (c .before .before .before .if4 .taken))
+channel-at-requires c κs = line-channel (c .before .before .before .before .before .before .loop .inv .0) (c .before .before .before .before .next-visit .result) (c .before .before .before .before .next-visit .ensures) (not-true _ (c .before .before .if4 .taken))
 
 place-at-requires : tie.Need-place-at-requires Inv-loop2 μ-loop2 Inv-loop μ-loop
 place-at-requires c κs = (c .channel-at .ensures .1, c .before .digit .ensures .1, omega arith)
@@ -188,67 +194,67 @@ mul-place : tie.Need-mul-place Inv-loop2 μ-loop2 Inv-loop μ-loop
 mul-place c = search needs
 
 element-copy-out-place : tie.Need-element-copy-out-place Inv-loop2 μ-loop2 Inv-loop μ-loop
-element-copy-out-place c = let z = c .before .before .before .before .before .before .before .before .before .loop .inv .sized .places in search needs
+element-copy-out-place c = let z = c .before .before .before .before .before .before .before .before .loop .inv .0 .sized .places in search needs
 
 mul-agent : tie.Need-mul-agent Inv-loop2 μ-loop2 Inv-loop μ-loop
-mul-agent c = let b = visited (c .before .before .before .before .before .before) in search needs
+mul-agent c = let b = visited (c .before .before .before .before .before) in search needs
 
 element-copy-out-agent : tie.Need-element-copy-out-agent Inv-loop2 μ-loop2 Inv-loop μ-loop
-element-copy-out-agent c = let b = visited (c .before .before .before .before .before .before) in let z = c .before .before .before .before .before .before .before .before .before .before .loop .inv .sized .agents in search needs
+element-copy-out-agent c = let b = visited (c .before .before .before .before .before) in let z = c .before .before .before .before .before .before .before .before .before .loop .inv .0 .sized .agents in search needs
 
 words-before-requires : tie.Need-words-before-requires Inv-loop2 μ-loop2 Inv-loop μ-loop
-words-before-requires c κs = let b = visited (c .before .before .before .before .before .before .before) in (b .to-low, b .to-high)
+words-before-requires c κs = let b = visited (c .before .before .before .before .before .before) in (b .to-low, b .to-high)
 
-array-read-t74 : tie.Need-array-read-t74 Inv-loop2 μ-loop2 Inv-loop μ-loop
-array-read-t74 c = let b = visited (c .before .before .before .before .before .before .before .before) in search needs
+array-read-t73 : tie.Need-array-read-t73 Inv-loop2 μ-loop2 Inv-loop μ-loop
+array-read-t73 c = let b = visited (c .before .before .before .before .before .before .before) in search needs
 
 add-mine : tie.Need-add-mine Inv-loop2 μ-loop2 Inv-loop μ-loop
-add-mine c = let b = visited (c .before .before .before .before .before .before .before .before) in search needs
+add-mine c = let b = visited (c .before .before .before .before .before .before .before) in search needs
 
 mul-mine : tie.Need-mul-mine Inv-loop2 μ-loop2 Inv-loop μ-loop
-mul-mine c = let b = visited (c .before .before .before .before .before .before .before .before) in search needs
+mul-mine c = let b = visited (c .before .before .before .before .before .before .before) in search needs
 
 sub-mine : tie.Need-sub-mine Inv-loop2 μ-loop2 Inv-loop μ-loop
-sub-mine c = let b = visited (c .before .before .before .before .before .before .before .before) in search needs
+sub-mine c = let b = visited (c .before .before .before .before .before .before .before) in search needs
 
 part-mine-start : tie.Need-part-mine-start Inv-loop2 μ-loop2 Inv-loop μ-loop
-part-mine-start c = let b = visited (c .before .before .before .before .before .before .before .before .before) in search needs
+part-mine-start c = let b = visited (c .before .before .before .before .before .before .before .before) in search needs
 
 part-mine-end : tie.Need-part-mine-end Inv-loop2 μ-loop2 Inv-loop μ-loop
-part-mine-end c = let b = visited (c .before .before .before .before .before .before .before .before .before) in let w : length (c .before .before .before .before .before .before .before .before .before .before .before .before .before .before .before .before .if1 .o .bans) ≡ 66 = rw (alive (c .before .before .before .before .before .before .before .before .before) .table) (c .before .before .before .before .before .before .before .before .before .before .before .before .before .loop .inv .sized .bans) in search needs
+part-mine-end c = let b = visited (c .before .before .before .before .before .before .before .before) in let w : length (c .before .before .before .before .before .before .before .before .before .before .before .before .before .before .before .if1 .o .bans) ≡ 66 = rw (alive (c .before .before .before .before .before .before .before .before) .table) (c .before .before .before .before .before .before .before .before .before .before .before .before .loop .inv .0 .sized .bans) in search needs
 
 has-requires : tie.Need-has-requires Inv-loop2 μ-loop2 Inv-loop μ-loop
-has-requires c κs = let b = visited (c .before .before .before .before .before .before .before .before .before .before) in (b .to-low, omega (arith, b .to-high))
+has-requires c κs = let b = visited (c .before .before .before .before .before .before .before .before .before) in (b .to-low, omega (arith, b .to-high))
 
 of-requires : tie.Need-of-requires Inv-loop2 μ-loop2 Inv-loop μ-loop
 unfolding assigned
-of-requires c κs = let a = bars-ask (finding (c .before .before .before .before .before .before .before)) noAgent _ _ (c .before .before .before .before .words-before .result) (alive (c .before .before .before .before .before .before .before .before .before .before .before .before) .owned) (alive (c .before .before .before .before .before .before .before .before .before .before .before .before) .table) (c .before .before .before .before .words-before .ensures .0) in (a .0, a .1)
+of-requires c κs = let a = bars-ask (finding (c .before .before .before .before .before .before .before)) noAgent _ _ (c .before .before .before .before .words-before .result) (alive (c .before .before .before .before .before .before .before .before .before .before .before) .owned) (alive (c .before .before .before .before .before .before .before .before .before .before .before) .table) (c .before .before .before .before .words-before .ensures .0) in (a .0, a .1)
 
 mul-bars : tie.Need-mul-bars Inv-loop2 μ-loop2 Inv-loop μ-loop
-mul-bars c = let b = visited (c .before .before .before .before .before .before .before .before .before .before .before .before .before) in search needs
+mul-bars c = let b = visited (c .before .before .before .before .before .before .before .before .before .before .before .before) in search needs
 
 array-set-from-bars : tie.Need-array-set-from-bars Inv-loop2 μ-loop2 Inv-loop μ-loop
-array-set-from-bars c = let b = visited (c .before .before .before .before .before .before .before .before .before .before .before .before .before) in let z = alive (c .before .before .before .before .before .before .before .before .before .before .before .before .before) .beside in search needs
+array-set-from-bars c = let b = visited (c .before .before .before .before .before .before .before .before .before .before .before .before) in let z = alive (c .before .before .before .before .before .before .before .before .before .before .before .before) .beside in search needs
 
 add-requires : tie.Need-add-requires Inv-loop2 μ-loop2 Inv-loop μ-loop
-add-requires c κs = let b = visited (c .before .before .before .before .before .before .before .before .before .before .before .before .before) in (b .to-low, omega (arith, b .to-high))
+add-requires c κs = let b = visited (c .before .before .before .before .before .before .before .before .before .before .before .before) in (b .to-low, omega (arith, b .to-high))
 
 mul-seen : tie.Need-mul-seen Inv-loop2 μ-loop2 Inv-loop μ-loop
-mul-seen c = let b = visited (c .before .before .before .before .before .before .before .before .before .before .before .before) in search needs
+mul-seen c = let b = visited (c .before .before .before .before .before .before .before .before .before .before .before) in search needs
 
 array-copy-out-seen : tie.Need-array-copy-out-seen Inv-loop2 μ-loop2 Inv-loop μ-loop
-array-copy-out-seen c = let b = visited (c .before .before .before .before .before .before .before .before .before .before .before .before) in let z = bars-now c .0 in search needs
+array-copy-out-seen c = let b = visited (c .before .before .before .before .before .before .before .before .before .before .before) in let z = bars-now c .0 in search needs
 
 receive-requires : tie.Need-receive-requires Inv-loop2 μ-loop2 Inv-loop μ-loop
 receive-requires c κs =
-    let a = step-asks (finding (c .before .before .before .before .before .before .before .before)) noAgent _ _ (c .before .before .before .before .before .words-before .result) (alive (c .before .before .before .before .before .before .before .before .before .before .before .before .before) .owned) (alive (c .before .before .before .before .before .before .before .before .before .before .before .before .before) .table) (c .before .before .before .before .before .words-before .ensures .0) in
+    let a = step-asks (finding (c .before .before .before .before .before .before .before .before)) noAgent _ _ (c .before .before .before .before .before .words-before .result) (alive (c .before .before .before .before .before .before .before .before .before .before .before .before) .owned) (alive (c .before .before .before .before .before .before .before .before .before .before .before .before) .table) (c .before .before .before .before .before .words-before .ensures .0) in
     (a .0, (a .1 .0, (a .1 .1, bars-now (c .before) .2)))
 
 mul-now : tie.Need-mul-now Inv-loop2 μ-loop2 Inv-loop μ-loop
-mul-now c = let b = visited (c .before .before .before .before .before .before .before .before .before .before .before .before .before .before .before .before) in search needs
+mul-now c = let b = visited (c .before .before .before .before .before .before .before .before .before .before .before .before .before .before .before) in search needs
 
 element-copy-out-now : tie.Need-element-copy-out-now Inv-loop2 μ-loop2 Inv-loop μ-loop
-element-copy-out-now c = let b = visited (c .before .before .before .before .before .before .before .before .before .before .before .before .before .before .before .before) in let z = c .before .before .before .before .before .before .before .before .before .before .before .before .before .before .before .before .before .before .before .before .loop .inv .sized .counts in search needs
+element-copy-out-now c = let b = visited (c .before .before .before .before .before .before .before .before .before .before .before .before .before .before .before) in let z = c .before .before .before .before .before .before .before .before .before .before .before .before .before .before .before .before .before .before .before .loop .inv .0 .sized .counts in search needs
 
 loop2-holds : tie.Need-loop2-holds Inv-loop2 μ-loop2 Inv-loop μ-loop
 loop2-holds c = storing-starts _ _ (c .before .before .before .receive .result) _ (storing (stepped (c .before .before .before))) (c .before .before .before .receive .ensures .ready)
@@ -257,7 +263,7 @@ is-empty-requires : tie.Need-is-empty-requires Inv-loop2 μ-loop2 Inv-loop μ-lo
 is-empty-requires c κs = search needs
 
 first-requires : tie.Need-first-requires Inv-loop2 μ-loop2 Inv-loop μ-loop
-first-requires c κs = (sym (c .before .before .is-empty .ensures .0) ∙ not-true _ (both (not (c .before .before .is-empty .result)) (c .before .before .before .loop2 .room) (c .before .if7 .taken) .0), c .before .before .before .loop2 .inv .ready)
+first-requires c κs = (sym (c .before .before .is-empty .ensures .0) ∙ not-true _ (both (not (c .before .before .is-empty .result)) (c .before .before .before .loop2 .room) (c .before .if6 .taken) .0), c .before .before .before .loop2 .inv .ready)
 
 digit-requires-2 : tie.Need-digit-requires-2 Inv-loop2 μ-loop2 Inv-loop μ-loop
 digit-requires-2 c κs = let b = turn-ends (c .before .before .before .before .loop2 .inv) (c .first .result) (c .first .ensures) in (b .to-low, omega (arith, b .to-high))
@@ -266,10 +272,10 @@ channel-at-requires-2 : tie.Need-channel-at-requires-2 Inv-loop2 μ-loop2 Inv-lo
 channel-at-requires-2 c κs = turn-line (c .before .before .before .before .before .before .loop2 .inv) (c .before .before .first .result) (c .before .before .first .ensures)
 
 mul-digit-2 : tie.Need-mul-digit-2 Inv-loop2 μ-loop2 Inv-loop μ-loop
-mul-digit-2 c = let b = visited (c .before .before .before .before .before .before .before .before .before .before .before .before .before .before .before .before .before .before .before .before .before .before .before .before .before) in search needs
+mul-digit-2 c = let b = visited (c .before .before .before .before .before .before .before .before .before .before .before .before .before .before .before .before .before .before .before .before .before .before .before .before) in search needs
 
 element-copy-out-digit-2 : tie.Need-element-copy-out-digit-2 Inv-loop2 μ-loop2 Inv-loop μ-loop
-element-copy-out-digit-2 c = let b = visited (c .before .before .before .before .before .before .before .before .before .before .before .before .before .before .before .before .before .before .before .before .before .before .before .before .before) in let z = c .before .before .before .before .before .before .before .loop2 .inv .posting .sized .heads in search needs
+element-copy-out-digit-2 c = let b = visited (c .before .before .before .before .before .before .before .before .before .before .before .before .before .before .before .before .before .before .before .before .before .before .before .before) in let z = c .before .before .before .before .before .before .before .loop2 .inv .posting .sized .heads in search needs
 
 digit-requires-3 : tie.Need-digit-requires-3 Inv-loop2 μ-loop2 Inv-loop μ-loop
 digit-requires-3 c κs = let b = turn-ends (c .before .before .before .before .before .before .before .before .loop2 .inv) (c .before .before .before .before .first .result) (c .before .before .before .before .first .ensures) in (b .to-low, omega (arith, b .to-high))
@@ -284,10 +290,10 @@ element-set-from-o : tie.Need-element-set-from-o Inv-loop2 μ-loop2 Inv-loop μ-
 element-set-from-o c = let z = c .before .before .before .before .before .before .before .before .before .before .loop2 .inv .posting .sized .places in search needs
 
 one-more-requires-2 : tie.Need-one-more-requires-2 Inv-loop2 μ-loop2 Inv-loop μ-loop
-one-more-requires-2 c κs = let b = turn-ends (c .before .before .before .before .before .before .before .before .before .before .loop2 .inv) (c .before .before .before .before .before .before .first .result) (c .before .before .before .before .before .before .first .ensures) in (b .to-low, omega (arith, b .to-high), omega (arith, c .before .before .before .before .before .digit2 .ensures .0, c .before .before .before .before .if8 .taken))
+one-more-requires-2 c κs = let b = turn-ends (c .before .before .before .before .before .before .before .before .before .before .loop2 .inv) (c .before .before .before .before .before .before .first .result) (c .before .before .before .before .before .before .first .ensures) in (b .to-low, omega (arith, b .to-high), omega (arith, c .before .before .before .before .before .digit2 .ensures .0, c .before .before .before .before .if7 .taken))
 
 rest-requires : tie.Need-rest-requires Inv-loop2 μ-loop2 Inv-loop μ-loop
-rest-requires c κs = (sym (c .before .before .before .before .before .before .before .before .before .before .is-empty .ensures .0) ∙ not-true _ (both (not (c .before .before .before .before .before .before .before .before .before .before .is-empty .result)) (c .before .before .before .before .before .before .before .before .before .before .before .loop2 .room) (c .before .before .before .before .before .before .before .before .before .if7 .taken) .0), c .before .before .before .before .before .before .before .before .before .before .before .loop2 .inv .ready .next)
+rest-requires c κs = (sym (c .before .before .before .before .before .before .before .before .before .before .is-empty .ensures .0) ∙ not-true _ (both (not (c .before .before .before .before .before .before .before .before .before .before .is-empty .result)) (c .before .before .before .before .before .before .before .before .before .before .before .loop2 .room) (c .before .before .before .before .before .before .before .before .before .if6 .taken) .0), c .before .before .before .before .before .before .before .before .before .before .before .loop2 .inv .ready .next)
 
 loop2-less : tie.Need-loop2-less Inv-loop2 μ-loop2 Inv-loop μ-loop
 loop2-less c = turn-less (c .before .before .before .before .before .before .before .before .before .before .before .before .loop2 .inv) (c .before .before .before .before .before .before .before .before .first .result) (c .before .before .before .before .before .before .before .before .first .ensures) _ (c .rest .ensures (c .before .before .before .before .before .before .before .before .before .before .before .before .before .before .before .before .receive .result .backs) (c .before .before .before .before .before .before .before .before .before .before .before .before .loop2 .inv .ready))
@@ -302,113 +308,126 @@ loop2-again c =
       place = c .before .before .place-at2 .ensures .0;
       next = c .before .one-more2 .ensures;
     })
-    (c .before .before .before .before .before .before .if8 .taken) (c .rest .result) (c .rest .ensures (c .before .before .before .before .before .before .before .before .before .before .before .before .before .before .before .before .receive .result .backs) (c .before .before .before .before .before .before .before .before .before .before .before .before .loop2 .inv .ready))
+    (c .before .before .before .before .before .before .if7 .taken) (c .rest .result) (c .rest .ensures (c .before .before .before .before .before .before .before .before .before .before .before .before .before .before .before .before .receive .result .backs) (c .before .before .before .before .before .before .before .before .before .before .before .before .loop2 .inv .ready))
 
 loop2-less-2 : tie.Need-loop2-less-2 Inv-loop2 μ-loop2 Inv-loop μ-loop
-loop2-less-2 c = full-less _ _ _ (both (not (c .before .before .before .before .before .is-empty .result)) (c .before .before .before .before .before .before .loop2 .room) (c .before .before .before .before .if7 .taken) .1)
+loop2-less-2 c = full-less _ _ _ (both (not (c .before .before .before .before .before .is-empty .result)) (c .before .before .before .before .before .before .loop2 .room) (c .before .before .before .before .if6 .taken) .1)
 
 loop2-again-2 : tie.Need-loop2-again-2 Inv-loop2 μ-loop2 Inv-loop μ-loop
-loop2-again-2 c = turn-full (c .before .before .before .before .before .before .loop2 .inv) (c .before .before .first .result) (c .before .before .first .ensures) _ (c .before .digit2 .ensures .0) (c .if8 .left)
+loop2-again-2 c = turn-full (c .before .before .before .before .before .before .loop2 .inv) (c .before .before .first .result) (c .before .before .first .ensures) _ (c .before .digit2 .ensures .0) (c .if7 .left)
 
 mul-o : tie.Need-mul-o Inv-loop2 μ-loop2 Inv-loop μ-loop
-mul-o c = let b = visited (c .before .before .before .before .before .before .before .before .before .before .before .before .before .before .before .before .before .before .before .before .before) in search needs
+mul-o c = let b = visited (c .before .before .before .before .before .before .before .before .before .before .before .before .before .before .before .before .before .before .before .before) in search needs
 
 element-write-o : tie.Need-element-write-o Inv-loop2 μ-loop2 Inv-loop μ-loop
-element-write-o c = let b = visited (c .before .before .before .before .before .before .before .before .before .before .before .before .before .before .before .before .before .before .before .before .before) in let z = c .before .before .before .loop2 .inv .posting .sized .counts in search needs
+element-write-o c = let b = visited (c .before .before .before .before .before .before .before .before .before .before .before .before .before .before .before .before .before .before .before .before) in let z = c .before .before .before .loop2 .inv .posting .sized .counts in search needs
 
 mul-heads : tie.Need-mul-heads Inv-loop2 μ-loop2 Inv-loop μ-loop
-mul-heads c = let b = visited (c .before .before .before .before .before .before .before .before .before .before .before .before .before .before .before .before .before .before .before .before .before) in search needs
+mul-heads c = let b = visited (c .before .before .before .before .before .before .before .before .before .before .before .before .before .before .before .before .before .before .before .before) in search needs
 
 element-copy-out-heads : tie.Need-element-copy-out-heads Inv-loop2 μ-loop2 Inv-loop μ-loop
-element-copy-out-heads c = let b = visited (c .before .before .before .before .before .before .before .before .before .before .before .before .before .before .before .before .before .before .before .before .before) in let z = c .before .before .before .loop2 .inv .posting .sized .heads in search needs
+element-copy-out-heads c = let b = visited (c .before .before .before .before .before .before .before .before .before .before .before .before .before .before .before .before .before .before .before .before) in let z = c .before .before .before .loop2 .inv .posting .sized .heads in search needs
 
 digit-requires-4 : tie.Need-digit-requires-4 Inv-loop2 μ-loop2 Inv-loop μ-loop
-digit-requires-4 c κs = let b = visited (c .before .before .before .before .before .before .before .before .before .before .before .before .before .before .before .before .before .before .before .before .before .before) in (b .to-low, omega (arith, b .to-high))
+digit-requires-4 c κs = let b = visited (c .before .before .before .before .before .before .before .before .before .before .before .before .before .before .before .before .before .before .before .before .before) in (b .to-low, omega (arith, b .to-high))
 
 add-with-digit : tie.Need-add-with-digit Inv-loop2 μ-loop2 Inv-loop μ-loop
 add-with-digit c = let d = c .digit4 .ensures .1 in search needs
 
 with-digit-requires : tie.Need-with-digit-requires Inv-loop2 μ-loop2 Inv-loop μ-loop
-with-digit-requires c κs = let b = visited (c .before .before .before .before .before .before .before .before .before .before .before .before .before .before .before .before .before .before .before .before .before .before .before) in (b .to-low, omega (arith, b .to-high), omega arith)
+with-digit-requires c κs = let b = visited (c .before .before .before .before .before .before .before .before .before .before .before .before .before .before .before .before .before .before .before .before .before .before) in (b .to-low, omega (arith, b .to-high), omega arith)
 
 mul-o-2 : tie.Need-mul-o-2 Inv-loop2 μ-loop2 Inv-loop μ-loop
-mul-o-2 c = let b = visited (c .before .before .before .before .before .before .before .before .before .before .before .before .before .before .before .before .before .before .before .before .before .before .before .before) in search needs
+mul-o-2 c = let b = visited (c .before .before .before .before .before .before .before .before .before .before .before .before .before .before .before .before .before .before .before .before .before .before .before) in search needs
 
 element-write-o-2 : tie.Need-element-write-o-2 Inv-loop2 μ-loop2 Inv-loop μ-loop
-element-write-o-2 c = let b = visited (c .before .before .before .before .before .before .before .before .before .before .before .before .before .before .before .before .before .before .before .before .before .before .before .before) in let z = c .before .before .before .before .before .before .loop2 .inv .posting .sized .heads in search needs
+element-write-o-2 c = let b = visited (c .before .before .before .before .before .before .before .before .before .before .before .before .before .before .before .before .before .before .before .before .before .before .before) in let z = c .before .before .before .before .before .before .loop2 .inv .posting .sized .heads in search needs
 
 mul-one-less : tie.Need-mul-one-less Inv-loop2 μ-loop2 Inv-loop μ-loop
-mul-one-less c = let b = visited (c .before .before .before .before .before .before .before .before .before .before .before .before .before .before .before .before .before .before .before .before .before .before .before .before) in search needs
+mul-one-less c = let b = visited (c .before .before .before .before .before .before .before .before .before .before .before .before .before .before .before .before .before .before .before .before .before .before .before) in search needs
 
 element-copy-out-one-less : tie.Need-element-copy-out-one-less Inv-loop2 μ-loop2 Inv-loop μ-loop
-element-copy-out-one-less c = let b = visited (c .before .before .before .before .before .before .before .before .before .before .before .before .before .before .before .before .before .before .before .before .before .before .before .before) in let z = c .before .before .before .before .before .before .loop2 .inv .posting .sized .counts in search needs
+element-copy-out-one-less c = let b = visited (c .before .before .before .before .before .before .before .before .before .before .before .before .before .before .before .before .before .before .before .before .before .before .before) in let z = c .before .before .before .before .before .before .loop2 .inv .posting .sized .counts in search needs
 
 one-less-requires : tie.Need-one-less-requires Inv-loop2 μ-loop2 Inv-loop μ-loop
-one-less-requires c κs = let b = visited (c .before .before .before .before .before .before .before .before .before .before .before .before .before .before .before .before .before .before .before .before .before .before .before .before .before) in (b .to-low, omega (arith, b .to-high), waits-still {all = postsLeft (c .before .before .before .before .before .before .before .before .before .before .before .receive .result .posts) (c .before .before .before .before .before .before .before .before .before .before .before .receive .result .backs)} (finding (c .before .before .before .before .before .before .before .before .before .before .before .before .before .before .before .before .before .before .before .before)) (c .before .before .before .before .before .before .before .loop2 .inv .posting))
+one-less-requires c κs = let b = visited (c .before .before .before .before .before .before .before .before .before .before .before .before .before .before .before .before .before .before .before .before .before .before .before .before) in (b .to-low, omega (arith, b .to-high), waits-still {all = postsLeft (c .before .before .before .before .before .before .before .before .before .before .before .receive .result .posts) (c .before .before .before .before .before .before .before .before .before .before .before .receive .result .backs)} (finding (c .before .before .before .before .before .before .before .before .before .before .before .before .before .before .before .before .before .before .before .before)) (c .before .before .before .before .before .before .before .loop2 .inv .posting))
 
 mul-o-3 : tie.Need-mul-o-3 Inv-loop2 μ-loop2 Inv-loop μ-loop
-mul-o-3 c = let b = visited (c .before .before .before .before .before .before .before .before .before .before .before .before .before .before .before .before .before .before .before .before .before .before .before .before .before .before) in search needs
+mul-o-3 c = let b = visited (c .before .before .before .before .before .before .before .before .before .before .before .before .before .before .before .before .before .before .before .before .before .before .before .before .before) in search needs
 
 element-write-o-3 : tie.Need-element-write-o-3 Inv-loop2 μ-loop2 Inv-loop μ-loop
-element-write-o-3 c = let b = visited (c .before .before .before .before .before .before .before .before .before .before .before .before .before .before .before .before .before .before .before .before .before .before .before .before .before .before) in let z = c .before .before .before .before .before .before .before .before .loop2 .inv .posting .sized .counts in search needs
+element-write-o-3 c = let b = visited (c .before .before .before .before .before .before .before .before .before .before .before .before .before .before .before .before .before .before .before .before .before .before .before .before .before) in let z = c .before .before .before .before .before .before .before .before .loop2 .inv .posting .sized .counts in search needs
 
 mul-changed : tie.Need-mul-changed Inv-loop2 μ-loop2 Inv-loop μ-loop
-mul-changed c = let b = visited (c .before .before .before .before .before .before .before .before .before .before .before .before .before .before .before .before .before .before .before .before .before .before .before .before .before .before .before) in search needs
+mul-changed c = let b = visited (c .before .before .before .before .before .before .before .before .before .before .before .before .before .before .before .before .before .before .before .before .before .before .before .before .before .before) in search needs
 
 element-set-from-changed : tie.Need-element-set-from-changed Inv-loop2 μ-loop2 Inv-loop μ-loop
-element-set-from-changed c = let b = visited (c .before .before .before .before .before .before .before .before .before .before .before .before .before .before .before .before .before .before .before .before .before .before .before .before .before .before .before) in let z = c .before .before .before .before .before .before .before .before .before .loop2 .inv .posting .sized .agents in search needs
+element-set-from-changed c = let b = visited (c .before .before .before .before .before .before .before .before .before .before .before .before .before .before .before .before .before .before .before .before .before .before .before .before .before .before) in let z = c .before .before .before .before .before .before .before .before .before .loop2 .inv .posting .sized .agents in search needs
 
 mul-bars-2 : tie.Need-mul-bars-2 Inv-loop2 μ-loop2 Inv-loop μ-loop
-mul-bars-2 c = let b = visited (c .before .before .before .before .before .before .before .before .before .before .before .before .before .before .before .before .before .before .before .before .before .before .before .before .before .before .before .before) in search needs
+mul-bars-2 c = let b = visited (c .before .before .before .before .before .before .before .before .before .before .before .before .before .before .before .before .before .before .before .before .before .before .before .before .before .before .before) in search needs
 
 array-set-from-bars-2 : tie.Need-array-set-from-bars-2 Inv-loop2 μ-loop2 Inv-loop μ-loop
-array-set-from-bars-2 c = let b = visited (c .before .before .before .before .before .before .before .before .before .before .before .before .before .before .before .before .before .before .before .before .before .before .before .before .before .before .before .before) in let z = bars-now (c .before .before .before .before .before .before .before .before .before .before .before .before .before .before .before .before) .0 in search needs
+array-set-from-bars-2 c = let b = visited (c .before .before .before .before .before .before .before .before .before .before .before .before .before .before .before .before .before .before .before .before .before .before .before .before .before .before .before) in let z = bars-now (c .before .before .before .before .before .before .before .before .before .before .before .before .before .before .before .before) .0 in search needs
+
+next-visit-requires-2 : tie.Need-next-visit-requires-2 Inv-loop2 μ-loop2 Inv-loop μ-loop
+next-visit-requires-2 c κs = (c .before .before .before .before .before .before .before .before .before .before .before .before .before .before .before .before .before .before .before .before .before .before .before .before .before .before .before .before .before .before .before .next-visit .ensures .high, c .before .before .before .before .before .before .before .before .before .before .before .before .before .before .before .before .before .before .before .before .before .before .before .before .before .before .before .before .before .before .before .before .before .loop .inv .0 .agents)
+
+loop-less : tie.Need-loop-less Inv-loop2 μ-loop2 Inv-loop μ-loop
+loop-less c = none-less _ _ _ (c .before .before .before .before .before .before .before .before .before .before .before .before .before .before .before .before .before .before .before .before .before .before .before .before .before .before .before .before .before .before .before .before .before .next-visit .ensures) (not-true _ (c .before .before .before .before .before .before .before .before .before .before .before .before .before .before .before .before .before .before .before .before .before .before .before .before .before .before .before .before .before .before .before .if4 .taken))
+
+loop-again : tie.Need-loop-again Inv-loop2 μ-loop2 Inv-loop μ-loop
+loop-again c = (passes-all (gone (c .before .before .before .before)) (c .before .next-visit2 .result) (c .before .next-visit2 .ensures) (c .before .before .before .if9 .taken), λ _. ahead-none (c .before .before .before .before .before .before .before .before .before .before .before .before .before .before .before .before .before .before .before .before .before .before .before .before .before .before .before .before .before .before .before .before .before .before .before .loop .quota) (c .before .before .before .before .before .before .before .before .before .before .before .before .before .before .before .before .before .before .before .before .before .before .before .before .before .before .before .before .before .before .before .before .before .before .before .before .before .before .if1 .n) (c .before .before .before .before .before .before .before .before .before .before .before .before .before .before .before .before .before .before .before .before .before .before .before .before .before .before .before .before .before .before .before .before .before .before .before .before .before .before .if1 .n) 0 refl (omega arith))
 
 loop-less-2 : tie.Need-loop-less-2 Inv-loop2 μ-loop2 Inv-loop μ-loop
 loop-less-2 c = visit-less _ _ _ (c .before .before .before .before .before .before .before .before .before .before .before .before .before .before .before .before .before .before .before .before .before .before .before .before .before .before .before .before .before .before .next-visit .ensures) (not-true _ (c .before .before .before .before .before .before .before .before .before .before .before .before .before .before .before .before .before .before .before .before .before .before .before .before .before .before .before .before .if4 .taken))
 
 loop-again-2 : tie.Need-loop-again-2 Inv-loop2 μ-loop2 Inv-loop μ-loop
-loop-again-2 c =
-    let q = bars-now (c .before .before .before .before .before .before .before .before .before .before .before .before .before .before .before .before) in
-    stored-goes (c .before .before .before .before .before .before .before .before .before .before .before .before .before .before .before .before .before .before .before .before .before .before .before .before .before .before .before .before .before .before .before .before .loop .inv) (c .before .before .before .before .before .before .before .before .before .before .before .before .before .before .before .before .before .before .before .before .before .before .before .before .before .before .before .before .before .before .next-visit .result) (c .before .before .before .before .before .before .before .before .before .before .before .before .before .before .before .before .before .before .before .before .before .before .before .before .before .before .before .before .before .before .next-visit .ensures) (not-true _ (c .before .before .before .before .before .before .before .before .before .before .before .before .before .before .before .before .before .before .before .before .before .before .before .before .before .before .before .before .if4 .taken)) (c .before .before .before .before .before .before .before .before .before .before .before .before .before .before .before .before .before .before .before .before .before .before .before .before .before .before .before .if5 .left) (c .before .before .before .before .before .before .before .before .before .before .before .before .before .before .before .before .if6 .bars) (c .before .before .before .before .before .before .before .before .before .before .before .before .before .before .before .before .if6 .ready) (q .0) (q .1) (stepped (c .before .before .before .before .before .before .before .before .before .before .before .before .before .before)) (c .before .before .before .before .before .before .before .before .before .before .loop2 .inv) (no-posts _ _ _ _ (c .before .before .before .before .before .before .before .before .before .is-empty .ensures .1) (c .before .before .before .before .before .before .before .before .if7 .left) (c .before .before .before .before .before .before .before .if9 .taken) (c .before .before .before .before .before .before .before .before .before .before .loop2 .inv .ready))
-    (record { head = head-moved _ _ _ _ (c .before .before .before .before .with-digit .ensures) (c .before .before .before .before .before .digit4 .ensures .0); count = c .before .before .one-less .ensures .0 }) _ (c .before .before .before .before .before .before .before .before .before .before .before .before .before .before .before .before .before .before .before .before .words-before .ensures .0) (c .before .before .before .before .before .before .before .before .before .before .before .before .before .before .receive .ensures .barring)
+loop-again-2 c = (gone (c .before), λ t. absurd (false≢true (sym (c .if9 .left) ∙ t)))
 
 with-digit-requires-2 : tie.Need-with-digit-requires-2 Inv-loop2 μ-loop2 Inv-loop μ-loop
-with-digit-requires-2 c κs = let b = visited (c .before .before .before .before .before .before .before .before .before .before .before .before .before .before .before .before .before .before .before .before .before) in (b .to-low, omega (arith, b .to-high), omega arith)
+with-digit-requires-2 c κs = let b = visited (c .before .before .before .before .before .before .before .before .before .before .before .before .before .before .before .before .before .before .before .before) in (b .to-low, omega (arith, b .to-high), omega arith)
 
 loop-less-3 : tie.Need-loop-less-3 Inv-loop2 μ-loop2 Inv-loop μ-loop
-loop-less-3 c = let b = visited (c .before .before .before .before .before .before .before .before .before .before .before .before .before .before .before .before .before .before .before .before .before .before) in passed-less _ _ _ (c .before .before .before .before .before .before .before .before .before .before .before .before .before .before .before .before .before .before .before .before .before .before .before .before .next-visit .ensures) (not-true _ (c .before .before .before .before .before .before .before .before .before .before .before .before .before .before .before .before .before .before .before .before .before .before .if4 .taken)) (b .to-low) (omega (arith, b .to-high)) _ (passed c)
+loop-less-3 c = let b = visited (c .before .before .before .before .before .before .before .before .before .before .before .before .before .before .before .before .before .before .before .before .before) in passed-less _ _ _ (c .before .before .before .before .before .before .before .before .before .before .before .before .before .before .before .before .before .before .before .before .before .before .before .next-visit .ensures) (not-true _ (c .before .before .before .before .before .before .before .before .before .before .before .before .before .before .before .before .before .before .before .before .before .if4 .taken)) (b .to-low) (omega (arith, b .to-high)) _ (passed c)
 
 loop-again-3 : tie.Need-loop-again-3 Inv-loop2 μ-loop2 Inv-loop μ-loop
-loop-again-3 c = let q = bars-now (c .before .before .before .before .before .before .before .before .before .before) in stored-jams (c .before .before .before .before .before .before .before .before .before .before .before .before .before .before .before .before .before .before .before .before .before .before .before .before .before .before .loop .inv) (c .before .before .before .before .before .before .before .before .before .before .before .before .before .before .before .before .before .before .before .before .before .before .before .before .next-visit .result) (c .before .before .before .before .before .before .before .before .before .before .before .before .before .before .before .before .before .before .before .before .before .before .before .before .next-visit .ensures) (not-true _ (c .before .before .before .before .before .before .before .before .before .before .before .before .before .before .before .before .before .before .before .before .before .before .if4 .taken)) (c .before .before .before .before .before .before .before .before .before .before .before .before .before .before .before .before .before .before .before .before .before .if5 .left) (c .before .before .before .before .before .before .before .before .before .before .if6 .bars) (c .before .before .before .before .before .before .before .before .before .before .if6 .ready) (q .0) (q .1) (stepped (c .before .before .before .before .before .before .before .before)) (c .before .before .before .before .loop2 .inv) (c .before .if9 .left) (passed c)
+loop-again-3 c =
+    let q = bars-now (c .before .before .before .before .before .before .before .before .before .before) in (
+      stored-jams (c .before .before .before .before .before .before .before .before .before .before .before .before .before .before .before .before .before .before .before .before .before .before .before .before .before .loop .inv .0) (c .before .before .before .before .before .before .before .before .before .before .before .before .before .before .before .before .before .before .before .before .before .before .before .next-visit .result) (c .before .before .before .before .before .before .before .before .before .before .before .before .before .before .before .before .before .before .before .before .before .before .before .next-visit .ensures) (not-true _ (c .before .before .before .before .before .before .before .before .before .before .before .before .before .before .before .before .before .before .before .before .before .if4 .taken)) (going (c .before .before .before .before .before .before .before .before .before .before .before .before .before .before .before .before .before .before .before .before .before)) (c .before .before .before .before .before .before .before .before .before .before .if5 .bars) (c .before .before .before .before .before .before .before .before .before .before .if5 .ready) (q .0) (q .1) (stepped (c .before .before .before .before .before .before .before .before)) (c .before .before .before .before .loop2 .inv) (c .before .if8 .left) (passed c),
+      λ t. absurd (false≢true (sym (going (c .before .before .before .before .before .before .before .before .before .before .before .before .before .before .before .before .before .before .before .before .before)) ∙ sym (c .before .before .before .before .loop2 .inv .posting .kept .verdict) ∙ t)),
+    )
 
 add-made : tie.Need-add-made Inv-loop2 μ-loop2 Inv-loop μ-loop
-add-made c = let f = c .before .before .before .before .before .loop .inv .few in search needs
+add-made c = let f = c .before .before .before .before .before .loop .inv .0 .few in search needs
 
 waits-requires : tie.Need-waits-requires Inv-loop2 μ-loop2 Inv-loop μ-loop
-waits-requires c κs = c .before .before .before .before .before .before .before .loop .inv .agents
+waits-requires c κs = c .before .before .before .before .before .before .before .loop .inv .0 .agents
 
 ending-at-requires : tie.Need-ending-at-requires Inv-loop2 μ-loop2 Inv-loop μ-loop
 ending-at-requires c κs = search needs
 
 returns : tie.Need-returns Inv-loop2 μ-loop2 Inv-loop μ-loop
 returns c =
-    let w = work-stops (c .before .before .before .before .before .before .before .before .before .before .before .loop .inv) (c .before .before .before .before .before .before .before .before .before .next-visit .result) (c .before .before .before .before .before .before .before .before .before .next-visit .ensures) (not-false _ (c .before .before .before .before .before .before .before .if4 .left)) _ (counted (c .before .before .before .before .before .before)) _ (c .before .before .before .waits .ensures) (c .before .before .if11 .taken) _ (c .before .ending-at .ensures) 0 (inl (c .if12 .taken, refl)) in
+    let w = work-stops (c .before .before .before .before .before .before .before .before .before .before .before .loop .inv .0) (c .before .before .before .before .before .before .before .before .before .next-visit .result) (c .before .before .before .before .before .before .before .before .before .next-visit .ensures) (not-false _ (c .before .before .before .before .before .before .before .if4 .left)) _ (counted (c .before .before .before .before .before .before)) _ (c .before .before .before .waits .ensures) (c .before .before .if11 .taken) _ (c .before .ending-at .ensures) 0 (inl (c .if12 .taken, refl)) in
     (rw (← began-network (began (c .before .before .before .before .before .before .before .before .before .before .before .before .before .before))) w, λ e. absurd (omega arith))
 
 returns-2 : tie.Need-returns-2 Inv-loop2 μ-loop2 Inv-loop μ-loop
 returns-2 c =
-    let w = work-stops (c .before .before .before .before .before .before .before .before .before .before .before .loop .inv) (c .before .before .before .before .before .before .before .before .before .next-visit .result) (c .before .before .before .before .before .before .before .before .before .next-visit .ensures) (not-false _ (c .before .before .before .before .before .before .before .if4 .left)) _ (counted (c .before .before .before .before .before .before)) _ (c .before .before .before .waits .ensures) (c .before .before .if11 .taken) _ (c .before .ending-at .ensures) _ (inr (c .if12 .left, refl)) in
-    (rw (← began-network (began (c .before .before .before .before .before .before .before .before .before .before .before .before .before .before))) w, λ e. let u = stops-untouched (c .before .before .before .before .before .before .before .before .before .before .before .loop .inv) (c .before .before .before .before .before .before .before .before .before .next-visit .result) (c .before .before .before .before .before .before .before .before .before .next-visit .ensures) (not-false _ (c .before .before .before .before .before .before .before .if4 .left)) _ (counted (c .before .before .before .before .before .before)) _ (c .before .before .before .waits .ensures) (c .before .before .if11 .taken) _ (c .before .ending-at .ensures) _ (inr (c .if12 .left, refl)) e in u .0 ∙ began-untouched (began (c .before .before .before .before .before .before .before .before .before .before .before .before .before .before)) (u .1))
+    let w = work-stops (c .before .before .before .before .before .before .before .before .before .before .before .loop .inv .0) (c .before .before .before .before .before .before .before .before .before .next-visit .result) (c .before .before .before .before .before .before .before .before .before .next-visit .ensures) (not-false _ (c .before .before .before .before .before .before .before .if4 .left)) _ (counted (c .before .before .before .before .before .before)) _ (c .before .before .before .waits .ensures) (c .before .before .if11 .taken) _ (c .before .ending-at .ensures) _ (inr (c .if12 .left, refl)) in
+    (rw (← began-network (began (c .before .before .before .before .before .before .before .before .before .before .before .before .before .before))) w, λ e. let u = stops-untouched (c .before .before .before .before .before .before .before .before .before .before .before .loop .inv .0) (c .before .before .before .before .before .before .before .before .before .next-visit .result) (c .before .before .before .before .before .before .before .before .before .next-visit .ensures) (not-false _ (c .before .before .before .before .before .before .before .if4 .left)) _ (counted (c .before .before .before .before .before .before)) _ (c .before .before .before .waits .ensures) (c .before .before .if11 .taken) _ (c .before .ending-at .ensures) _ (inr (c .if12 .left, refl)) e in u .0 ∙ began-untouched (began (c .before .before .before .before .before .before .before .before .before .before .before .before .before .before)) (u .1))
 
 sub-left : tie.Need-sub-left Inv-loop2 μ-loop2 Inv-loop μ-loop
-sub-left c = let f = round-left (c .before .before .before .before .before .before .before .before .before .loop .inv) (c .before .before .before .before .before .before .before .next-visit .result) (c .before .before .before .before .before .before .before .next-visit .ensures) (not-false _ (c .before .before .before .before .before .if4 .left)) _ (counted (c .before .before .before .before)) _ (c .before .waits .ensures) (c .if11 .left) in search needs
+sub-left c = let f = round-left (c .before .before .before .before .before .before .before .before .before .loop .inv .0) (c .before .before .before .before .before .before .before .next-visit .result) (c .before .before .before .before .before .before .before .next-visit .ensures) (not-false _ (c .before .before .before .before .before .if4 .left)) _ (counted (c .before .before .before .before)) _ (c .before .waits .ensures) (c .if11 .left) in search needs
 
 loop-less-4 : tie.Need-loop-less-4 Inv-loop2 μ-loop2 Inv-loop μ-loop
-loop-less-4 c = round-less _ _ _ _ _ (round-left (c .before .before .before .before .before .before .before .before .before .before .loop .inv) (c .before .before .before .before .before .before .before .before .next-visit .result) (c .before .before .before .before .before .before .before .before .next-visit .ensures) (not-false _ (c .before .before .before .before .before .before .if4 .left)) _ (counted (c .before .before .before .before .before)) _ (c .before .before .waits .ensures) (c .before .if11 .left)) (c .before .before .before .before .before .before .before .before .before .before .loop .inv .agents)
+loop-less-4 c = round-less _ _ _ _ _ (round-left (c .before .before .before .before .before .before .before .before .before .before .loop .inv .0) (c .before .before .before .before .before .before .before .before .next-visit .result) (c .before .before .before .before .before .before .before .before .next-visit .ensures) (not-false _ (c .before .before .before .before .before .before .if4 .left)) _ (counted (c .before .before .before .before .before)) _ (c .before .before .waits .ensures) (c .before .if11 .left)) (c .before .before .before .before .before .before .before .before .before .before .loop .inv .0 .agents)
 
 loop-again-4 : tie.Need-loop-again-4 Inv-loop2 μ-loop2 Inv-loop μ-loop
-loop-again-4 c = round-begins (c .before .before .before .before .before .before .before .before .before .before .loop .inv) (c .before .before .before .before .before .before .before .before .next-visit .result) (c .before .before .before .before .before .before .before .before .next-visit .ensures) (not-false _ (c .before .before .before .before .before .before .if4 .left)) _ (counted (c .before .before .before .before .before)) _ (c .before .before .waits .ensures) (c .before .if11 .left)
+loop-again-4 c = (
+  round-begins (c .before .before .before .before .before .before .before .before .before .before .loop .inv .0) (c .before .before .before .before .before .before .before .before .next-visit .result) (c .before .before .before .before .before .before .before .before .next-visit .ensures) (not-false _ (c .before .before .before .before .before .before .if4 .left)) _ (counted (c .before .before .before .before .before)) _ (c .before .before .waits .ensures) (c .before .if11 .left),
+  round-settled (c .before .before .before .before .before .before .before .before .before .before .loop .inv .0) (c .before .before .before .before .before .before .before .before .next-visit .result) (c .before .before .before .before .before .before .before .before .next-visit .ensures) (not-false _ (c .before .before .before .before .before .before .if4 .left)) _ (counted (c .before .before .before .before .before)) _ (c .before .before .waits .ensures) (c .before .if11 .left),
+)
 
 pub work-spec : {M : Type 1} → statement M
 work-spec =
@@ -424,8 +443,6 @@ work-spec =
     one-more-requires
     loop-holds
     next-visit-requires
-    loop-less
-    loop-again
     cast-at
     sub-at
     cast-row
@@ -440,7 +457,7 @@ work-spec =
     mul-agent
     element-copy-out-agent
     words-before-requires
-    array-read-t74
+    array-read-t73
     add-mine
     mul-mine
     sub-mine
@@ -491,6 +508,9 @@ work-spec =
     element-set-from-changed
     mul-bars-2
     array-set-from-bars-2
+    next-visit-requires-2
+    loop-less
+    loop-again
     loop-less-2
     loop-again-2
     with-digit-requires-2
