@@ -17,7 +17,7 @@ use Rattle.agent_rules.specs.Shape.{maxNamed}
 use Rattle.agent_rules.proofs.Assignments.{unknown-zero}
 use Rattle.packed.specs.Packed.{assignment}
 use Rattle.packed.proofs.Known.{known-true}
-use Rattle.packed.proofs.Digits.{digit-lt, nobody-assigned}
+use Rattle.packed.proofs.Digits.{digit-assigned, nobody-assigned}
 use Rattle.protocol.specs.Run.{Line, isLine}
 use Rattle.shape_laws.proofs.Lines.{other-from, other-to}
 use Rattle.shape_laws.proofs.RunFaults.{replicate-all}
@@ -131,6 +131,13 @@ pub visit-less : (quota : List ℕ) (n left : ℕ) {i rest : ℕ} {v : Visit} �
     → left * 4000 + length (ahead quota n (v .from) (v .rest)) < left * 4000 + length (ahead quota n i rest)
 visit-less quota n left h e = let a = ap length (h .some e) in omega arith
 
+pub none-less : (quota : List ℕ) (n left : ℕ) {i rest : ℕ} {v : Visit} → NextVisit quota n i rest v → v .over ≡ false
+    → left * 4000 + length (ahead quota n n 0) < left * 4000 + length (ahead quota n i rest)
+none-less quota n left h e =
+    let a = ap length (h .some e) in
+    let z = ap length (ahead-none quota n n 0 refl (omega arith)) in
+    omega arith
+
 pub passed-less : (quota : List ℕ) (n left : ℕ) {i rest : ℕ} {v : Visit} → NextVisit quota n i rest v → v .over ≡ false → 1 ≤ v .to → v .to ≤ 16
     → (rest′ : ℕ) → assignment rest′ ≡ at (assignment (v .rest)) (v .to) 0
     → left * 4000 + length (ahead quota n (v .from) rest′) < left * 4000 + length (ahead quota n i rest)
@@ -140,12 +147,8 @@ passed-less quota n left {v = v} h e l u rest′ d =
     omega arith
 
 row-short : (x i : ℕ) → length (row (assignment x) i) ≤ 240
-unfolding maxNamed assignment fromOne
-row-short x i = gather-length 15 16 1 (cell (assignment x) i) (λ j _ _. rw (length-replicate (assignment x j) (line i j)) (omega (arith, digit-below x j)))
-  where
-    digit-below : (y j : ℕ) → assignment y j < 16
-    digit-below y zero = omega arith
-    digit-below y (suc j) = digit-lt y j
+unfolding maxNamed
+row-short x i = gather-length 15 16 1 (cell (assignment x) i) (λ j _ _. rw (length-replicate (assignment x j) (line i j)) (omega (arith, digit-assigned x j)))
 
 pub round-less : (quota : List ℕ) (n left rest w : ℕ) → 1 ≤ left → n ≤ 12 → (left - 1) * 4000 + length (ahead quota n 0 rest) < left * 4000 + w
 unfolding rowOf

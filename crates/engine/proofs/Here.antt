@@ -76,3 +76,7 @@ pub record Here (once : Bool) (whole : Worked) (o₀ : Network) (number₀ : ℕ
   pub end : Sweep → Worked
   pub kind : Kind once missed met left made waited end
   pub same : whole ≡ end (sweep (sweepOf o delivered tried) (ahead quota n i rest))
+
+-- where a verdict stands, none is ahead
+abbrev pub Settled : Network → List ℕ → ℕ → ℕ → ℕ → Type 0
+Settled o quota n i rest = o .verdict ≡ true → ahead quota n i rest ≡ []

@@ -30,7 +30,7 @@ use Rattle.engine.proofs.After.{roundNumber, numberAt, stuck-number, me
 use Rattle.engine.proofs.Ahead.{ahead-all}
 use Rattle.engine.proofs.Visits.{visits-are, idle-is}
 use Rattle.engine.proofs.Resuming.{onward, recorded, further, stops, goes-on}
-use Rattle.engine.proofs.Here.{sweepOf, Fresh, Kind, single, rounds, Live, Here}
+use Rattle.engine.proofs.Here.{sweepOf, Fresh, Kind, single, rounds, Live, Here, Settled}
 
 -- ---- numbers and words
 
@@ -195,6 +195,9 @@ module _ {once : Bool} {whole : Worked} {o₀ : Network} {number₀ : ℕ} {o : 
       stands-none =
           or-false-both (o .verdict) _
           (or-false-both (o .verdict || not (eqb number 0)) (not w) (or-false-both (o .verdict || not (eqb number 0) || not w) _ on .0) .0)
+
+      pub round-settled : Settled o (o .counts) n 0 (v .rest)
+      round-settled t = absurd (false≢true (sym (stands-none .0) ∙ t))
 
       unmet : h .met ≡ 0
       unmet =

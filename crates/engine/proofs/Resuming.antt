@@ -78,9 +78,15 @@ goes-on stuck left k made rounds w e h =
 
 -- ---- one visit
 
-pub passes : (s : Sweep) (l : Line) → stopped s ≡ true → attempt s l ≡ s
+passes : (s : Sweep) (l : Line) → stopped s ≡ true → attempt s l ≡ s
 unfolding attempt skipped
 passes s l e = let k : skipped s l ≡ true = or-left (stopped s) (passedOver s l) e in rw (k, attempt)
+
+-- after a verdict all are passed over
+pub sweep-stopped : (s : Sweep) → stopped s ≡ true → (ls : List Line) → sweep s ls ≡ s
+unfolding sweep
+sweep-stopped s e [] = refl
+sweep-stopped s e (l ∷ ls) = ap (λ (t : Sweep). sweep t ls) (passes s l e) ∙ sweep-stopped s e ls
 
 pub tries : (s : Sweep) (l : Line) → stopped s ≡ false → passedOver s l ≡ false → attempt s l ≡ tally s l (deliver (s .network) (l .from) (l .to))
 unfolding attempt skipped

@@ -49,7 +49,7 @@ use Rattle.engine.proofs.Ahead.{ahead-none}
 use Rattle.engine.proofs.Resuming.{onward, further, tries}
 use Rattle.engine.proofs.Testing.{Good, Tested, is-bad, is-over, is-empty, is-found, tests}
 use Rattle.engine.proofs.After.{roundNumber, numberAt, met-number, one-number}
-use Rattle.engine.proofs.Here.{sweepOf, stoppedAs, single, rounds, Live, Here}
+use Rattle.engine.proofs.Here.{sweepOf, stoppedAs, single, rounds, Live, Here, Settled}
 
 -- rows that hold what the counts hold, and nothing else
 pub record Rows (counts rows : List ℕ) : Type 0 where
@@ -93,6 +93,19 @@ began-network (broken s e n k f z) = ap networkOf e
 began-network {r = r} (running s b rows h e n k f z) = ap networkOf e ∙ rows-network r rows h
 began-network {r = r} (refused s b rows h e n k d f z) = ap networkOf e ∙ rows-network r rows h
 began-network {r = r} (found s b rows h e n k d q m f z) = ap networkOf e ∙ rows-network r rows h
+
+pub began-settled : {once : Bool} {i j : ℕ} {r o : Network} {n number from rest : ℕ} → Began once i j r o n number from rest → (quota : List ℕ)
+    → Settled o quota n from rest
+began-settled {n = n} {from = from} {rest = rest} (broken s e m k f z) quota t = ahead-none quota n from rest z (omega arith)
+began-settled {n = n} {from = from} {rest = rest} (running s b rows h e m k f z) quota t = ahead-none quota n from rest z (omega arith)
+began-settled {n = n} {from = from} {rest = rest} (refused s b rows h e m k d f z) quota t = ahead-none quota n from rest z (omega arith)
+began-settled {i = i} {j = j} {r = r} {n = n} {from = from} {rest = rest} (found s b rows h e m k d q w f z) quota t = go (tests _ _ _ i j k d)
+  where
+    go : Tested (r .count) (r .verdict) rows i j k → ahead quota n from rest ≡ []
+    go (is-bad g a) = absurd (omega arith)
+    go (is-over g v a) = absurd (omega arith)
+    go (is-empty g v x a) = absurd (omega arith)
+    go (is-found g v x a) = absurd (false≢true (sym v ∙ ap (λ (p : Network). p .verdict) (sym e) ∙ t))
 
 pub began-untouched : {once : Bool} {i j : ℕ} {r o : Network} {n number from rest : ℕ} → Began once i j r o n number from rest → number ≡ 5 → o ≡ r
 began-untouched (broken s e n k f z) q = e

@@ -1,7 +1,7 @@
--- The engine's loop within a round: a line is passed over, or a delivery is tried on it and accepted, or rejected; after a 10 the rest of its visits are
--- passed over.
+-- The engine's loop within a round: a delivery is tried on a line and accepted, or rejected; after a 10 the rest of the line's visits are passed over, and
+-- after a verdict all visits are.
 use Prim.Native.Nat.{ℕ, suc, _+_, _*_, _%_, _≤_}
-use mathlib.Core.Bool.{Bool, true, false, not, and-false}
+use mathlib.Core.Bool.{Bool, true, false, not, _||_, and-false, or-false}
 use mathlib.Core.Path.{_≡_, refl, sym, ap, _∙_}
 use mathlib.Core.Logic.{_≢_}
 use mathlib.Core.List.{List, [], _∷_, _++_}
@@ -12,9 +12,10 @@ use lib.Dec.{eqb}
 use lib.ListN.{length, replicate}
 use borrow.Author.Tests.{ne-eqb}
 use Rattle.base.specs.Finite.{at, any}
-use Rattle.base.proofs.Tests.{eq-test, or-right}
+use Rattle.base.proofs.Tests.{test, eq-test, or-right}
 use Rattle.base.proofs.Search.{at-same}
 use Rattle.base.proofs.Lists.{All, All-right, All-both, All-map, any-snoc}
+use Rattle.base.proofs.Counting.{countIf}
 use Rattle.agent_rules.specs.Message.{Post as Post′}
 use Rattle.packed.specs.Packed.{assignment}
 use Rattle.choosing.specs.declared.Bars.{Bars}
@@ -33,14 +34,56 @@ use Rattle.network_laws.proofs.Handing.{Found, numbers-line}
 use Rattle.engine.specs.Lines.{line, ahead, NextVisit}
 use Rattle.engine.specs.Working.{Worked}
 use Rattle.engine.proofs.After.{roundNumber, numberAt}
-use Rattle.engine.proofs.Ahead.{ahead-passed, ahead-apart, passed-fewer}
+use Rattle.engine.proofs.Ahead.{ahead-none, ahead-passed, ahead-apart, passed-fewer}
 use Rattle.engine.specs.declared.lines.Visit.{Visit}
-use Rattle.engine.proofs.Resuming.{passes, tries, sweep-over, supplied-over}
-use Rattle.engine.proofs.Here.{sweepOf, Fresh, Kind, single, rounds, Live, Here}
+use Rattle.engine.proofs.Resuming.{sweep-stopped, tries, sweep-over, supplied-over}
+use Rattle.engine.proofs.Here.{sweepOf, Fresh, Kind, single, rounds, Live, Here, Settled}
 
 -- fewer are ahead: something was missed
 fewer : (d k waited : ℕ) → d + suc k ≤ waited → true ≡ not (eqb (d + k) waited)
 fewer d k waited h = rw (ne-eqb (d + k) waited (λ q. absurd (omega arith)))
+
+kind-missed : {once missed : Bool} {met left made waited : ℕ} {end : Sweep → Worked} (m : Bool) → (missed ≡ true → m ≡ true)
+    → Kind once missed met left made waited end → Kind once m met left made waited end
+kind-missed m f (single b y z e t) = single b (f y) z e t
+kind-missed m f (rounds b c k t) = rounds b c k t
+
+-- after a verdict all visits ahead are passed over, and something was missed if there was one
+module _ {once : Bool} {whole : Worked} {o₀ : Network} {number₀ : ℕ} {o : Network} {n : ℕ} {domains bans : List ℕ} {bars : List Bars} {ready : ℕ}
+    {quota : List ℕ} {missed : Bool} {left made number i rest : ℕ}
+    (h : Here once whole o₀ number₀ o n domains bans bars ready quota missed left made number i rest)
+    (v : Visit) (nv : NextVisit quota n i rest v) (g : o .verdict ≡ true) where
+  missed-now : (b : Bool) → v .over ≡ b → missed || not b ≡ not (eqb (h .delivered + 0) (h .waited))
+  missed-now true e = or-false missed ∙ rw (nv .over e) at (h .missing)
+  missed-now false e =
+      or-right missed true refl
+      ∙ fewer (h .delivered) 0 (h .waited) (let z = ap length (nv .some e) in omega (arith, h .most))
+
+  pub passes-all : Here once whole o₀ number₀ o n domains bans bars ready quota (missed || not (v .over)) left made number n 0
+  unfolding sweep stopped networkOf countIf
+  passes-all =
+      let none-ahead : ahead quota n n 0 ≡ [] = ahead-none quota n n 0 refl (omega arith) in
+      record {
+        sized = h .sized;
+        agents = h .agents;
+        high = omega arith;
+        few = h .few;
+        met = h .met;
+        live = h .live;
+        untouched = h .untouched;
+        quiet = λ _. none-ahead;
+        waited = h .waited;
+        delivered = h .delivered;
+        tried = h .tried;
+        numbered = h .numbered;
+        most = rw none-ahead (omega (arith, h .most));
+        missing = rw none-ahead (missed-now (v .over) refl);
+        supplied = rw none-ahead (record { lines = tt; enough = λ x y. omega arith });
+        fresh = rw none-ahead tt;
+        end = h .end;
+        kind = kind-missed (missed || not (v .over)) (λ e. rw e) (h .kind);
+        same = rw none-ahead (h .same ∙ ap (h .end) (sweep-stopped (sweepOf o (h .delivered) (h .tried)) g (ahead quota n i rest)));
+      }
 
 module _ {once : Bool} {whole : Worked} {o₀ : Network} {number₀ : ℕ} {o : Network} {n : ℕ} {domains bans : List ℕ} {bars : List Bars} {ready : ℕ}
     {quota : List ℕ} {missed : Bool} {left made number i rest : ℕ}
@@ -84,37 +127,9 @@ module _ {once : Bool} {whole : Worked} {o₀ : Network} {number₀ : ℕ} {o : 
   unfolding sweep
   same-first = h .same ∙ ap (λ (x : List Line). h .end (sweep now x)) first
 
-  kind-missed : (m : Bool) → (missed ≡ true → m ≡ true) → Kind once missed (h .met) left made (h .waited) (h .end)
-      → Kind once m (h .met) left made (h .waited) (h .end)
-  kind-missed m f (single b y z e t) = single b (f y) z e t
-  kind-missed m f (rounds b c k t) = rounds b c k t
-
-  -- after a verdict the line is passed over
-  pub passes-over : o .verdict ≡ true → Here once whole o₀ number₀ o n domains bans bars ready quota true left made number (v .from) (v .rest)
-  unfolding stopped networkOf
-  passes-over g =
-      let same = passes now l g in
-      record {
-        sized = h .sized;
-        agents = h .agents;
-        high = nv .high;
-        few = h .few;
-        met = h .met;
-        numbered = h .numbered;
-        live = h .live;
-        untouched = h .untouched;
-        quiet = λ n. absurd (n unmet);
-        waited = h .waited;
-        delivered = h .delivered;
-        tried = h .tried;
-        most = omega (arith, least);
-        missing = fewer (h .delivered) (length ls) (h .waited) least;
-        fresh = fresh .1;
-        supplied = rw (ap (λ (x : Sweep). x .network) same) at (attempt-supplied now l ls (here .shape) supply);
-        end = h .end;
-        kind = kind-missed true (λ _. refl) (h .kind);
-        same = same-first ∙ ap (λ (x : Sweep). h .end (sweep x ls)) same;
-      }
+  -- no verdict stands
+  pub no-verdict : Settled o quota n i rest → o .verdict ≡ false
+  no-verdict s = test (o .verdict) (λ t. let z = ap length (sym first ∙ s t) in absurd (omega arith)) (λ t. t)
 
   line-numbers : numbersGood (networkOf o) (v .from) (v .to) ≡ true
   line-numbers = supply .lines .0

@@ -21,6 +21,8 @@ use clauses::places::place_at;
 use clauses::places::words_before;
 use network::Network;
 use network::Place;
+use network::framing::frame_of;
+use network::sweeping::Sweep;
 use packed::add;
 use packed::digit;
 use packed::has;
@@ -45,9 +47,10 @@ pub struct Answer {
     pub ending: Ending,
 }
 
-// The network is one local, changed where it stands. With `once`, the head of the line between two agents is delivered, and that is all; else rounds are
-// made. Rounds left and full rounds made are two figures; a round is full if nothing that waited when it began was missed. A line that meets a 10 is passed
-// over for the rest of the round, and after a verdict all lines are. A round in which nothing was delivered ends the work, with 10.
+// The network is one local, changed where it stands. Its shape is tested first, here and not by a call, which would copy it. With `once`, the head of the
+// line between two agents is delivered, and that is all; else rounds are made. Rounds left and full rounds made are two figures; a round is full if nothing
+// that waited when it began was missed. A line that meets a 10 is passed over for the rest of the round, and after a verdict all lines are: it is looked at
+// where it falls, and then none is ahead. A round in which nothing was delivered ends the work, with 10.
 pub fn work(r: Network, once: bool, sender: u8, receiver: u8, allowed: u64) -> Answer
     requires { ⌜ allowed ≤ 1000000 ⌝ }
     requires { ⌜ (once ≡ true → allowed ≡ 0) ⌝ }
@@ -64,7 +67,16 @@ pub fn work(r: Network, once: bool, sender: u8, receiver: u8, allowed: u64) -> A
     let counts = o.counts;
     let rows = cleaned(counts);
     o.counts = rows;
-    if network::in_shape(o) {
+    let agents = o.agents;
+    let frame = frame_of(o.count, o.rule, o.verdict, &o.domains, &o.bans, agents);
+    let mut sweep = Sweep::begin(frame, &o.counts);
+    while !sweep.over {
+        let head = digit(o.heads[sweep.from as usize - 1], sweep.to);
+        let place = o.places[place_at(channel_at(sweep.from, sweep.to), head, sweep.left - 1)];
+        let message = place.message;
+        sweep = sweep.after(frame, &o.counts, message);
+    }
+    if sweep.fits {
         n = o.count;
         from = n;
         number = 0;
@@ -81,11 +93,10 @@ pub fn work(r: Network, once: bool, sender: u8, receiver: u8, allowed: u64) -> A
     }
     let domains = o.domains;
     let bans = o.bans;
-    // what the agents' views bar, for those of the set `ready`
+    // what the agents' views bar, for those of the set `ready`; what each line held when the round began, and whether something of it was missed
     let none = Bars { low: 0, high: 0 };
     let mut bars = [none; 12];
     let mut ready: u16 = 0;
-    // what each line held when the round began; whether something of it was missed
     let mut quota = [0u64; 12];
     let mut missed = true;
     let mut left = allowed;
@@ -95,10 +106,6 @@ pub fn work(r: Network, once: bool, sender: u8, receiver: u8, allowed: u64) -> A
         from = visit.from;
         rest = visit.rest;
         if !visit.over {
-            if o.verdict {
-                missed = true;
-                continue;
-            }
             let to = visit.to;
             let at = to as usize - 1;
             let row = from as usize - 1;
@@ -148,6 +155,11 @@ pub fn work(r: Network, once: bool, sender: u8, receiver: u8, allowed: u64) -> A
                 bars[at] = barred;
                 o.verdict = step.verdict;
                 number = 0;
+                if step.verdict {
+                    missed = missed | !next_visit(from, rest, &quota, n).over;
+                    from = n;
+                    rest = 0;
+                }
             } else {
                 rest = with_digit(rest, to, 0);
                 missed = true;

@@ -1,6 +1,7 @@
 pub mod Agents
 pub mod Rings
-mod Sweeping
-mod Whole
+pub mod Passing
+pub mod Turns
+pub mod Whole
 pub mod Zeros
 mod Asking

@@ -22,6 +22,7 @@ use Rattle.protocol.specs.Run.{oneIf}
 use Rattle.packed.specs.Packed.{assignment}
 use Rattle.network.specs.Abstract.{isChannel, channelAt, placeOf, noPlace, ring, rowOf, channelOf, networkOf}
 use Rattle.clauses.specs.Parts.{isLink, fitsNow}
+use Rattle.network.specs.Looking.{fitting, leftFits, lastLeft}
 use Rattle.network.specs.declared.Place.{Place}
 use Rattle.network.specs.declared.Network.{Network}
 
@@ -40,10 +41,7 @@ ring-snoc ps b h (suc k) =
     let e : h + suc k ≡ suc h + k = omega arith in
     rw e (ap (λ (l : List Message′). placeOf (getD ps (b + h % 8) noPlace) ∷ l) (ring-snoc ps b (suc h) k))
 
--- ---- what is asked of the messages on the channel from i to j, where a request was asked already or not
-
-unfoldable pub fitting : Network′ → ℕ → ℕ → List Message′ → Bool → Bool
-fitting w i j ms asked = leb (number AddLinks ms + oneIf asked) 1 && every (messageFits w i j) ms
+-- ---- the messages of a channel
 
 link-counted : (m : Message′) → number AddLinks (m ∷ []) ≡ oneIf (isLink m)
 unfolding number ofSort isLink oneIf
@@ -96,19 +94,12 @@ all-fitting w i j ms =
     (λ e. rw e (and-false (leb (number AddLinks ms) 1) ∙ sym (and-false (leb (number AddLinks ms + oneIf (w .agents j .informs i)) 1)))))
     (λ h. let z : number AddLinks ms + 0 ≡ number AddLinks ms = omega arith in rw (h, z))
 
--- ---- what is asked of a channel, all but the first `left` of its messages having been looked at
-
-unfoldable pub leftFits : Network → ℕ → ℕ → ℕ → Bool → Bool
-leftFits r i j left asked = fitting (networkOf r) i j (ring (r .places) (8 * channelAt i j) (rowOf (r .heads) i j) left) asked
+-- ---- the messages of a channel that are left
 
 pub nothing-left : (r : Network) (i j left : ℕ) (asked : Bool) → left ≡ 0 → leftFits r i j left asked ≡ true
 unfolding leftFits fitting ring number every oneIf
 nothing-left r i j left true e = rw e
 nothing-left r i j left false e = rw e
-
--- the last of them
-unfoldable pub lastLeft : Network → ℕ → ℕ → ℕ → Message′
-lastLeft r i j left = placeOf (getD (r .places) (8 * channelAt i j + (rowOf (r .heads) i j + (left - 1)) % 8) noPlace)
 
 pub last-fits : (r : Network) (i j left : ℕ) (asked : Bool) → 1 ≤ left
     → leftFits r i j left asked ≡ leftFits r i j (left - 1) (asked || isLink (lastLeft r i j left)) && fitsNow (networkOf r) i j asked (lastLeft r i j left)

@@ -5,22 +5,19 @@ ghost use Rattle.protocol.specs.Shape.{inShape};
 ghost use Rattle.protocol.specs.Delivery.{answerNumber, askValue};
 ghost use Rattle.network.specs.Abstract.{networkOf};
 ghost use Rattle.network.specs.Empty.{emptyRecord};
+
+pub mod framing;
+pub mod sweeping;
+
+use crate::framing::frame_of;
+use crate::sweeping::Sweep;
 use agent::Agent;
 use agent::Counts;
 use agent::Lhs;
 use agent::Message;
-use clauses::agents::agent_passes;
-use clauses::channels::is_link;
-use clauses::channels::message_fits;
 use clauses::places::channel_at;
-use clauses::places::lines_of;
 use clauses::places::place_at;
-use clauses::range::domain_digits;
-use clauses::range::in_range;
 use packed::digit;
-use packed::first_digit;
-use packed::has;
-use packed::with_digit;
 
 // One place of a channel.
 pub struct Place {
@@ -97,60 +94,16 @@ pub fn is_rule(rule: u8) -> bool
 pub fn in_shape(r: Network) -> bool
     ensures { λ b. ⌜ b ≡ inShape (networkOf r) ⌝ }
 {
-    let n = r.count;
-    if !(is_rule(r.rule) & in_range(n, &r.domains, &r.bans)) {
-        return false;
+    let agents = r.agents;
+    let f = frame_of(r.count, r.rule, r.verdict, &r.domains, &r.bans, agents);
+    let mut s = Sweep::begin(f, &r.counts);
+    while !s.over {
+        let head = digit(r.heads[s.from as usize - 1], s.to);
+        let place = r.places[place_at(channel_at(s.from, s.to), head, s.left - 1)];
+        let m = place.message;
+        s = s.after(f, &r.counts, m);
     }
-    let domains = domain_digits(&r.domains);
-    let mut listens = [0u16; 12];
-    let mut informs = [0u16; 12];
-    let mut k: usize = 0;
-    while k < 12 {
-        let a = r.agents[k];
-        listens[k] = a.listens;
-        informs[k] = a.informs;
-        k += 1;
-    }
-    let mut i: u8 = 0;
-    while i < 12 {
-        let a = r.agents[i as usize];
-        i += 1;
-        if !agent_passes(n, r.verdict, domains, &informs, &r.bans, i, a) {
-            return false;
-        }
-    }
-    // the channels from i are looked at: those to the digits of `rest` are left, and of the one to j all messages but `left` fit; no link request
-    // fits any more where one was `asked`: the receiver informs i already, or one was met
-    i = 0;
-    let mut rest: u64 = 0;
-    let mut j: u8 = 1;
-    let mut left: u8 = 0;
-    let mut asked = false;
-    loop {
-        if left != 0 {
-            left -= 1;
-            let head = digit(r.heads[i as usize - 1], j);
-            let place = r.places[place_at(channel_at(i, j), head, left)];
-            let m = place.message;
-            if !message_fits(domains, &listens, i, j, m, asked) {
-                return false;
-            }
-            asked = asked | is_link(m);
-        } else if rest != 0 {
-            j = first_digit(rest);
-            left = digit(rest, j);
-            if 8 < left {
-                return false;
-            }
-            rest = with_digit(rest, j, 0);
-            asked = has(informs[j as usize - 1], i);
-        } else if i < 12 {
-            rest = lines_of(r.counts[i as usize], i + 1);
-            i += 1;
-        } else {
-            return true;
-        }
-    }
+    s.fits
 }
 
 // ---- asking a value

@@ -35,6 +35,11 @@ pub digit-lt : (x k : ℕ) → digit x k < 16
 unfolding digit
 digit-lt x k = omega arith
 
+pub digit-assigned : (x k : ℕ) → assignment x k < 16
+unfolding assignment fromOne
+digit-assigned x zero = omega arith
+digit-assigned x (suc k) = digit-lt x k
+
 pub pow16 : (k : ℕ) → 16 ^ k ≡ 2 ^ (4 * k)
 pow16 zero = refl
 pow16 (suc k) = rw (pow-suc 16 k, pow16 k, mul-suc 4 k, pow-add 2 (4 * k) 4)

@@ -20,20 +20,8 @@ use Rattle.network.specs.Abstract.{isChannel, rowOf, networkOf}
 use Rattle.clauses.specs.Parts.{isLink, fitsNow}
 use Rattle.network.specs.declared.Network.{Network}
 use Rattle.clauses.proofs.Numbering.{ends}
-use Rattle.network.proofs.Rings.{leftFits, lastLeft, nothing-left, last-fits, no-channel-fits, channel-fits}
-
--- Sender i is looked at: the digits of `rest` are the counts of its channels that are left, and of the one to j the first `left` messages are. No request
--- may be among these where one was `asked`.
-pub record Swept (r : Network) (i rest j left : ℕ) (asked : Bool) : Type 0 where
-  pub sender : i ≤ 12
-  pub before : (x y : ℕ) → x < i → channelInShape (networkOf r) x y ≡ true
-  pub passed : (y : ℕ) → assignment rest y ≡ 0 → (1 ≤ left → y ≢ j) → channelInShape (networkOf r) i y ≡ true
-  pub ahead : (y : ℕ) → 1 ≤ assignment rest y → (isChannel i y ≡ true) × (assignment rest y ≡ rowOf (r .counts) i y)
-  pub here : 1 ≤ left
-      → (isChannel i j ≡ true)
-      × (left ≤ 8)
-      × (channelInShape (networkOf r) i j ≡ leftFits r i j left asked)
-      × (networkOf r .agents j .informs i ≡ true → asked ≡ true)
+use Rattle.network.specs.Looking.{channelsInShape, leftFits, lastLeft, Swept}
+use Rattle.network.proofs.Rings.{nothing-left, last-fits, no-channel-fits, channel-fits}
 
 no-digits : (rest y : ℕ) → rest ≡ 0 → assignment rest y ≡ 0
 unfolding nobody
@@ -49,9 +37,6 @@ beginning r =
       ahead = λ y h. absurd (omega (arith, no-digits 0 y refl));
       here = λ h. absurd (omega arith);
     }
-
-unfoldable pub channelsInShape : Network → Bool
-channelsInShape r = allTo maxAgents (λ i. allTo maxAgents (λ j. channelInShape (networkOf r) i j))
 
 -- all channels, if one does not fit
 pub one-unfit : (r : Network) (i j : ℕ) → isChannel i j ≡ true → channelInShape (networkOf r) i j ≡ false
