@@ -1,6 +1,6 @@
 pub mod Agents
 pub mod Rings
-pub mod Passing
+mod Passing
 pub mod Turns
 pub mod Whole
 pub mod Zeros

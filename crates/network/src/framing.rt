@@ -1,5 +1,4 @@
 // All of the shape but the lines.
-ghost use Prim.Native.Nat.{ℕ};
 ghost use Rattle.network.specs.Looking.{Holding, Framed};
 use crate::Network;
 use crate::is_rule;

@@ -1,7 +1,7 @@
 // The lines, gone through for the test of the shape: sender by sender, the receivers upward, the messages of a line from the last to the first.
 ghost use mathlib.Core.Path.{_≡_};
 ghost use mathlib.Core.Bool.{true, false};
-ghost use Prim.Native.Nat.{ℕ, _≤_, _<_};
+ghost use Prim.Native.Nat.{_≤_, _<_};
 ghost use Rattle.protocol.specs.Lines.{isChannel};
 ghost use Rattle.agent.specs.Abstract.{messageOf};
 ghost use Rattle.network.specs.Looking.{lastLeft, Framed, Going, Lined, toLook};

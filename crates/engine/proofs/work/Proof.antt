@@ -1,5 +1,6 @@
--- The work on a network. The outer loop's invariant is `Here`: the work left, described at the network as it stands, is the whole work; and `Settled`: where
--- a verdict stands, no line is ahead. The inner loop's is `Storing`: what is not left of the receiver's posts is stored.
+-- The work on a network. The first loop's invariant is `Sweeping`: what has been looked at of the shape fits, or it is known whether all does. The outer
+-- loop's is `Here`: the work left, described at the network as it stands, is the whole work; and `Settled`: where a verdict stands, no line is ahead. The
+-- inner loop's is `Storing`: what is not left of the receiver's posts is stored.
 use Prim.Native.Nat.{_+_, _*_, _-_}
 use mathlib.Core.Bool.{false, not, false≢true}
 use mathlib.Core.Path.{_≡_, refl, sym, ap, _∙_}
