@@ -121,11 +121,19 @@ fn give_reasons(
 {
     let mut reasoned = stored;
     let mut whole: u64 = 0;
-    let mut rest = stored;
+    let mut rest = (stored as u16 % (1u16 << tried)) as u8;
     let mut i: u8 = 0;
-    while i < tried {
-        let mut lhs = nogoods[i as usize];
-        if rest % 2 == 0 {
+    loop {
+        let mut lhs: u64 = 0;
+        if rest % 2 == 1 {
+            lhs = nogoods[i as usize];
+        } else {
+            if tried <= i {
+                return Tried {
+                    stored: reasoned,
+                    whole: whole,
+                };
+            }
             let k = blamed(nogoods, own, bars, reasoned, i + 1);
             lhs = with_digit(0, k, digit(view, k));
             nogoods[i as usize] = lhs;
@@ -134,10 +142,6 @@ fn give_reasons(
         whole = whole | lhs;
         rest = rest / 2;
         i += 1;
-    }
-    Tried {
-        stored: reasoned,
-        whole: whole,
     }
 }
 
