@@ -104,7 +104,8 @@ fn blamed(nogoods: &[u64; 8], own: Own, bars: Bars, stored: u8, w: u8) -> u8
 
 // The own values 1 to `tried` are gone through upward, none of which is free: "A slot with a stored reason is skipped. A slot that is banned against a
 // known slot of the view gets the reason "that scanner has that slot"." The reasons are read as they stand when that value is tried. The left sides met,
-// stored ones and given ones, are joined on the way: after any number of values `whole` is the union of that many.
+// stored ones and given ones, are joined on the way: after any number of values `whole` is the union of that many. `rest` has the stored ones of those
+// yet to be tried, so the walk asks whether it is at its end only where a reason is lacking.
 fn give_reasons(
     nogoods: &mut [u64; 8],
     own: Own,
