@@ -1,6 +1,6 @@
 //! `compare PROVED PLAIN`: the proved libraries beside the plain one. First both have to give the
 //! same answers, and the programs `dock` and `season` in the two folders given to print the same;
-//! then both are timed, alternately, and the medians printed.
+//! then both are timed, alternately, and medians and least times printed.
 
 mod check;
 mod images;
@@ -42,7 +42,11 @@ fn main() -> Result<(), String> {
     let long = &open[open.len() - 1].1;
     let deepest = &deep[deep.len() - 1].1;
     let small = sheets::random(20_000, 5, 4, 20, 0, 7);
-    println!("\n{:<62} {:>12} {:>12} {:>7}", "what, and for each", "Rust", "ours", "ratio");
+    println!("\n{:<62} {:>12} {:>12} {:>7} {:>12} {:>12} {:>7}", "", "medians", "", "", "least", "", "");
+    println!(
+        "{:<62} {:>12} {:>12} {:>7} {:>12} {:>12} {:>7}",
+        "what, and for each", "Rust", "ours", "ratio", "Rust", "ours", "ratio"
+    );
     for rule in Rule::BOTH {
         let under = format!("rule {}", rule.number());
         run_row(&format!("long run, 12 scanners, 8 slots, 100,000 rounds, {under}"), rule, long);
@@ -95,7 +99,15 @@ fn both(work: impl Fn(&mut dyn Side) -> u64) -> Times {
 
 fn row(what: &str, times: Times, parts: usize) {
     let each = times.each(parts);
-    println!("{what:<62} {:>12} {:>12} {:>7.3}", time(each.plain), time(each.proved), times.ratio());
+    println!(
+        "{what:<62} {:>12} {:>12} {:>7.3} {:>12} {:>12} {:>7.3}",
+        time(each.plain.median),
+        time(each.proved.median),
+        times.ratio(),
+        time(each.plain.least),
+        time(each.proved.least),
+        times.least_ratio()
+    );
 }
 
 /// A whole run, and the same for each delivery.

@@ -44,27 +44,51 @@ fn thread_time() -> Duration {
 }
 
 /// Each piece of work is timed so often.
-const SAMPLES: usize = 9;
+const SAMPLES: usize = 25;
 /// A sample repeats its work until it takes at least so long.
 const LEAST: Duration = Duration::from_millis(5);
 
-/// Medians, in nanoseconds for one time the work is done.
+/// What the samples of one side come to, in nanoseconds for one time the work is done.
+#[derive(Clone, Copy)]
+pub struct Samples {
+    pub median: f64,
+    pub least: f64,
+}
+
+impl Samples {
+    fn of(mut samples: Vec<f64>) -> Samples {
+        samples.sort_by(f64::total_cmp);
+        Samples { median: samples[samples.len() / 2], least: samples[0] }
+    }
+
+    fn each(self, parts: f64) -> Samples {
+        Samples { median: self.median / parts, least: self.least / parts }
+    }
+}
+
+/// Both sides. What else runs on the machine makes a sample longer and never shorter, so the least
+/// is what the work takes by itself, and the median what it took that day.
 #[derive(Clone, Copy)]
 pub struct Times {
-    pub plain: f64,
-    pub proved: f64,
+    pub plain: Samples,
+    pub proved: Samples,
 }
 
 impl Times {
-    /// Rust time / our time: 1 is as fast as plain Rust, less is slower.
+    /// Rust time / our time, by the medians: 1 is as fast as plain Rust, less is slower.
     pub fn ratio(self) -> f64 {
-        self.plain / self.proved
+        self.plain.median / self.proved.median
+    }
+
+    /// The same by the least times.
+    pub fn least_ratio(self) -> f64 {
+        self.plain.least / self.proved.least
     }
 
     /// For one of so many parts.
     pub fn each(self, parts: usize) -> Times {
         let parts = parts.max(1) as f64;
-        Times { plain: self.plain / parts, proved: self.proved / parts }
+        Times { plain: self.plain.each(parts), proved: self.proved.each(parts) }
     }
 }
 
@@ -82,7 +106,7 @@ pub fn alternately(clock: Clock, mut plain: impl FnMut(), mut proved: impl FnMut
             plain_samples.push(sample(clock, &mut plain, plain_repeats));
         }
     }
-    Times { plain: median(plain_samples), proved: median(proved_samples) }
+    Times { plain: Samples::of(plain_samples), proved: Samples::of(proved_samples) }
 }
 
 /// How often the work is repeated in one sample. The first time warms up.
@@ -101,9 +125,4 @@ fn sample(clock: Clock, work: &mut impl FnMut(), repeats: u32) -> f64 {
 
 fn repeated(clock: Clock, work: &mut impl FnMut(), repeats: u32) -> Duration {
     clock.time(|| (0..repeats).for_each(|_| work()))
-}
-
-fn median(mut samples: Vec<f64>) -> f64 {
-    samples.sort_by(f64::total_cmp);
-    samples[samples.len() / 2]
 }

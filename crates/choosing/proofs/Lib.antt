@@ -10,3 +10,4 @@ pub mod LeftFree
 pub mod Blaming
 pub mod Reasons
 pub mod Choices
+mod Cut

@@ -104,7 +104,8 @@ fn blamed(nogoods: &[u64; 8], own: Own, bars: Bars, stored: u8, w: u8) -> u8
 
 // The own values 1 to `tried` are gone through upward, none of which is free: "A slot with a stored reason is skipped. A slot that is banned against a
 // known slot of the view gets the reason "that scanner has that slot"." The reasons are read as they stand when that value is tried. The left sides met,
-// stored ones and given ones, are joined on the way: after any number of values `whole` is the union of that many.
+// stored ones and given ones, are joined on the way: after any number of values `whole` is the union of that many. `rest` has the stored ones of those
+// yet to be tried, so the walk asks whether it is at its end only where a reason is lacking.
 fn give_reasons(
     nogoods: &mut [u64; 8],
     own: Own,
@@ -121,11 +122,19 @@ fn give_reasons(
 {
     let mut reasoned = stored;
     let mut whole: u64 = 0;
-    let mut rest = stored;
+    let mut rest = (stored as u16 % (1u16 << tried)) as u8;
     let mut i: u8 = 0;
-    while i < tried {
-        let mut lhs = nogoods[i as usize];
-        if rest % 2 == 0 {
+    loop {
+        let mut lhs: u64 = 0;
+        if rest % 2 == 1 {
+            lhs = nogoods[i as usize];
+        } else {
+            if tried <= i {
+                return Tried {
+                    stored: reasoned,
+                    whole: whole,
+                };
+            }
             let k = blamed(nogoods, own, bars, reasoned, i + 1);
             lhs = with_digit(0, k, digit(view, k));
             nogoods[i as usize] = lhs;
@@ -134,10 +143,6 @@ fn give_reasons(
         whole = whole | lhs;
         rest = rest / 2;
         i += 1;
-    }
-    Tried {
-        stored: reasoned,
-        whole: whole,
     }
 }
 

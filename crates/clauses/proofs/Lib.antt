@@ -5,5 +5,6 @@ mod Lines
 pub mod Words
 pub mod Ranges
 mod BanWords
+mod Overlaid
 mod Clauses
 pub mod Links

@@ -1,4 +1,4 @@
--- The parts of `inRange` as the code tests them: n, the domains, also as the digits of a word, and where a ban word stands.
+-- The parts of `inRange` as the code tests them: n, and the domains, also as the digits of a word.
 use Prim.Native.Nat.{ℕ, zero, suc, _+_, _*_, _-_, _/_, _%_, _^_, _≤_, _<_}
 use mathlib.Core.Path.{_≡_, refl, ap, _∙_}
 use mathlib.Core.Bool.{true, false, _&&_, and-false}
@@ -10,7 +10,7 @@ use lib.ListN.{length, getD, List·getD-eq-default}
 use borrow.Author.Tests.{lt-ltb, le-leb, lt-leb, ltb-true, ltb-false, leb-true, leb-false}
 use Rattle.base.specs.Finite.{fromOne, within, allTo}
 use Rattle.base.proofs.Tests.{test, eq-test, to-within}
-use Rattle.problem.specs.Problem.{Problem, maxAgents, maxDomain, domain, wordAt, countInRange, domainInRange, wordOwned, bansOwned, sized, inRange}
+use Rattle.problem.specs.Problem.{Problem, maxAgents, maxDomain, domain, countInRange, domainInRange, bansOwned, sized, inRange}
 use Rattle.problem.proofs.Range.{Ranged}
 use Rattle.packed.specs.Packed.{assignment}
 use Rattle.packed.proofs.Digits.{assigned-first, assigned-next, digit-above}
@@ -53,13 +53,6 @@ pub in-range : (p : Problem) (count : ℕ) → sized p ≡ true → p .count ≡
     → inRange p ≡ allTo maxAgents (domainInRange p) && bansOwned p
 unfolding inRange countInRange maxAgents
 in-range p count s e h l = rw (s, e, to-within maxAgents count h l)
-
--- ---- one ban word
-
-pub word-is : (p : Problem) (domains bans : List ℕ) (i j at : ℕ) → p .domains ≡ domains → p .bans ≡ bans → 1 ≤ i → 1 ≤ j → at ≡ wordAt i j
-    → wordOwned (domain p i) (domain p j) (getD (p .bans) (wordAt i j) 0)
-    ≡ wordOwned (getD domains (i - 1) 0) (getD domains (j - 1) 0) (getD bans at 0)
-word-is p domains bans i j at e f h l g = rw (domain-at p domains i e h, domain-at p domains j e l, f, g)
 
 -- ---- the domains as digits, from agent 12 down: those of the agents above i stand in the word
 

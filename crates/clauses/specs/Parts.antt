@@ -1,10 +1,11 @@
 -- What the parts of the test compute or read, where the shape has no name for it.
-use Prim.Native.Nat.{ℕ, pred, _≤_}
+use Prim.Native.Nat.{ℕ, pred, _*_, _/_, _^_, _≤_, _<_}
 use mathlib.Core.Path.{_≡_}
 use mathlib.Core.Bool.{Bool, true, false, not, cond, _&&_}
 use mathlib.Core.List.{List}
 use lib.ListN.{getD}
-use lib.Dec.{leb}
+use lib.Bits.{bitAnd}
+use lib.Dec.{eqb, leb}
 use Rattle.base.specs.Finite.{fromOne, within, allTo}
 use Rattle.base.specs.Bits.{bit}
 use Rattle.problem.specs.Problem.{Problem, maxDomain, domain, bitAt, linked}
@@ -30,6 +31,10 @@ Domains p x = (k : ℕ) → assignment x k ≡ domain p k
 -- x has the bits of a ban word that stand for values of a higher agent with domain e
 abbrev pub Columns : ℕ → ℕ → Type 0
 Columns e x = (v w : ℕ) → 1 ≤ v → v ≤ maxDomain → 1 ≤ w → w ≤ maxDomain → bit x (bitAt v w) ≡ within e w
+
+-- x has the bits of a ban word that stand for no value of a lower agent with domain d: a word has none of them exactly if its bytes behind d are empty
+abbrev pub Beyond : ℕ → ℕ → Type 0
+Beyond d x = (word : ℕ) → word < 2 ^ 64 → eqb (bitAnd word x) 0 ≡ eqb (word / 2 ^ (8 * d)) 0
 
 -- Each agent above j either informs it and is listened to, or is not linked with it: of all agents together this asks as much as 'banned pairs
 -- listen and inform' and 'whoever is informed listens'.

@@ -12,11 +12,11 @@ pub fn channel_at(from: u8, to: u8) -> usize
     requires { ⌜ isChannel from to ≡ true ⌝ }
     ensures { λ r. ⌜ (r ≡ channelAt from to) × (r < 132) ⌝ }
 {
-    let row = 11 * (from as usize - 1);
+    let row = 11 * (from - 1);
     if to < from {
-        return row + to as usize - 1;
+        return (row + to - 1) as usize;
     }
-    row + to as usize - 2
+    (row + to - 2) as usize
 }
 
 // The place of a channel's ring that stands so far ahead of its head.
@@ -40,6 +40,6 @@ pub fn words_before(agent: u8) -> usize
     requires { ⌜ (1 ≤ agent) × (agent ≤ 12) ⌝ }
     ensures { λ r. ⌜ (r ≡ pairsBefore (pred agent)) × (r + agent ≤ 67) ⌝ }
 {
-    let k = agent as usize - 1;
+    let k = (agent - 1) as usize;
     (k * k - k) / 2
 }

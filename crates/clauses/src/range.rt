@@ -1,11 +1,12 @@
 // The problem of a network is in range: n, the domains (slot counts) and the bans.
 ghost use mathlib.Core.Path.{_≡_};
 ghost use mathlib.Core.Bool.{true};
-ghost use Prim.Native.Nat.{ℕ, pred, _%_, _≤_, _<_};
+ghost use Prim.Native.Nat.{ℕ, suc, pred, _%_, _≤_, _<_};
+ghost use lib.Dec.{eqb};
 ghost use lib.ListN.{length, getD};
 ghost use Rattle.base.specs.Finite.{allTo};
 ghost use Rattle.packed.specs.Packed.{assignment};
-ghost use Rattle.clauses.specs.Parts.{Domains, Columns};
+ghost use Rattle.clauses.specs.Parts.{Domains, Columns, Beyond};
 ghost use Rattle.problem.specs.Problem.{Problem, maxAgents, domain, owns, wordAt, domainInRange, wordOwned, bansOwned, sized, inRange};
 use crate::places::words_before;
 use packed::digit;
@@ -62,42 +63,59 @@ fn columns(e: u8) -> u64
     0x0101_0101_0101_0101 * ((1u64 << e) - 1)
 }
 
-// The bans of two agents are between owned values, where the lower one has domain d and the higher one `columns`.
-fn word_owned(d: u8, columns: u64, word: u64) -> bool
-    ensures { λ b. ⌜ ((e : ℕ) → Columns e columns → b ≡ wordOwned d e word) ⌝ }
+// The bits of a ban word that stand for no owned value of a lower agent with domain d: the bytes behind d.
+fn beyond(d: u8) -> u64
+    ensures { λ x. ⌜ Beyond d x ⌝ }
 {
-    if word & !columns != 0 {
-        return false;
-    }
     if 8 <= d {
-        return true;
+        return 0;
     }
-    word >> (8 * d) == 0
+    0xffff_ffff_ffff_ffffu64 << (8 * d)
 }
 
-// The ban words of higher agent j.
-fn bans_of_owned(domains: &[u8; 12], bans: &[u64; 66], j: u8) -> bool
-    requires { ⌜ (1 ≤ j) × (j ≤ 12) ⌝ }
-    ensures { λ b. ⌜ ((p : Problem) → p .domains ≡ now (domains .entry) → p .bans ≡ now (bans .entry) → b ≡ allTo (pred j) (λ i. wordOwned (domain p i) (domain p j) (getD (p .bans) (wordAt i j) 0))) ⌝ }
+// The bits of a ban word that stand for no owned values: none are left exactly if the bans are between owned ones. Of the lower agent those beyond its
+// domain are given, of the higher one its columns.
+fn unowned(rows: u64, columns: u64, word: u64) -> u64
+    ensures { λ x. ⌜ ((d e : ℕ) → Beyond d rows → Columns e columns → wordOwned d e word ≡ eqb x 0) ⌝ }
 {
-    let own = columns(domains[j as usize - 1]);
+    word & (rows | !columns)
+}
+
+// The ban words of higher agent j, all at once: what stands for no owned values is laid over each other.
+fn bans_of_owned(rows: &[u64; 12], columns: u64, bans: &[u64; 66], j: u8) -> bool
+    requires { ⌜ (1 ≤ j) × (j ≤ 12) ⌝ }
+    ensures { λ b. ⌜ ((p : Problem) → p .bans ≡ now (bans .entry) → Columns (domain p j) columns → ((i : ℕ) → i < 12 → Beyond (domain p (suc i)) (getD (now (rows .entry)) i 0)) → b ≡ allTo (pred j) (λ i. wordOwned (domain p i) (domain p j) (getD (p .bans) (wordAt i j) 0))) ⌝ }
+{
     let words = words_before(j);
+    let mut over: u64 = 0;
     let mut k = j as usize - 1;
     while 0 < k {
         k -= 1;
-        if !word_owned(domains[k], own, bans[words + k]) {
-            return false;
-        }
+        over = over | unowned(rows[k], columns, bans[words + k]);
     }
-    true
+    over == 0
+}
+
+// For each agent the bits that stand for no value that it owns as the lower one.
+fn all_beyond(domains: &[u8; 12]) -> [u64; 12]
+    ensures { λ r. ⌜ (length r ≡ 12) × ((i : ℕ) → i < 12 → Beyond (getD (now (domains .entry)) i 0) (getD r i 0)) ⌝ }
+{
+    let mut rows = [0u64; 12];
+    let mut k: usize = 0;
+    while k < 12 {
+        rows[k] = beyond(domains[k]);
+        k += 1;
+    }
+    rows
 }
 
 fn bans_owned(domains: &[u8; 12], bans: &[u64; 66]) -> bool
     ensures { λ b. ⌜ ((p : Problem) → p .domains ≡ now (domains .entry) → p .bans ≡ now (bans .entry) → b ≡ bansOwned p) ⌝ }
 {
+    let rows = all_beyond(domains);
     let mut j: u8 = 12;
     while 0 < j {
-        if !bans_of_owned(domains, bans, j) {
+        if !bans_of_owned(&rows, columns(domains[j as usize - 1]), bans, j) {
             return false;
         }
         j -= 1;

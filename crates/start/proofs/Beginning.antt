@@ -1,10 +1,12 @@
 -- One agent begins: the record that its code gives, and the Infos that it sends, go into the network as the definition's first step does.
 use mathlib.Core.Path.{_≡_, sym, ap, _∙_}
-use mathlib.Core.Bool.{Bool, true, or-false}
+use mathlib.Core.Bool.{Bool, true, false, or-false}
 use Prim.Native.Nat.{ℕ, suc, _≤_, _<_}
+use native.Mathlib.Omega.{arith}
 use lib.ListN.{length, set}
 use Rattle.problem.specs.Problem.{Problem, maxAgents, linked}
-use Rattle.problem.proofs.Range.{Ranged, linked-pair}
+use Rattle.base.proofs.Tests.{test}
+use Rattle.problem.proofs.Range.{Ranged, linked-pair, linked-inside}
 use Rattle.agent_rules.specs.Agent.{Agent as Agent′, Step}
 use Rattle.agent_rules.specs.Receiving.{begin}
 use Rattle.protocol.specs.Network.{selfOf, bansOf, withStep, begun}
@@ -28,6 +30,10 @@ pub begun-by : (rule : ℕ) (p : Problem) (i : ℕ) (a : Agent) (own : Own) (m n
     → members m ≡ (λ k. linked p k i) → members n ≡ (λ k. linked p i k) → BeginsAs a (begun rule p i)
 unfolding begun
 begun-by rule p i a own m n e s l k = rw (s, l, k) at e
+
+-- nobody beyond the problem's agents is linked
+pub not-beyond : (p : Problem) → Ranged p → (i k : ℕ) → p .count < k → linked p i k ≡ false
+not-beyond p r i k h = test (linked p i k) (λ e. absurd (omega (arith, linked-inside p r i k e .2))) (λ e. e)
 
 -- those it informs are below
 pub informs-below : (rule : ℕ) (p : Problem) (i : ℕ) (a : Agent) → Ranged p → 1 ≤ i → i ≤ p .count → BeginsAs a (begun rule p i)

@@ -1,6 +1,7 @@
 // The start: each agent begins, and what it sends waits on its channels.
 ghost use mathlib.Core.Path.{_≡_};
-ghost use Prim.Native.Nat.{_≤_};
+ghost use mathlib.Core.Bool.{false};
+ghost use Prim.Native.Nat.{ℕ, _≤_, _<_};
 ghost use Rattle.problem.specs.Problem.{Problem as Problem′, linked};
 ghost use Rattle.protocol.specs.Network.{startSheet};
 ghost use Rattle.packed.specs.Packed.{members};
@@ -47,13 +48,13 @@ fn listens(bans: &[u64; 66], i: u8) -> u16
     mask
 }
 
-// The set of the agents below i that it is linked with.
-fn informs(bans: &[u64; 66], i: u8) -> u16
-    requires { ⌜ (1 ≤ i) × (i ≤ 12) ⌝ }
-    ensures { λ m. ⌜ ((p : Problem′) → p .bans ≡ now (bans .entry) → members m ≡ (λ k. linked p i k)) ⌝ }
+// The set of the agents below i that it is linked with, where nobody beyond n is.
+fn informs(bans: &[u64; 66], n: u8, i: u8) -> u16
+    requires { ⌜ (1 ≤ i) × (i ≤ n) × (n ≤ 12) ⌝ }
+    ensures { λ m. ⌜ ((p : Problem′) → p .bans ≡ now (bans .entry) → ((k : ℕ) → n < k → linked p i k ≡ false) → members m ≡ (λ k. linked p i k)) ⌝ }
 {
     let mut mask: u16 = 0;
-    let mut k: u8 = 12;
+    let mut k = n;
     while i < k {
         let word = words_before(k) + i as usize - 1;
         mask = mask * 2 + (bans[word] != 0) as u16;
@@ -142,7 +143,7 @@ pub fn start(rule: u8, sheet: &[u8]) -> Started
             domain: domains[at],
             rule: kept,
         };
-        let agent = Agent::begin(own, listens(&bans, i), informs(&bans, i));
+        let agent = Agent::begin(own, listens(&bans, i), informs(&bans, n, i));
         r.agents[at] = agent;
         let value = agent.value;
         let mut row: u64 = 0;

@@ -1,26 +1,25 @@
--- The mask of the linked agents below, from agent 12 down to the one next to i. Assumes nothing.
-use mathlib.Core.Path.{_≡_, fun-ext, _∙_}
+-- The mask of the linked agents below, from agent n down to the one next to i.
+use mathlib.Core.Path.{_≡_, sym, fun-ext, _∙_}
 use mathlib.Core.Bool.{false, not}
 use Prim.Native.Nat.{_+_, _-_, _≤_}
 use native.Mathlib.Omega.{arith}
 use lib.Dec.{eqb}
 use lib.ListN.{getD}
 use borrow.Author.Needs.{needs}
-use Rattle.problem.specs.Problem.{linked}
 use Rattle.clauses.proofs.Pairs.{word-place}
-use Rattle.start.proofs.Words.{table, table-linked, not-linked, is-linked}
+use Rattle.start.proofs.Words.{not-linked, is-linked, linkedTo, none-beyond, as-far, all-linked}
 use Rattle.start.proofs.Masks.{Masked, mask-begins, mask-fits, mask-goes, mask-moved}
 use Rattle.start.proofs.informs.Statement.{statement}
 use Rattle.start.proofs.informs.Tie as tie
 
 abbrev Inv-loop : tie.InvT-loop
-Inv-loop bans i mask₀ k₀ mask k = (i ≤ k) × Masked (λ j. linked (table bans) i j) mask k
+Inv-loop bans n i mask₀ k₀ mask k = (i ≤ k) × Masked (linkedTo bans n i) mask k × (k ≤ n)
 
 abbrev μ-loop : tie.MeasureT-loop
-μ-loop bans i mask₀ k₀ mask k = k
+μ-loop bans n i mask₀ k₀ mask k = k
 
 loop-holds : tie.Need-loop-holds Inv-loop μ-loop
-loop-holds c = (omega arith, mask-begins _ _ (omega arith) (λ k h. not-linked _ _ _ (λ l b u. omega arith)))
+loop-holds c = (c .pre .1, mask-begins _ _ (c .pre .2) (λ k h. none-beyond _ _ _ k h), omega arith)
 
 words-before-requires : tie.Need-words-before-requires Inv-loop μ-loop
 words-before-requires c κs = (omega arith, c .before .loop .inv .1 .few)
@@ -62,7 +61,9 @@ loop-again c =
     let w = c .before .words-before .ensures in
     let p = word-place (k .args .i) (h .k) _ (w .0) (omega arith) (omega arith) (w .1) in (
       omega arith,
-      mask-goes _ _ _ _ (h .inv .1) (omega arith) (is-linked _ _ _ _ (omega arith) (omega arith) (h .inv .1 .few) (p .0)),
+      mask-goes _ _ _ _ (h .inv .1) (omega arith)
+          (is-linked _ _ _ _ (omega arith) (omega arith) (h .inv .1 .few) (p .0) ∙ sym (as-far _ _ _ (h .k) (h .inv .2))),
+      omega (arith, h .inv .2),
     )
 
 shl-result : tie.Need-shl-result Inv-loop μ-loop
@@ -70,12 +71,12 @@ shl-result c = search needs
 
 returns : tie.Need-returns Inv-loop μ-loop
 returns c =
-    λ p e.
+    λ p e none.
     let h = c .before .loop in
     let i = c .before .before .args .i in
     let d : h .k ≡ i = omega arith in
-    mask-moved _ (h .mask) i (rw d at (h .inv .1)) (λ k u. not-linked _ _ _ (λ l b t. omega arith))
-    ∙ fun-ext (λ k. table-linked p _ e _ k)
+    mask-moved _ (h .mask) i (rw d at (h .inv .1)) (λ k u. as-far _ _ i k (omega (arith, c .before .before .pre .1)) ∙ not-linked _ _ _ (λ l b t. omega arith))
+    ∙ fun-ext (all-linked p _ _ i e none)
 
 pub informs-spec : {M : Type 1} → statement M
 informs-spec =

@@ -21,7 +21,7 @@ use Rattle.network.specs.Empty.{emptyRecord}
 use Rattle.sheet.specs.Abstract.{problemOf, outcomeOf}
 use Rattle.start.specs.Started.{unbegun}
 use Rattle.start.proofs.Telling.{Telling, telling-begins, telling-goes}
-use Rattle.start.proofs.Beginning.{begun-by, informs-below}
+use Rattle.start.proofs.Beginning.{begun-by, not-beyond, informs-below}
 use Rattle.start.proofs.Turns.{Opening, not-begun, none-begun, told-channel, one-more}
 use Rattle.start.proofs.Opened.{opened, all-opened}
 use Rattle.start.proofs.Sheets.{keptRule, number-known, network-known, refused-empty, problem-ranged, few-agents}
@@ -65,6 +65,14 @@ few c =
     let d = c .before .before .before .before .before .before .before .before .before .given in
     few-agents _ _ (outcomeOf (d .result)) (d .ensures) _ (c .loop-test .taken)
 
+-- at most twelve in all
+many : (c : tie.In-loop Inv-loop2 μ-loop2 Inv-loop μ-loop)
+    → c .before .before .before .before .before .before .before .before .before .given .result .problem .count ≤ 12
+unfolding outcomeOf problemOf maxAgents
+many c =
+    let d = c .before .before .before .before .before .before .before .before .before .given in
+    problem-ranged _ _ (outcomeOf (d .result)) (d .ensures) _ (c .loop-test .taken) .high
+
 add-i : tie.Need-add-i Inv-loop2 μ-loop2 Inv-loop μ-loop
 add-i c = search needs
 
@@ -75,7 +83,7 @@ listens-requires : tie.Need-listens-requires Inv-loop2 μ-loop2 Inv-loop μ-loop
 listens-requires c κs = (omega arith, omega (arith, few (c .before)))
 
 informs-requires : tie.Need-informs-requires Inv-loop2 μ-loop2 Inv-loop μ-loop
-informs-requires c κs = (omega arith, omega (arith, few (c .before .before .before)))
+informs-requires c κs = (omega arith, omega arith, omega (arith, many (c .before .before .before)))
 
 begin-requires : tie.Need-begin-requires Inv-loop2 μ-loop2 Inv-loop μ-loop
 unfolding maxDomain problemOf outcomeOf domain
@@ -86,19 +94,21 @@ begin-requires c κs =
     let r = problem-ranged _ _ (outcomeOf (d .result)) (d .ensures) i (c .before .before .before .before .loop-test .taken) in
     let v = r .domained (suc i) (omega arith) (omega (arith, c .before .before .before .before .loop-test .taken)) in (
       record { first = omega arith; last = omega (arith, few (c .before .before .before .before)); some = v .0; few = v .1 },
-      λ j l u e. let q = linked-pair p (i + 1) j (rw (c .informs .ensures p refl) at e) in (q .1, q .2),
+      λ j l u e. let q = linked-pair p (i + 1) j (rw (c .informs .ensures p refl (not-beyond p r (i + 1))) at e) in (q .1, q .2),
     )
 
 -- its step is the definition's, and those it informs are below
 begins : (c : tie.After-begin Inv-loop2 μ-loop2 Inv-loop μ-loop)
     → BeginsAs (c .begin .result)
     (begun (c .before .before .before .before .before .before .before .before .before .before .before .before .if1 .kept) (problemOf (c .before .before .before .before .before .before .before .before .before .before .before .before .before .before .given .result .problem)) (suc (c .before .before .before .before .before .before .loop .i)))
-unfolding ownOf selfOf problemOf domain
+unfolding ownOf selfOf problemOf domain outcomeOf
 begins c =
-    let p = problemOf (c .before .before .before .before .before .before .before .before .before .before .before .before .before .before .given .result .problem) in
+    let d = c .before .before .before .before .before .before .before .before .before .before .before .before .before .before .given in
+    let p = problemOf (d .result .problem) in
     let i = c .before .before .before .before .before .before .loop .i in
+    let r = problem-ranged _ _ (outcomeOf (d .result)) (d .ensures) i (c .before .before .before .before .before .loop-test .taken) in
     begun-by _ p (suc i) _ _ _ _ (c .begin .ensures (bansOf p (suc i))) (rw add-one refl)
-    (rw add-one at (c .before .before .before .listens .ensures p refl)) (rw add-one at (c .before .informs .ensures p refl))
+    (rw add-one at (c .before .before .before .listens .ensures p refl)) (rw add-one at (c .before .informs .ensures p refl (not-beyond p r (i + 1))))
 
 below : (c : tie.After-begin Inv-loop2 μ-loop2 Inv-loop μ-loop) (j : ℕ) → members (c .begin .result .informs) j ≡ true
     → (suc (c .before .before .before .before .before .before .loop .i) < j) × (j ≤ 12)

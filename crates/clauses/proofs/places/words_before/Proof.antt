@@ -12,6 +12,9 @@ use Rattle.clauses.proofs.places.words_before.Tie as tie
 sub-k : tie.Need-sub-k
 sub-k c = search needs
 
+cast-k : tie.Need-cast-k
+cast-k c = search needs
+
 mul-result : tie.Need-mul-result
 mul-result c = omega (arith, square-fits (c .args .agent - 1) (search needs) .1)
 
@@ -25,4 +28,4 @@ returns c =
     let f = words-fit k (search needs) in (e ∙ ap pairsBefore (sub-one (c .args .agent)), omega arith)
 
 pub words-before-spec : {M : Type 1} → statement M
-words-before-spec = tie.close (tie.spec sub-k mul-result sub-result returns)
+words-before-spec = tie.close (tie.spec sub-k cast-k mul-result sub-result returns)
