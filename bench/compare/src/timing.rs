@@ -67,7 +67,8 @@ impl Samples {
 }
 
 /// Both sides. What else runs on the machine makes a sample longer and never shorter, so the least
-/// is what the work takes by itself, and the median what it took that day.
+/// is nearest to what the work takes by itself, if the machine was quiet at all; where it was so
+/// for one side only, the ratio of the least times misleads.
 #[derive(Clone, Copy)]
 pub struct Times {
     pub plain: Samples,
