@@ -15,7 +15,7 @@ use packed::{add, last_digit, with_digit};
 
 // A step done: the agent less the words of its nogoods, whom it sends what, with so many Backs, and whether the verdict "none" fell. It is its own value
 // that it tells.
-#[derive(Drop)]
+#[derive(Clone, Copy)]
 pub(crate) struct Done {
     pub state: State,
     pub links: u16,

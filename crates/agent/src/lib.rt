@@ -1,4 +1,6 @@
 // An agent (scanner): its record by value, and the three messages.
+#![tactic(auto)]
+
 ghost use Rattle.std.specs.Prelude.{◌≡◌};
 ghost use Rattle.agent_rules.specs.Agent.{Bans};
 ghost use Rattle.agent_rules.specs.Receiving.{receive, begin};
@@ -19,13 +21,13 @@ use choosing::{Bars, Own};
 
 // A packed partial assignment: digit k - 1 in base 16 is the value of agent k, 0 where it is unknown or not named. A view, or the left side of
 // a nogood.
-#[derive(Drop)]
+#[derive(Clone, Copy)]
 pub struct Lhs {
     pub digits: u64,
 }
 
 // A left side as a message carries it: its twelve digits, four to a word, agents 1 to 4 in `low`.
-#[derive(Drop)]
+#[derive(Clone, Copy)]
 pub struct Carried {
     pub low: u16,
     pub middle: u16,
@@ -33,7 +35,7 @@ pub struct Carried {
 }
 
 // A message is exactly one of three: news, refusal (the refused value and the left side), link request.
-#[derive(Drop)]
+#[derive(Clone, Copy)]
 pub enum Message {
     Info(u8),
     Back(u8, Carried),
@@ -41,7 +43,7 @@ pub enum Message {
 }
 
 // How many messages of each sort. A count stays at the top, the greatest number of 64 bits, when it reaches it.
-#[derive(Drop)]
+#[derive(Clone, Copy)]
 pub struct Counts {
     pub infos: u64,
     pub backs: u64,
@@ -51,7 +53,7 @@ pub struct Counts {
 // Bit k - 1 of `listens` and `informs` is agent k. Bit v - 1 of `stored` says whether own value v has a stored reason (nogood): the left side
 // whose digits stand at place v - 1 of `nogoods`. An empty left side is a reason too. `last` is the last value that it took, whether it still
 // holds it or not. The messages that it sent and received are counted.
-#[derive(Drop)]
+#[derive(Clone, Copy)]
 pub struct Agent {
     pub value: u8,
     pub last: u8,
@@ -65,7 +67,7 @@ pub struct Agent {
 }
 
 // A message and who gets it.
-#[derive(Drop)]
+#[derive(Clone, Copy)]
 pub struct Post {
     pub to: u8,
     pub message: Message,
@@ -73,7 +75,7 @@ pub struct Post {
 
 // The posts that are left of what a step sends, in order: link requests to the agents of the set `links`, upward; the Backs from place `next` on, up to
 // `count`; an Info of `value` to the agents of the set `told`, upward.
-#[derive(Drop)]
+#[derive(Clone, Copy)]
 pub struct Posts {
     pub links: u16,
     pub told: u16,
@@ -84,7 +86,7 @@ pub struct Posts {
 
 // The agent handed back changed, with what it sends, what its view bars now, and whether the verdict "none" fell. A Back stands in `backs` as the whole
 // nogood, packed: it goes to the highest-numbered agent that it names.
-#[derive(Drop)]
+#[derive(Clone, Copy)]
 pub struct Step {
     pub agent: Agent,
     pub posts: Posts,
@@ -94,7 +96,7 @@ pub struct Step {
 }
 
 // An agent taken apart: all of it but the words of its nogoods, with what its view bars.
-#[derive(Drop)]
+#[derive(Clone, Copy)]
 struct State {
     pub value: u8,
     pub last: u8,
@@ -107,7 +109,7 @@ struct State {
 
 // An agent with a message taken in. Either it has to choose, after link requests to the agents of the set `links`, `refuser` being the agent
 // whose refusal is worked, 0 where none is; or it is done, with an Info of its value to the agents of the set `told`.
-#[derive(Drop)]
+#[derive(Clone, Copy)]
 struct Taken {
     pub state: State,
     pub chooses: bool,

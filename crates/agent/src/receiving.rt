@@ -12,7 +12,7 @@ use choosing::{Bars, Own, sparing};
 use packed::{add, digit, first_digit, has, with_digit, within};
 
 // What a left side says to an agent: whether it holds; if so, whom of it the agent does not listen to, and its view with their values, with what that bars.
-#[derive(Drop)]
+#[derive(Clone, Copy)]
 struct Heard {
     pub holds: bool,
     pub links: u16,

@@ -1,1 +1,2 @@
 // The agent facts: theorems about the agent's rules; no code.
+#![tactic(auto)]

@@ -1,5 +1,7 @@
 // The entries by which `bench/` measures the proved libraries from another language: numbers and byte slices only. Each answer takes in all that was
 // worked out, so that nothing of it can be left out.
+#![tactic(auto)]
+
 ghost use Rattle.std.specs.Prelude.{◌≡◌, ◌/◌, length};
 ghost use Rattle.problem.specs.Sheet.{decode};
 ghost use Rattle.protocol.specs.Network.{Started as Started', start_sheet};
@@ -88,7 +90,7 @@ pub extern "C" fn bench_entry_settle(rule: u8, sheet: &[u8], rounds: u64) -> u64
 }
 
 // What calls come to: the network, and a sum that each number answered is mixed into.
-#[derive(Drop)]
+#[derive(Clone, Copy)]
 struct Reached {
     network: Network,
     sum: u64,

@@ -1,4 +1,6 @@
 // Steps a network call by call and draws it: `board [--rule N] SHEET [CALL ..]`, `board --image IMAGE [CALL ..]`.
+#![tactic(auto)]
+
 use board_text::options::{Options, goes_on, no_options, opens, option, put_unopened};
 use board_text::{Begun, Stepped, begin, begin_image, call};
 use tool::read_file;

@@ -5,14 +5,14 @@ ghost use Rattle.board_text.specs.Reading.{dash_in, ends_for, ends_in, call_in};
 use numerals::{Number, read_number};
 
 // Both ends of a line, 0 to 255, or what is none.
-#[derive(Drop)]
+#[derive(Clone, Copy)]
 pub enum Ends {
     Between(u8, u8),
     Missing,
 }
 
 // `A-B`: a delivery from A to B; `rN`: a run with N rounds; `wA-B`: a pick with the wish A to B; or a word that is none of these.
-#[derive(Drop)]
+#[derive(Clone, Copy)]
 pub enum Call {
     Deliver(u8, u8),
     Run(u64),

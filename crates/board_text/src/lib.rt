@@ -1,4 +1,6 @@
 // What `board` prints of a sheet and of calls on its network, and what each leaves.
+#![tactic(auto)]
+
 ghost use Rattle.std.specs.Prelude.{◌≡◌};
 ghost use Rattle.protocol.specs.Delivery.{deliver as deliver_by};
 ghost use Rattle.protocol.specs.Run.{run as run_by};
@@ -21,7 +23,7 @@ use options::{BAD_RULE, put_bad_rule};
 use words::printing::Out;
 
 // The number with which the rule, the sheet or the image is refused, or 0, and the dispatcher above the network that it gives.
-#[derive(Drop)]
+#[derive(Clone, Copy)]
 pub struct Begun {
     pub number: u8,
     pub dispatcher: Dispatcher,
@@ -29,7 +31,7 @@ pub struct Begun {
 }
 
 // The dispatcher that a call leaves, with its network.
-#[derive(Drop)]
+#[derive(Clone, Copy)]
 pub struct Stepped {
     pub dispatcher: Dispatcher,
     pub out: Out,

@@ -19,7 +19,7 @@ use numerals::{Number, read_number};
 use words::printing::Out;
 
 // How far the words are read.
-#[derive(Drop)]
+#[derive(Clone, Copy)]
 pub enum Stage {
     // All so far are options that are understood.
     Words,
@@ -33,7 +33,7 @@ pub enum Stage {
 
 // The rule, 1 where no option gives it; whether one gave it; whether the file is an image, which a program that draws may be told; whether the image
 // to be written is the smaller one, which a program that does not draw may be told.
-#[derive(Drop)]
+#[derive(Clone, Copy)]
 pub struct Options {
     pub draws: bool,
     pub rule: u8,
@@ -44,7 +44,7 @@ pub struct Options {
 }
 
 // What a word is, where no number is awaited.
-#[derive(Drop)]
+#[derive(Clone, Copy)]
 pub enum Kind {
     Rule,
     Image,

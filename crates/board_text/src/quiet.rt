@@ -9,7 +9,7 @@ use crate::with_network;
 use dispatch::Dispatcher;
 
 // Whether a word is a call, and the dispatcher that it leaves.
-#[derive(Drop)]
+#[derive(Clone, Copy)]
 pub struct Followed {
     pub understood: bool,
     pub dispatcher: Dispatcher,

@@ -3,7 +3,7 @@ ghost use Rattle.std.specs.Prelude.{◌≡◌, ◌+◌, ◌≤◌, ◌<◌, min,
 ghost use Rattle.cases.specs.Lines.{end_from, is_digit, with_digit, value_from, number_begins, with_number, numbers_in, small_of};
 
 // The numbers of a line, in order, at most 16; the places beyond `count` are zero.
-#[derive(Drop)]
+#[derive(Clone, Copy)]
 pub struct Numbers {
     pub count: usize,
     pub values: [u64; 16],

@@ -21,7 +21,7 @@ use crate::kinds::{BAN, CASE, EACH, HEX, SLOTS, ZEROS};
 use crate::lines::{Numbers, is_digit, small};
 
 // The first `length` bytes; those beyond are zero.
-#[derive(Drop)]
+#[derive(Clone, Copy)]
 pub struct Sheet {
     pub bytes: [u8; 33824],
     pub length: usize,

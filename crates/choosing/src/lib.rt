@@ -1,4 +1,6 @@
 // What a view bars, and the rule 'Choosing' as far as it works on words: the lowest own value that is free, with reasons for those below it.
+#![tactic(auto)]
+
 ghost use Rattle.std.specs.Prelude.{◌≡◌, true, not, ℕ, pred, ◌≤◌, length, get_or};
 ghost use Rattle.base.specs.Bits.{bit};
 ghost use Rattle.base.specs.Finite.{lowest, is_some};
@@ -14,7 +16,7 @@ pub mod barring;
 use packed::{digit, with_digit};
 
 // An agent's number and domain (slot count), and the network's rule.
-#[derive(Drop)]
+#[derive(Clone, Copy)]
 pub struct Own {
     pub number: u8,
     pub domain: u8,
@@ -36,21 +38,21 @@ impl Own {
 
 // What an agent's view bars, worked out from the view and the bans: bit w - 1 of byte k - 1 says that agent k has a known value that bans own
 // value w. Agents 1 to 8 stand in `low`, 9 to 16 in `high`.
-#[derive(Drop)]
+#[derive(Clone, Copy)]
 pub struct Bars {
     pub low: u64,
     pub high: u64,
 }
 
 // What going through own values comes to: the mask of the own values that have a reason then, and the join of the left sides met.
-#[derive(Drop)]
+#[derive(Clone, Copy)]
 struct Tried {
     pub stored: u8,
     pub whole: u64,
 }
 
 // What choosing comes to: the value taken, 0 where none is free, with what going through the values came to.
-#[derive(Drop)]
+#[derive(Clone, Copy)]
 pub struct Choice {
     pub value: u8,
     pub stored: u8,

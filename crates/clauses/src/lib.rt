@@ -1,4 +1,6 @@
 // The clauses of the shape, one small function each, and where things stand in a network's arrays.
+#![tactic(auto)]
+
 pub mod agents;
 pub mod channels;
 pub mod places;

@@ -1,4 +1,6 @@
 // The dispatcher above the network (rail): the host's favourite lines, one delivery a pick.
+#![tactic(auto)]
+
 ghost use Rattle.std.specs.Prelude.{◌≡◌};
 ghost use Rattle.agent_rules.specs.Counts.{raised};
 ghost use Rattle.dispatch_rules.specs.Dispatch.{turn, first_of, is_odd, evenly, pick as pick_by, dispatcher};
@@ -12,7 +14,7 @@ use network::Network;
 use turns::in_turn;
 
 // The network, the count of picks, and the place: the line that an even pick served last, 0 and 0 at first.
-#[derive(Drop)]
+#[derive(Clone, Copy)]
 pub struct Dispatcher {
     pub network: Network,
     pub picks: u64,
@@ -21,7 +23,7 @@ pub struct Dispatcher {
 }
 
 // The number of the rejection, 0 for none; the line served, 0 and 0 where the pick is refused; and the state.
-#[derive(Drop)]
+#[derive(Clone, Copy)]
 pub struct Picked {
     pub number: u8,
     pub from: u8,

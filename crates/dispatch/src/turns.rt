@@ -10,14 +10,14 @@ use network::Network;
 use packed::digit;
 
 // Where a walk over the lines stands, by sender, then receiver; behind the last receiver where it is over.
-#[derive(Drop)]
+#[derive(Clone, Copy)]
 pub struct Cursor {
     pub from: u8,
     pub to: u8,
 }
 
 // The line that a search served, and the network behind it; or the network given.
-#[derive(Drop)]
+#[derive(Clone, Copy)]
 pub struct Searched {
     pub found: bool,
     pub from: u8,

@@ -1,1 +1,2 @@
 // Lists of picks, deliveries and runs together; no code.
+#![tactic(auto)]

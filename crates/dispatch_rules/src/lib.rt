@@ -1,1 +1,2 @@
 // The dispatcher as rules, and what is claimed of it; no code.
+#![tactic(auto)]

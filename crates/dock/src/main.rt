@@ -1,4 +1,6 @@
 // Reads a sheet on standard input, has the scanners settle it and prints what they come to.
+#![tactic(auto)]
+
 use libc::STDIN_FILENO;
 use words::printing::Out;
 

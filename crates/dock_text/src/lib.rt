@@ -1,4 +1,6 @@
 // What `dock` does with a sheet: the scanners settle it, and what they come to is made a text.
+#![tactic(auto)]
+
 ghost use Rattle.std.specs.Prelude.{◌≡◌, ◌+◌, ◌≤◌, length};
 ghost use Rattle.protocol.specs.Run.{Plan};
 ghost use Rattle.io.specs.Counts.{IsPrefixLen};
@@ -14,7 +16,7 @@ use text::{append, append_line, append_number};
 use words::append_ending;
 
 // What a sheet comes to: the number of its fault, or 0, and the run on its start.
-#[derive(Drop)]
+#[derive(Clone, Copy)]
 pub struct Settlement {
     pub number: u8,
     pub ran: Answer,

@@ -1,4 +1,6 @@
 // The work on a network (rail): one delivery, or rounds. All of it is done here; the entries `deliver` and `run` stand over it.
+#![tactic(auto)]
+
 ghost use Rattle.std.specs.Prelude.{◌≡◌, true, ◌≤◌};
 ghost use Rattle.network.specs.Abstract.{network_of};
 ghost use Rattle.engine.specs.Working.{work_by};
@@ -17,7 +19,7 @@ use network::{Network, Place};
 use packed::{add, digit, has, one_less, one_more, with_digit};
 
 // How a run ends.
-#[derive(Drop)]
+#[derive(Clone, Copy)]
 pub enum Ending {
     None,
     Plan,
@@ -27,7 +29,7 @@ pub enum Ending {
 }
 
 // What a call hands back: the network, the full rounds made, the number of the rejection, 0 for none, and how the network stands.
-#[derive(Drop)]
+#[derive(Clone, Copy)]
 pub struct Answer {
     pub network: Network,
     pub rounds: u64,

@@ -6,7 +6,7 @@ use packed::{first_digit, one_less};
 
 // The line to visit, and what is left to visit after it: of its sender's channels a digit for each receiver, then those of the senders after it. Or the
 // round is over.
-#[derive(Drop)]
+#[derive(Clone, Copy)]
 pub struct Visit {
     pub from: u8,
     pub to: u8,

@@ -1,6 +1,8 @@
 // Forged networks, each one change away from one in shape, and what the public calls say of each: a line for each case. The test of the shape; a delivery
 // from 2 to 3, a run with one round and asking the value of agent 1, each with the number that it answers; and of a refused call whether it hands back the
 // network given, in every field.
+#![tactic(auto)]
+
 mod comparing;
 mod forging;
 

@@ -1,4 +1,6 @@
 // The dock's host keeps one network and has it altered where it stands.
+#![tactic(auto)]
+
 ghost use Rattle.protocol.specs.Delivery.{deliver};
 ghost use Rattle.network.specs.Abstract.{network_of};
 ghost use Rattle.run.specs.Answers.{DeliversAs};

@@ -1,5 +1,7 @@
 // Writes the image of the network that calls on a sheet leave, `image write [--rule N] [--small] SHEET [CALL ..]`, and the other form of an image,
 // `image move IMAGE`.
+#![tactic(auto)]
+
 ghost use Rattle.std.specs.Prelude.{◌≡◌, ◌≤◌, length, take};
 
 use board_text::options::{

@@ -1,1 +1,2 @@
 // The two forms of a rail's image: definitions and theorems, no code.
+#![tactic(auto)]

@@ -1,1 +1,2 @@
 // Networks across a write and a read; no code.
+#![tactic(auto)]

@@ -1,4 +1,6 @@
 // Images of either form: read, written and moved from one to the other. docs/RULES.md, 'The second form'.
+#![tactic(auto)]
+
 ghost use Rattle.std.specs.Prelude.{◌≡◌, true, false, ◌≤◌, eqb, length, get_or, take};
 ghost use Rattle.base.specs.Lent.{put as put_by};
 ghost use Rattle.network.specs.Abstract.{network_of};

@@ -84,7 +84,7 @@ fn agent(s: &[u8], at: usize) -> Agent
     }
 }
 
-#[derive(Drop)]
+#[derive(Clone, Copy)]
 pub struct AgentArray {
     pub agents: [Agent; 12],
 }

@@ -1,4 +1,6 @@
 // Reads a rail's image in the first form: from any bytes at all to the network that they are the image of, or to 13. docs/RULES.md, 'The image'.
+#![tactic(auto)]
+
 ghost use Rattle.std.specs.Prelude.{◌≡◌, ◌&&◌, ◌≤◌, length, get_or};
 ghost use Rattle.base.specs.Same.{same_numbers};
 ghost use Rattle.protocol.specs.Network.{empty_network};
@@ -23,7 +25,7 @@ use lines::{laid_out, places, rows};
 use table::{bans, domains};
 
 // Number 0 and the network, or 13 and the empty network.
-#[derive(Drop)]
+#[derive(Clone, Copy)]
 pub struct Loaded {
     pub number: u8,
     pub network: Network,

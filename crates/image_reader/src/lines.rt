@@ -15,7 +15,7 @@ use network::Place;
 use packed::with_digit;
 
 // How many messages each line has, and where its first one stands.
-#[derive(Drop)]
+#[derive(Clone, Copy)]
 pub struct Layout {
     pub lengths: [u8; 132],
     pub starts: [usize; 132],
@@ -86,7 +86,7 @@ fn message(s: &[u8], at: usize) -> Message
     Message::AddLink
 }
 
-#[derive(Drop)]
+#[derive(Clone, Copy)]
 pub struct PlaceArray {
     pub places: [Place; 1056],
 }

@@ -1,4 +1,6 @@
 // The writer of a rail's image, into a lent buffer. docs/RULES.md, 'The image'.
+#![tactic(auto)]
+
 ghost use Rattle.std.specs.Prelude.{◌≡◌, ◌≤◌, length, take};
 ghost use Rattle.network.specs.Abstract.{network_of};
 ghost use Rattle.lent.specs.Abstract.{written_of};

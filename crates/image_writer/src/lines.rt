@@ -8,7 +8,7 @@ ghost use Rattle.image_writer.specs.Lines.{sender_of, receiver_of};
 use packed::digit;
 
 // Sender and receiver.
-#[derive(Drop)]
+#[derive(Clone, Copy)]
 pub struct Ends {
     pub from: u8,
     pub to: u8,

@@ -44,7 +44,7 @@ pub fn put_heads(out: &mut [u8], at: usize, counts: &[u64; 12]) -> usize
 }
 
 // A message's sort, its slot and its left side, packed; zero where it has none.
-#[derive(Drop)]
+#[derive(Clone, Copy)]
 struct Parts {
     pub sort: u8,
     pub value: u8,

@@ -2,6 +2,8 @@
 // behind it included; read, and written again; moved to the other form; refused with zeros behind it, and in another layout; written into a buffer one
 // byte short; and, out of shape, not written at all. Of some images every byte is changed and every beginning is cut off: what is read of that writes back
 // to the same bytes, or is refused with 13. At the end stands how much was tried.
+#![tactic(auto)]
+
 ghost use Rattle.std.specs.Prelude.{◌≡◌, ◌≤◌, length, take};
 
 mod layout;
@@ -24,7 +26,7 @@ use words::printing::Out;
 const LENT: usize = 19760;
 
 // What was tried, and what failed.
-#[derive(Drop)]
+#[derive(Clone, Copy)]
 struct Tally {
     rails: u64,
     by_rule_2: u64,

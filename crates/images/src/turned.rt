@@ -5,7 +5,7 @@ use crate::layout::held;
 use network::Network;
 
 // A line that holds one message, and the number of that message; line 132 where there is none.
-#[derive(Drop)]
+#[derive(Clone, Copy)]
 struct Single {
     line: usize,
     number: usize,

@@ -1,8 +1,10 @@
 // Writing into a lent buffer: what a writer answers, and bytes copied into the buffer.
+#![tactic(auto)]
+
 ghost use Rattle.std.specs.Prelude.{◌≡◌, ◌++◌, ◌+◌, ◌≤◌, length, take, drop};
 
 // The answer: number 0 and the length written, or a refusal's number and 0.
-#[derive(Drop)]
+#[derive(Clone, Copy)]
 pub struct Written {
     pub number: u8,
     pub length: usize,

@@ -1,4 +1,6 @@
 // One of the little sheets, by its ordinal, on standard output: `little N`.
+#![tactic(auto)]
+
 use little_sheet::little;
 use numerals::{Number, read_number};
 use tool::{LONGEST_ARGUMENT, say, say_refused, say_surplus, written};

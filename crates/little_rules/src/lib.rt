@@ -1,1 +1,2 @@
 // Definitions and theorems of the little sheets; no code.
+#![tactic(auto)]

@@ -7,7 +7,7 @@ ghost use Rattle.little_sheet.specs.Abstract.{Holds, Means, bare_of};
 use sheet::Problem;
 
 // How many agents there are, and their slot counts, zero beyond them.
-#[derive(Drop)]
+#[derive(Clone, Copy)]
 pub struct Counts {
     pub agents: u8,
     pub first: u8,
@@ -16,7 +16,7 @@ pub struct Counts {
 }
 
 // Slot counts, and the set of bans as a number.
-#[derive(Drop)]
+#[derive(Clone, Copy)]
 pub struct Choice {
     pub counts: Counts,
     pub bans: u64,

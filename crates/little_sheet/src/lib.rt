@@ -1,4 +1,6 @@
 // The little sheets: one, by its ordinal, into a lent buffer.
+#![tactic(auto)]
+
 ghost use Rattle.std.specs.Prelude.{◌≡◌, ◌≤◌, length, take};
 ghost use Rattle.little_rules.specs.Putting.{put_little};
 ghost use Rattle.lent.specs.Abstract.{written_of};

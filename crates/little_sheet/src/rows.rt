@@ -10,7 +10,7 @@ use crate::choice::Counts;
 use sheet_writer::pack;
 
 // Lower and higher agent, and a value of each.
-#[derive(Drop)]
+#[derive(Clone, Copy)]
 pub struct Row {
     pub lower: u8,
     pub higher: u8,

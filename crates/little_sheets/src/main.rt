@@ -1,6 +1,8 @@
 // Makes all the little sheets and has the scanners settle each, by rule 1 with 100,000 rounds. Each must be good by a second reading too and say another
 // problem than those before; each plan must obey the bans, and where a run says `none` the search must find nothing. A buffer that is one byte short, and an
 // ordinal behind the last, must be refused, and the buffer stay as it was. Every failure is printed; at the end stands how many of each kind there are.
+#![tactic(auto)]
+
 mod keys;
 mod tallies;
 

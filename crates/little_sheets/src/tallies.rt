@@ -16,7 +16,7 @@ pub const SHORT: usize = 9;
 
 pub const FAILED: usize = 10;
 
-#[derive(Drop)]
+#[derive(Clone, Copy)]
 pub struct Tally {
     pub of: [u64; 11],
     pub out: Out,

@@ -7,7 +7,7 @@ use clauses::agents::agent_passes;
 use clauses::range::{domain_digits, in_range};
 
 // Whether all but the lines is in shape, and what the test of the lines goes by: the domains as digits, and every agent's sets.
-#[derive(Drop)]
+#[derive(Clone, Copy)]
 pub struct Frame {
     pub fits: bool,
     pub domains: u64,

@@ -1,4 +1,6 @@
 // The network (rail) by value, the test of its shape, and asking an agent's value.
+#![tactic(auto)]
+
 ghost use Rattle.std.specs.Prelude.{◌≡◌};
 ghost use Rattle.protocol.specs.Network.{empty_network, is_rule};
 ghost use Rattle.protocol.specs.Shape.{in_shape};
@@ -16,14 +18,14 @@ use clauses::places::{channel_at, place_at};
 use packed::digit;
 
 // One place of a channel.
-#[derive(Drop)]
+#[derive(Clone, Copy)]
 pub struct Place {
     pub message: Message,
 }
 
 // 132 channels (lines) of eight places, by sender, then receiver. A channel is a ring: its messages stand from its head on, so many as its count.
 // Heads and counts are rows of digits in base 16, one row for each sender, digit k for receiver k.
-#[derive(Drop)]
+#[derive(Clone, Copy)]
 pub struct Network {
     pub count: u8,
     pub rule: u8,
@@ -37,7 +39,7 @@ pub struct Network {
 }
 
 // Number 0 and the value, or a rejection's number and 0.
-#[derive(Drop)]
+#[derive(Clone, Copy)]
 pub struct Asked {
     pub number: u8,
     pub value: u8,

@@ -13,7 +13,7 @@ use packed::{digit, first_digit, has, with_digit};
 
 // The lines of sender `from` to the digits of `rest` are yet to be looked at, and of the one to `to` the first `left` messages; no link request fits there
 // any more where one was `asked`: the receiver informs the sender already, or one was met. Or it is over, and the shape fits or not.
-#[derive(Drop)]
+#[derive(Clone, Copy)]
 pub struct Sweep {
     pub from: u8,
     pub rest: u64,

@@ -1,1 +1,2 @@
 // What a change of the arrays does to the network; no code.
+#![tactic(auto)]

@@ -1,9 +1,11 @@
 // Numbers on the command line.
+#![tactic(auto)]
+
 ghost use Rattle.std.specs.Prelude.{◌≡◌, ◌+◌, ◌*◌, ◌<◌};
 ghost use Rattle.numerals.specs.Reading.{capped, number_in};
 
 // A number, or what is none.
-#[derive(Drop)]
+#[derive(Clone, Copy)]
 pub enum Number {
     Of(u64),
     Nothing,

@@ -6,7 +6,7 @@ ghost use Rattle.oracle.specs.Choices.{first_choice, carried_at, next_choice, so
 use crate::reading::{obeys, slots, wide};
 
 // Place i - 1 is the slot of scanner i. `over` says that the choices were gone through.
-#[derive(Drop)]
+#[derive(Clone, Copy)]
 pub struct Choice {
     pub of: [u8; 12],
     pub over: bool,

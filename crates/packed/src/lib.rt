@@ -1,4 +1,6 @@
 // Packed words: digits in base 16, and sets of agents.
+#![tactic(auto)]
+
 ghost use Rattle.std.specs.Prelude.{◌≡◌, ℕ, ◌+◌, ◌*◌, ◌-◌, ◌≤◌, ◌<◌, true, false, not, cond, ◌||◌, eqb, leb};
 ghost use Rattle.std.proofs.Math.Option.{some};
 ghost use Rattle.base.specs.Finite.{at, lowest, highest, all_to};

@@ -7,7 +7,7 @@ use network::Network;
 pub const TOP: u64 = 18446744073709551615;
 
 // Sender and receiver of a line; 0 and 0 for none.
-#[derive(Drop)]
+#[derive(Clone, Copy)]
 pub struct Ends {
     pub from: u8,
     pub to: u8,

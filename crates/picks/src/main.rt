@@ -1,6 +1,8 @@
 // Tries the dispatcher: worked picks, a line for each, and random wishes on random rails. Each random pick is held to a second computation of the line that it must
 // serve, of its count, its place and the rail it leaves; and every line that can be delivered all the time is watched to be served in time. Failures are printed;
 // at the end stands how many of each kind were tried.
+#![tactic(auto)]
+
 mod draws;
 mod judging;
 mod sheets;
@@ -16,7 +18,7 @@ use words::printing::Out;
 use worked::put_worked;
 
 // How many picks served the wish, went round, or were refused with 7, 8 and 10; rails played, failures, and the longest wait.
-#[derive(Drop)]
+#[derive(Clone, Copy)]
 struct Tally {
     rails: u64,
     wishes: u64,
@@ -87,7 +89,7 @@ fn with_rail(t: Tally, w: Watch) -> Tally {
 // ---- one rail
 
 // The dispatcher at work, and what has come of it.
-#[derive(Drop)]
+#[derive(Clone, Copy)]
 struct Play {
     dispatcher: Dispatcher,
     watch: Watch,
@@ -159,7 +161,7 @@ fn first_count(state: u64) -> u64 {
 // ---- all rails
 
 // Tally and generator.
-#[derive(Drop)]
+#[derive(Clone, Copy)]
 struct Trial {
     tally: Tally,
     state: u64,

@@ -3,7 +3,7 @@ use crate::draws::{draw, next};
 use network::Network;
 
 // A sheet of so many records, chained in their order.
-#[derive(Drop)]
+#[derive(Clone, Copy)]
 pub struct Draft {
     pub bytes: [u8; 256],
     pub records: usize,
@@ -72,7 +72,7 @@ pub fn rail(d: Draft, rule: u8) -> Network {
 // ---- random sheets
 
 // A sheet on its way, and the generator's state.
-#[derive(Drop)]
+#[derive(Clone, Copy)]
 pub struct Drawn {
     pub draft: Draft,
     pub state: u64,

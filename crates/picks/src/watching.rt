@@ -5,7 +5,7 @@ use crate::judging::{Ends, among, can, ends_of};
 use network::Network;
 
 // For each line the picks in a row before which it could be delivered, and which did not serve it; and the greatest of them so far.
-#[derive(Drop)]
+#[derive(Clone, Copy)]
 pub struct Watch {
     pub waited: [u64; 132],
     pub longest: u64,

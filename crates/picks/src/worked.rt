@@ -93,7 +93,7 @@ fn broken(r: Network) -> Network {
 // ---- printing
 
 // The dispatcher behind the picks so far.
-#[derive(Drop)]
+#[derive(Clone, Copy)]
 struct Hosted {
     dispatcher: Dispatcher,
     out: Out,

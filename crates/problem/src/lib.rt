@@ -1,1 +1,2 @@
 // Definitions and laws; no code.
+#![tactic(auto)]

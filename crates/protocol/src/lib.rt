@@ -1,1 +1,2 @@
 // Definitions, the claims and the worked nights; no code.
+#![tactic(auto)]

@@ -2,6 +2,8 @@
 // Each sheet must be refused with the number that a second reading gives, or accepted. On those accepted the run's word and random lists of deliveries are
 // held to an exhaustive search: at rest the slots obey all bans, and at the verdict no choice of slots does. Every failure is printed with its rule and
 // sheet; at the end stands how many of each kind were tried, under both rules together.
+#![tactic(auto)]
+
 mod tallies;
 
 use engine::Ending;

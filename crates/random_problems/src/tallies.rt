@@ -27,7 +27,7 @@ pub const GAPS: usize = 14;
 pub const FAILED: usize = 15;
 
 // How many of each kind, and the rule under which sheets are tried.
-#[derive(Drop)]
+#[derive(Clone, Copy)]
 pub struct Tally {
     pub of: [u64; 16],
     pub rule: u8,
@@ -95,7 +95,7 @@ pub fn judged(tally: Tally, kind: usize, right: bool, words: &[u8], s: &[u8]) ->
 // ---- the report
 
 // How many have failed so far.
-#[derive(Drop)]
+#[derive(Clone, Copy)]
 struct Account {
     failures: u64,
     out: Out,

@@ -5,7 +5,7 @@ use crate::draws::{next, pick};
 use oracle::reading::wide;
 
 // A sheet as it is drawn: its first `length` bytes, which records are on its chain, and the generator's state.
-#[derive(Drop)]
+#[derive(Clone, Copy)]
 pub struct Draft {
     pub bytes: [u8; 1024],
     pub length: usize,

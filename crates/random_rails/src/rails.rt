@@ -11,7 +11,7 @@ use packed::digit;
 // ---- lines
 
 // Sender and receiver of a line.
-#[derive(Drop)]
+#[derive(Clone, Copy)]
 pub struct Ends {
     pub from: u8,
     pub to: u8,
@@ -77,7 +77,7 @@ fn is_line(n: u8, from: u8, to: u8) -> bool
 // ---- deliveries
 
 // A list of deliveries so far: how many were accepted and refused, and how many were refused or accepted where they must not be.
-#[derive(Drop)]
+#[derive(Clone, Copy)]
 pub struct List {
     pub rail: Network,
     pub state: u64,

@@ -1,4 +1,6 @@
 // The network (rail) at work: one delivery, and the run.
+#![tactic(auto)]
+
 ghost use Rattle.std.specs.Prelude.{◌≡◌, ◌≤◌};
 ghost use Rattle.protocol.specs.Delivery.{deliver as deliver_by};
 ghost use Rattle.protocol.specs.Run.{allowed as allowed_by, run as run_by};

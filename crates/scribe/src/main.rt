@@ -1,4 +1,6 @@
 // Writes the sheet of a text on standard input, or the text of a sheet, on standard output: `scribe sheet`, `scribe text`.
+#![tactic(auto)]
+
 ghost use Rattle.std.specs.Prelude.{◌≡◌, ◌≤◌, length};
 
 use lent::Written;

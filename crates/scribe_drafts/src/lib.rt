@@ -1,4 +1,6 @@
 // The draft of a sheet, and what a statement comes to. docs/RULES.md, 'Sheets as text'.
+#![tactic(auto)]
+
 ghost use Rattle.std.specs.Prelude.{◌≡◌, true, List, ℕ, ◌≤◌, ◌<◌};
 ghost use Rattle.std.specs.Int.Signed.{le_z};
 ghost use Rattle.base.specs.Finite.{within};
@@ -15,7 +17,7 @@ use scribe_statements::{Ban, Gap, ban_in, gap_in, slots_in, within};
 use sheet_writer::pack;
 
 // n and the slot counts, 0 before they are said; the edition of the records so far, 0 while there is none; how many they are.
-#[derive(Drop)]
+#[derive(Clone, Copy)]
 pub struct Draft {
     pub count: u8,
     pub domains: [u8; 12],
@@ -24,7 +26,7 @@ pub struct Draft {
 }
 
 // The number of a fault, 1 to 14 in the order of docs/RULES.md, 0 for none; the scanner and the slot that it names.
-#[derive(Drop)]
+#[derive(Clone, Copy)]
 pub struct Fault {
     pub number: u8,
     pub agent: u64,
@@ -32,7 +34,7 @@ pub struct Fault {
 }
 
 // What a statement leaves: the draft, and a fault, if it has one.
-#[derive(Drop)]
+#[derive(Clone, Copy)]
 pub struct Step {
     pub draft: Draft,
     pub fault: Fault,

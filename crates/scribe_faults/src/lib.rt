@@ -1,4 +1,6 @@
 // What is said of a fault. docs/RULES.md, 'Sheets as text'.
+#![tactic(auto)]
+
 ghost use Rattle.std.specs.Prelude.{◌+◌, ◌≤◌, ◌≡◌, ◌≢◌, length};
 ghost use Rattle.text.specs.Text.{Appends};
 ghost use Rattle.scribe_rules.specs.Faults.{fault_text};

@@ -1,4 +1,6 @@
 // Reads a sheet written as text. docs/RULES.md, 'Sheets as text'.
+#![tactic(auto)]
+
 ghost use Rattle.std.specs.Prelude.{◌≡◌, cond, eqb, ltb};
 ghost use Rattle.scribe_rules.specs.Reading.{longest_text, sheet_of};
 ghost use Rattle.scribe_drafts.specs.Drafting.{Fit};
@@ -14,7 +16,7 @@ use sheet::Problem;
 use sheet_writer::put_sheet;
 
 // The fault and the number of its line, where there is one; else what was written.
-#[derive(Drop)]
+#[derive(Clone, Copy)]
 pub struct Read {
     pub fault: Fault,
     pub line: u64,

@@ -16,7 +16,7 @@ use scribe_statements::bytes::find;
 use scribe_statements::parts::{bare_length, next_word};
 
 // What the lines before `at` come to, and the number of the line there. Where a line was faulty, its fault and its number, and the end.
-#[derive(Drop)]
+#[derive(Clone, Copy)]
 pub struct Walk {
     pub draft: Draft,
     pub fault: Fault,

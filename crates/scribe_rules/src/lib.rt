@@ -1,1 +1,2 @@
 // Definitions of sheets as text; no code.
+#![tactic(auto)]

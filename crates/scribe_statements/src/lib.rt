@@ -1,4 +1,6 @@
 // The words of a line, and what stands behind the first of them, as a statement of its kind. docs/RULES.md, 'Sheets as text'.
+#![tactic(auto)]
+
 ghost use Rattle.std.specs.Prelude.{◌≡◌, false, List, [], ◌∷◌, ◌++◌, ℕ, ◌<◌, set};
 ghost use Rattle.base.specs.Finite.{within};
 ghost use Rattle.scribe_rules.specs.Statements.{ban_said, gap_said};
@@ -13,7 +15,7 @@ use numbers::{Signed, both, read_numeral};
 use parts::{has_word, next_word, numeral_at, place_at, signed_at};
 
 // Agent a at value s, agent b at value t.
-#[derive(Drop)]
+#[derive(Clone, Copy)]
 pub struct Ban {
     pub good: bool,
     pub a: u64,
@@ -23,7 +25,7 @@ pub struct Ban {
 }
 
 // Agents a and b, the least and the greatest gap.
-#[derive(Drop)]
+#[derive(Clone, Copy)]
 pub struct Gap {
     pub good: bool,
     pub a: u64,
@@ -33,7 +35,7 @@ pub struct Gap {
 }
 
 // How many slot counts there are, whether each is 1 to 8, and the counts, where they are so and no more than twelve.
-#[derive(Drop)]
+#[derive(Clone, Copy)]
 pub struct Slots {
     pub good: bool,
     pub count: usize,

@@ -5,14 +5,14 @@ ghost use Rattle.scribe_statements.specs.Parts.{ReadsNumber, ReadsPlace, ReadsSi
 use crate::bytes::find;
 
 // What a word says, where it is a number.
-#[derive(Drop)]
+#[derive(Clone, Copy)]
 pub struct Numeral {
     pub good: bool,
     pub value: u64,
 }
 
 // Where it is a place.
-#[derive(Drop)]
+#[derive(Clone, Copy)]
 pub struct Place {
     pub good: bool,
     pub agent: u64,
@@ -20,7 +20,7 @@ pub struct Place {
 }
 
 // Where it is a signed number: whether a minus stands before it, and the number.
-#[derive(Drop)]
+#[derive(Clone, Copy)]
 pub struct Signed {
     pub good: bool,
     pub minus: bool,

@@ -30,7 +30,7 @@ pub fn bare_length(line: &[u8]) -> usize
 }
 
 // Where a word stands, from its first byte to behind its last; nowhere, where both are the same.
-#[derive(Drop)]
+#[derive(Clone, Copy)]
 pub struct Word {
     pub start: usize,
     pub end: usize,

@@ -1,1 +1,2 @@
 // Theorems about sheets as text; no code.
+#![tactic(auto)]

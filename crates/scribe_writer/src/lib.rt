@@ -1,4 +1,6 @@
 // Writes the text of a sheet into a lent buffer. docs/RULES.md, 'Sheets as text'.
+#![tactic(auto)]
+
 ghost use Rattle.std.specs.Prelude.{◌≡◌};
 ghost use Rattle.base.specs.Lent.{put};
 ghost use Rattle.problem.specs.Sheet.{Valid, edition_in, decode};

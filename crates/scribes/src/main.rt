@@ -2,6 +2,8 @@
 // has no newline at its end. The name is printed, and what `scribe sheet` answers: the line on standard error; or the sheet's length and bytes, eight on a
 // line, and what `scribe text` answers of it. Long texts are built and printed likewise. Then come random sheets and their texts, whole and damaged:
 // every failure is printed, and at the end how many of each kind there are.
+#![tactic(auto)]
+
 mod long;
 mod printing;
 mod random;

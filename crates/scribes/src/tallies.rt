@@ -9,7 +9,7 @@ pub const DAMAGED: usize = 2;
 
 const FAILED: usize = 3;
 
-#[derive(Drop)]
+#[derive(Clone, Copy)]
 pub struct Tally {
     pub of: [u64; 4],
     pub out: Out,

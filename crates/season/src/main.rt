@@ -1,4 +1,6 @@
 // The figures of a stream of sheets on standard input: `season [--progress] < STREAM`.
+#![tactic(auto)]
+
 ghost use Rattle.std.specs.Prelude.{◌≡◌, length};
 
 use libc::{STDERR_FILENO, STDIN_FILENO};

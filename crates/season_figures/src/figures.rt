@@ -9,7 +9,7 @@ use dock_text::settle;
 use engine::Ending;
 
 // The rounds of the sheets that are counted: how many sheets, the fewest and the most of one, and their sum. Where there are none the others say nothing.
-#[derive(Drop)]
+#[derive(Clone, Copy)]
 pub struct Rounds {
     pub count: u64,
     pub fewest: u64,
@@ -18,7 +18,7 @@ pub struct Rounds {
 }
 
 // The sheets; those refused, by number; those that ended, by word: `none`, `plan`, `jammed`, `open`; the rounds of `none` and `plan`.
-#[derive(Drop)]
+#[derive(Clone, Copy)]
 pub struct Figures {
     pub sheets: u64,
     pub refused: [u64; 4],

@@ -8,7 +8,7 @@ ghost use Rattle.season_figures.specs.Pieces.{said, season_of, Steps, Advances};
 use crate::figures::{Figures, no_figures, with_sheet};
 
 // The figures so far. Where reading is over, `cut` says whether something broke off.
-#[derive(Drop)]
+#[derive(Clone, Copy)]
 pub struct Season {
     pub figures: Figures,
     pub cut: bool,
@@ -79,7 +79,7 @@ fn reach(from: usize, n: usize, end: usize) -> usize
 }
 
 // A season, and where in the stream its next piece begins.
-#[derive(Drop)]
+#[derive(Clone, Copy)]
 struct Reader {
     season: Season,
     at: usize,

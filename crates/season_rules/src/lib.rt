@@ -1,1 +1,2 @@
 // Definitions and theorems alone: there are no functions here.
+#![tactic(auto)]

@@ -1,4 +1,6 @@
 // What `season` prints of a season, made in a lent buffer.
+#![tactic(auto)]
+
 ghost use Rattle.std.specs.Prelude.{◌≡◌, ◌+◌, ◌≤◌, length};
 ghost use Rattle.std.proofs.Math.Option.{some};
 ghost use Rattle.io.specs.Counts.{IsPrefixLen};

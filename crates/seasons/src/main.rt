@@ -4,6 +4,8 @@
 //   raw                    its bytes go onto the stream as they are
 //   all                    all the little sheets go onto the stream
 //   season                 what `season` prints of the stream; the next one is empty
+#![tactic(auto)]
+
 ghost use Rattle.std.specs.Prelude.{◌≡◌, length};
 
 use cases::kinds::{ADD, ALL, CASE, RAW, SEASON, UNKNOWN, kind_of};
@@ -71,7 +73,7 @@ fn with_sheet(stream: &mut [u8], at: usize, bytes: &[u8], n: usize, framed: bool
 // ---- the text
 
 // What lies on the desk: the sheet of the case under hand, and how long the stream is.
-#[derive(Drop)]
+#[derive(Clone, Copy)]
 struct Desk {
     sheet: Sheet,
     at: usize,

@@ -1,1 +1,2 @@
 // Every step keeps the shape, forged networks included; no code.
+#![tactic(auto)]

@@ -1,4 +1,6 @@
 // Reads a sheet of either edition: from its bytes to a problem, or to the number of the first fault. docs/RULES.md, 'The sheet'.
+#![tactic(auto)]
+
 ghost use Rattle.std.specs.Prelude.{◌≡◌};
 ghost use Rattle.problem.specs.Problem.{empty_problem};
 ghost use Rattle.problem.specs.Sheet.{decode};
@@ -10,7 +12,7 @@ use sheet_parts::header::{header_good, two_bytes};
 use walk::walk;
 
 // The arrays are those of the definition: twelve slot counts, and 66 words of 64 bits for the pairs of agents.
-#[derive(Drop)]
+#[derive(Clone, Copy)]
 pub struct Problem {
     pub count: u8,
     pub domains: [u8; 12],
@@ -27,7 +29,7 @@ const BAD_RECORD: u8 = 3;
 const CYCLE: u8 = 4;
 
 // Number 0 and the problem, or a fault's number and the empty problem.
-#[derive(Drop)]
+#[derive(Clone, Copy)]
 pub struct Decoded {
     pub number: u8,
     pub problem: Problem,

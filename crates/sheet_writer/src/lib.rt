@@ -1,5 +1,7 @@
 // Writes a sheet into a lent buffer. Whoever writes one packs its records into numbers, one behind the other in an array (`pack`),
 // and hands over the array and how many there are (`put_sheet`). docs/RULES.md, 'The sheet'.
+#![tactic(auto)]
+
 ghost use Rattle.std.specs.Prelude.{◌≡◌, ◌≤◌, length};
 ghost use Rattle.base.specs.Lent.{put};
 ghost use Rattle.problem.specs.Writing.{written};

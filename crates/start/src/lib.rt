@@ -1,4 +1,6 @@
 // The start: each agent begins, and what it sends waits on its channels.
+#![tactic(auto)]
+
 ghost use Rattle.std.specs.Prelude.{◌≡◌, false, ℕ, ◌≤◌, ◌<◌};
 ghost use Rattle.problem.specs.Problem.{Problem as Problem', linked};
 ghost use Rattle.protocol.specs.Network.{start_sheet};
@@ -16,7 +18,7 @@ use packed::{first, with_digit, without};
 use sheet::Decoded;
 
 // The network and number 0, or the empty network and the number of the sheet's fault, 1 to 4, or 11 for a rule that is none.
-#[derive(Drop)]
+#[derive(Clone, Copy)]
 pub struct Started {
     pub network: Network,
     pub number: u8,

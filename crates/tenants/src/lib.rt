@@ -1,1 +1,2 @@
 // Theorems about two networks that are alike in one agent; no code.
+#![tactic(auto)]

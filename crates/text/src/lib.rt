@@ -1,4 +1,6 @@
 // Text made in a lent buffer, behind what stands there already.
+#![tactic(auto)]
+
 ghost use Rattle.std.specs.Prelude.{◌+◌, ◌≤◌, length};
 ghost use Rattle.text.specs.Text.{decimal, line_of, Appends};
 

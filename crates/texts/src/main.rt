@@ -7,6 +7,8 @@
 //                          or behind `--image` an image, built byte by byte
 //   end                    what it prints where there are no more words
 //   word 3-2               what `board` prints of a word of its command line behind the sheet, on the network and with the dispatcher that the line before left
+#![tactic(auto)]
+
 use board_text::options::{Options, goes_on, no_options, opens, option, put_unopened};
 use board_text::{Stepped, begin, begin_image, call};
 use cases::kinds::{BOARD, CASE, DOCK, END, OPTION, UNKNOWN, WORD, kind_of};
@@ -111,7 +113,7 @@ fn printed(s: Stepped, sheet: Sheet, kind: usize, n: Numbers, line: &[u8]) -> St
 }
 
 // What lies on the desk: the sheet of the case under hand, the options read for it, and the board.
-#[derive(Drop)]
+#[derive(Clone, Copy)]
 struct Desk {
     sheet: Sheet,
     options: Options,

@@ -1,1 +1,2 @@
 // Theorems about the network and lists of calls; no code.
+#![tactic(auto)]

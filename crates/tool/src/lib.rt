@@ -1,4 +1,6 @@
 // What the programs share that take files and write bytes: a file's bytes, all bytes on standard output, one line on standard error.
+#![tactic(auto)]
+
 ghost use Rattle.io.specs.Counts.{IsPrefixLen};
 
 use libc::{STDERR_FILENO, STDOUT_FILENO};
@@ -39,7 +41,7 @@ pub fn say_surplus(i: usize) {
 // ---- files
 
 // A file's length, or that it cannot be read.
-#[derive(Drop)]
+#[derive(Clone, Copy)]
 pub struct File {
     pub good: bool,
     pub length: usize,

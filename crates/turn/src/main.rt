@@ -1,4 +1,6 @@
 // Turns a sheet on standard input into one of the other edition, on standard output: `turn bans`, `turn gaps`.
+#![tactic(auto)]
+
 use lent::Written;
 use libc::STDIN_FILENO;
 use tool::{LONGEST_ARGUMENT, say, say_refused, say_surplus, written};

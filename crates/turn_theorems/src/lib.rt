@@ -1,1 +1,2 @@
 // Theorems about turning one edition of the sheet into the other; no code.
+#![tactic(auto)]

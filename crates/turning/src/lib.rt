@@ -1,4 +1,6 @@
 // Turns a sheet of one edition into one of the other, in a lent buffer. docs/RULES.md, 'Turning one edition into the other'.
+#![tactic(auto)]
+
 ghost use Rattle.std.specs.Prelude.{◌≡◌, true, ◌≤◌, length};
 ghost use Rattle.base.specs.Lent.{put};
 ghost use Rattle.problem.specs.Problem.{in_range};

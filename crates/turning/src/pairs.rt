@@ -9,7 +9,7 @@ use sheet::Problem;
 use sheet_parts::index::word_at;
 
 // Lower and higher agent, their slot counts, and their word of the table.
-#[derive(Drop)]
+#[derive(Clone, Copy)]
 pub struct Pair {
     pub lower: u8,
     pub higher: u8,

@@ -1,7 +1,7 @@
 // The gap sheet of twelve scanners with eight slots each that bans every gap between any two.
 
 // What it is and where it is written: 66 records of eight bytes behind the header.
-#[derive(Drop)]
+#[derive(Clone, Copy)]
 pub struct Full {
     pub bytes: [u8; 552],
     pub records: u8,

@@ -2,6 +2,8 @@
 // is written must be good by a second reading, and ban what was banned; there and back a second time must give the same bytes. A little sheet must
 // come back as it was. Refusals must have the number that a second reading gives, and leave the buffer as it was. Every failure is printed; at the end
 // stands how many of each kind there are.
+#![tactic(auto)]
+
 mod comparing;
 mod full;
 mod tallies;

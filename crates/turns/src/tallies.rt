@@ -17,7 +17,7 @@ pub const LONG: usize = 6;
 
 const FAILED: usize = 7;
 
-#[derive(Drop)]
+#[derive(Clone, Copy)]
 pub struct Tally {
     pub of: [u64; 8],
     pub out: Out,

@@ -1,4 +1,6 @@
 // What the programs print with: the words, and printing.
+#![tactic(auto)]
+
 ghost use Rattle.std.specs.Prelude.{◌≡◌, ◌+◌, ◌≤◌, length, take};
 ghost use Rattle.protocol.specs.Run.{ending_word};
 ghost use Rattle.io.specs.Counts.{IsPrefixLen};
@@ -11,7 +13,7 @@ use engine::Ending;
 use text::append;
 
 // A word: the first `length` letters.
-#[derive(Drop)]
+#[derive(Clone, Copy)]
 pub struct Word {
     pub letters: [u8; 6],
     pub length: usize,

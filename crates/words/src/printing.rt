@@ -7,7 +7,7 @@ use text::append_number;
 use tool::written;
 
 // Standard output, and whether something could not be written there.
-#[derive(Drop)]
+#[derive(Clone, Copy)]
 pub struct Out {
     pub failed: bool,
 }

@@ -11,7 +11,7 @@ use start::Started;
 use words::printing::Out;
 
 // What a line finds: a number, whether all else is as the line says, and the rail after it.
-#[derive(Drop)]
+#[derive(Clone, Copy)]
 pub struct Found {
     pub rail: Network,
     pub number: u64,

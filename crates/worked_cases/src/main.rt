@@ -22,6 +22,8 @@
 //   deliver 1-2 refused 7  the delivery is refused with this number
 //   line 2-4 holds 8       so many messages wait on a line
 //   line 2-3 holds 1 news of 1  the same, and each of them is news of this slot
+#![tactic(auto)]
+
 mod checks;
 mod rails;
 
@@ -39,7 +41,7 @@ use words::printing::Out;
 // ---- the tally
 
 // How many checks of each kind were made, and how many failed.
-#[derive(Drop)]
+#[derive(Clone, Copy)]
 struct Tally {
     of: [u64; 9],
     out: Out,
@@ -97,7 +99,7 @@ fn kept_after(rail: Network, kept: Network, kind: usize) -> Network {
 }
 
 // What lies on the desk: the sheet and the rail of the case under hand, the rail that is kept beside, and the tally.
-#[derive(Drop)]
+#[derive(Clone, Copy)]
 struct Desk {
     sheet: Sheet,
     rail: Network,
@@ -155,7 +157,7 @@ fn play(text: &[u8]) -> Tally {
 // ---- the report
 
 // How many have failed so far.
-#[derive(Drop)]
+#[derive(Clone, Copy)]
 struct Account {
     failures: u64,
     out: Out,

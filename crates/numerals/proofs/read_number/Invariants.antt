@@ -1,0 +1,14 @@
+-- Digit by digit, what is read so far says the same number with the digits left. Assumes nothing.
+use mathlib.Core.Path.{sym}
+use Prim.Native.Nat.{◌-◌}
+use native.Mathlib.Omega.{arith}
+use lib.ListN.{length}
+use Rattle.numerals.proofs.Numbers.{no-digits, Reading, reading_begins, low_byte, high_byte, reading-goes, reading-ends}
+use borrow.Author.Rules.{rules}
+use Rattle.numerals.proofs.read_number.Given as goal
+
+abbrev pub invariant-loop-i : goal.invariant-loop-i
+invariant-loop-i l = Reading l.s l.value l.i
+
+abbrev pub decreases-loop-i : goal.decreases-loop-i
+decreases-loop-i l = length l.s - l.i

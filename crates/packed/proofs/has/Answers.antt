@@ -1,0 +1,8 @@
+-- `has` is whether an agent is in a set.
+-- Its bit.
+use borrow.Author.Rules.{rules}
+use Rattle.packed.proofs.Sets.{member-at}
+use Rattle.packed.proofs.has.Goals as goal
+
+pub returns : goal.returns
+returns c = member-at _ _ c.requires.0

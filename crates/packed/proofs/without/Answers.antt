@@ -1,0 +1,18 @@
+-- `without` takes one agent out of a set.
+-- One bit less.
+use borrow.Author.Rules.{rules}
+use Prim.Native.Nat.{◌*◌, ◌-◌, ◌%◌, ◌^◌}
+use Rattle.packed.proofs.Sets.{Without, member-without}
+use Rattle.packed.proofs.without.Goals as goal
+
+pub overflow_sub-result-2 : goal.overflow_sub-result-2
+overflow_sub-result-2 c =
+    let removed : Without c.args.set c.args.k (1 * 2 ^ (c.args.k - 1) % 2 ^ 16) =
+    member-without _ _ c.requires.0 c.requires.1 c.requires.2 in
+    removed.out
+
+pub returns : goal.returns
+returns c =
+    let removed : Without c.args.set c.args.k (1 * 2 ^ (c.args.k - 1) % 2 ^ 16) =
+    member-without _ _ c.requires.0 c.requires.1 c.requires.2 in
+    (removed.is, removed.less)
