@@ -1,0 +1,20 @@
+-- `band` is the set of the pairs with a gap from least to greatest.
+-- The loop has the pairs of the gaps up to k - 8; each turn adds a diagonal.
+use Prim.Native.Nat.{◌-◌, ◌≤◌}
+use mathlib.Core.Path.{◌≡◌}
+use mathlib.Core.Bool.{Bool}
+use lib.IntN.{ℤ}
+use native.Mathlib.Omega.{arith}
+use mir.Syntax.{w8}
+use mir.Val.{to_z, of_z}
+use mir.Facts.{to_z-of_z}
+use borrow.Author.Rules.{rules}
+use Rattle.problem.specs.Row.{between}
+use Rattle.sheet_parts.proofs.Bands.{Upto, upto-none, upto-more, upto_all}
+use Rattle.sheet_parts.proofs.bans.band.Given as goal
+
+abbrev pub invariant-loop-k : goal.invariant-loop-k
+invariant-loop-k l = (l.k ≤ 15) × Upto l.k (between (to_z w8 l.least) (to_z w8 l.greatest)) l.word
+
+abbrev pub decreases-loop-k : goal.decreases-loop-k
+decreases-loop-k l = 15 - l.k

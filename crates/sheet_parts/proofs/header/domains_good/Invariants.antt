@@ -1,0 +1,19 @@
+-- `domains_good` is the test of each of the twelve slot counts.
+-- The loop tests from agent 12 down, as the definition does: what is left is the test of agents 1 to i.
+use Prim.Native.Nat.{◌≤◌}
+use mathlib.Core.Path.{◌≡◌, refl, sym, ◌∙◌}
+use native.Mathlib.Omega.{arith}
+use borrow.Author.Rules.{rules}
+use borrow.Author.Tests.{not-true, not-false}
+use Rattle.base.specs.Finite.{all_to}
+use Rattle.base.proofs.Loops.{all_to-none, all_to-fails, all_to-goes}
+use Rattle.problem.specs.Problem.{domain_in_range}
+use Rattle.problem.specs.Sheet.{without_bans}
+use Rattle.sheet_parts.proofs.header.domains_good.Given as goal
+
+abbrev pub invariant-loop-i : goal.invariant-loop-i
+invariant-loop-i l =
+    (l.i ≤ 12) × (all_to 12 (domain_in_range (without_bans l.s)) ≡ all_to l.i (domain_in_range (without_bans l.s)))
+
+abbrev pub decreases-loop-i : goal.decreases-loop-i
+decreases-loop-i l = l.i
