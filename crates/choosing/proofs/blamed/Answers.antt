@@ -18,28 +18,28 @@ pub with-requires : goal.with-requires
 unfolding max_named
 with-requires c =
     let lowest-first : lowest max_named 1 (λ k. bit (byte_of c.args.bars k) (pred c.args.w)) ≡ some c.first-first.result =
-        number-found _ _ c.first-first.ensures c.requires.1.2 in
+    number-found _ _ c.first-first.ensures c.requires.le_w.2 in
     let r = lowest-range max_named 1 _ _ lowest-first in (r.0, omega (arith, r.1))
 
 pub returns-then-k-ne0 : goal.returns-then-k-ne0
 unfolding self_of
 returns-then-k-ne0 c =
-    some-blamed c.args.own c.args.bars _ c.args.w c.requires.0 c.requires.1.0 c.requires.1.1
+    some-blamed c.args.own c.args.bars _ c.args.w c.requires.own_fits c.requires.le_w.0 c.requires.le_w.1
     c.naming.result c.naming.ensures c.first_of-k.result c.first_of-k.ensures c.if-k-ne0.true
 
 pub returns-else-k-ne0 : goal.returns-else-k-ne0
 unfolding self_of
 returns-else-k-ne0 c =
     let lowest-first : lowest max_named 1 (λ k. bit (byte_of c.args.bars k) (pred c.args.w)) ≡ some c.first-first.result =
-        number-found _ _ c.first-first.ensures c.requires.1.2 in
-    none-blamed c.args.own c.args.bars _ c.args.w c.requires.0 c.requires.1.0 c.requires.1.1
+    number-found _ _ c.first-first.ensures c.requires.le_w.2 in
+    none-blamed c.args.own c.args.bars _ c.args.w c.requires.own_fits c.requires.le_w.0 c.requires.le_w.1
     c.naming.result c.naming.ensures c.first_of-k.result c.first_of-k.ensures c.if-k-ne0.false
     c.first-first.result lowest-first
 
 pub returns-else-bars : goal.returns-else-bars
 returns-else-bars c =
     let lowest-first : lowest max_named 1 (λ k. bit (byte_of c.args.bars k) (pred c.args.w)) ≡ some c.first-first.result =
-        number-found _ _ c.first-first.ensures c.requires.1.2 in
-    alone-blamed c.args.own c.args.bars _ c.args.w c.requires.0 c.requires.1.0 c.requires.1.1
+    number-found _ _ c.first-first.ensures c.requires.le_w.2 in
+    alone-blamed c.args.own c.args.bars _ c.args.w c.requires.own_fits c.requires.le_w.0 c.requires.le_w.1
     c.first-first.result lowest-first c.with.result c.with.ensures
     (sym c.bars.ensures ∙ c.if-bars.false)

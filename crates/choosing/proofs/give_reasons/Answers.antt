@@ -23,15 +23,15 @@ use Rattle.choosing.proofs.give_reasons.Goals.{else-rest-eq1+else-tried-i, then-
 pub overflow_shl-rest : goal.overflow_shl-rest
 overflow_shl-rest c =
     let few : c.args.tried ≤ 8 =
-        omega (arith, c.requires.1.0.1, c.requires.0.few) in
+    omega (arith, c.requires.nogoods_len.1, c.requires.own_fits.few) in
     omega (arith, few)
 
 pub nonzero_rem-rest : goal.nonzero_rem-rest
 nonzero_rem-rest c =
     let few : c.args.tried ≤ 8 =
-        omega (arith, c.requires.1.0.1, c.requires.0.few) in
+    omega (arith, c.requires.nogoods_len.1, c.requires.own_fits.few) in
     let cut_at : 1 * 2 ^ c.args.tried % 2 ^ 16 ≡ 2 ^ c.args.tried =
-        rw (shl_exact {a = 1} 1 c.args.tried 16 (omega arith) (omega (arith, few)), one-mul) in
+    rw (shl_exact {a = 1} 1 c.args.tried 16 (omega arith) (omega (arith, few)), one-mul) in
     rw cut_at (pow_pos c.args.tried)
 
 pub overflow_cast-rest-3 : goal.overflow_cast-rest-3
@@ -40,37 +40,41 @@ overflow_cast-rest-3 c = record { fits = omega (arith, mod-le c.args.stored (1 *
 pub loop-rest-init : goal.loop-rest-init
 loop-rest-init c =
     let few : c.args.tried ≤ 8 =
-        omega (arith, c.requires.1.0.1, c.requires.0.few) in
+    omega (arith, c.requires.nogoods_len.1, c.requires.own_fits.few) in
     let cut_at : 1 * 2 ^ c.args.tried % 2 ^ 16 ≡ 2 ^ c.args.tried =
-        rw (shl_exact {a = 1} 1 c.args.tried 16 (omega arith) (omega (arith, few)), one-mul) in
-    (c.requires.1.0.0, omega arith, reasons-none _ _ _ _ c.requires.1.1, joined-none _, omega arith, rw cut_at (sym (div-one _)))
+    rw (shl_exact {a = 1} 1 c.args.tried 16 (omega arith) (omega (arith, few)), one-mul) in
+    (c.requires.nogoods_len.0, omega arith, reasons-none _ _ _ _ c.requires.coherent, joined-none _, omega arith, rw cut_at (sym (div-one _)))
 
 pub bounds-nogoods-i : goal.bounds-nogoods-i
 bounds-nogoods-i c =
     let few : c.args.tried ≤ 8 =
-        omega (arith, c.requires.1.0.1, c.requires.0.few) in
+    omega (arith, c.requires.nogoods_len.1, c.requires.own_fits.few) in
     omega (arith, (cut_has _ _ _ (rw c.loop-rest.invariant.5 at c.if-rest-eq1.true)).0, few)
 
 pub returns-then-tried-i : goal.returns-then-tried-i
 returns-then-tried-i c =
     let loop = c.loop-rest in
     let e : loop.i ≡ c.args.tried = omega (arith, loop.invariant.1) in
-    ((loop.invariant.0, rw e at loop.invariant.2), rw e at loop.invariant.3)
+    record {
+      nogoods_len_2 = (loop.invariant.0, rw e at loop.invariant.2);
+      whole_value = rw e at loop.invariant.3;
+    }
 
 pub blamed-k-requires : goal.blamed-k-requires
 blamed-k-requires c =
     let loop = c.loop-rest in
-    let room : loop.i < c.args.own.domain = omega (arith, c.requires.1.0.1, c.if-tried-i.false) in
-    let lacking = cut-lacks _ _ _ c.if-tried-i.false (rw loop.invariant.5 at c.if-rest-eq1.false) in (
-      c.requires.0,
-      (
+    let room : loop.i < c.args.own.domain = omega (arith, c.requires.nogoods_len.1, c.if-tried-i.false) in
+    let lacking = cut-lacks _ _ _ c.if-tried-i.false (rw loop.invariant.5 at c.if-rest-eq1.false) in
+    record {
+      own_fits = c.requires.own_fits;
+      le_w = (
         omega arith,
-        omega (arith, room, c.requires.0.few),
+        omega (arith, room, c.requires.own_fits.few),
         rw (add-one loop.i)
             (barred-by c.args.own (assignment c.args.view) c.args.bars c.args.stored c.args.nogoods.now loop.i
-            c.requires.0 room lacking c.args.tried c.requires.1.0.2 c.if-tried-i.false),
-      ),
-    )
+            c.requires.own_fits room lacking c.args.tried c.requires.nogoods_len.2 c.if-tried-i.false),
+      );
+    }
 
 pub digit-requires : goal.digit-requires
 unfolding max_named
@@ -91,29 +95,29 @@ loop-rest-preserved c =
     rw (loop.invariant.5, add-one loop.i, half (c.args.stored % 2 ^ c.args.tried) loop.i) in
     elim c.if-rest-eq1.branch [
       | then-rest-eq1 u ↦ let has = cut_has _ _ _ (rw loop.invariant.5 at u.if-rest-eq1.true) in
-    let room : loop.i < own.domain = omega (arith, has.0, c.requires.1.0.1) in
-    rw (u.lhs-1, u.nogoods-is) (
-      loop.invariant.0,
-      omega (arith, has.0),
-      reasons-kept own view c.args.bars c.args.stored c.args.nogoods.now loop.i c.requires.0 room _ has.1 loop.invariant.2,
-      joined-kept own view c.args.bars c.args.stored c.args.nogoods.now loop.i loop.reasoned loop.nogoods loop.whole
-          _ (omega (arith, room, c.requires.0.few)) loop.invariant.2 loop.invariant.3 loop.invariant.4 narrow has.1 u.reasoned-is,
-      wide,
-      half-left,
-    )
-      | else-rest-eq1+else-tried-i u ↦ let room : loop.i < own.domain = omega (arith, u.if-tried-i.false, c.requires.1.0.1) in
-    let is = rw u.with_digit-lhs.ensures.0 at u.way_told-else-rest-eq1-1.ensures in
-    let lacking = cut-lacks _ _ _ u.if-tried-i.false (rw loop.invariant.5 at u.if-rest-eq1.false) in
-    let more =
-    reasons-given own view c.args.bars c.args.stored c.args.nogoods.now loop.i c.requires.0 room lacking u.digit.result
-    u.way_told-else-rest-eq1-1.result loop.reasoned loop.nogoods loop.invariant.0 u.digit.ensures is loop.invariant.2 in
-    rw (u.nogoods-is, u.reasoned-is, u.lhs-is) (
-      simp length-set loop.invariant.0,
-      omega (arith, u.if-tried-i.false),
-      more,
-      joined-given own view c.args.bars c.args.stored c.args.nogoods.now loop.i loop.reasoned loop.nogoods loop.whole
-          u.way_told-else-rest-eq1-1.result (omega (arith, room, c.requires.0.few)) loop.invariant.2 loop.invariant.3 loop.invariant.4 (rw u.lhs-is at narrow) loop.invariant.0 more,
-      rw u.lhs-is at wide,
-      half-left,
-    )
+          let room : loop.i < own.domain = omega (arith, has.0, c.requires.nogoods_len.1) in
+          rw (u.nogoods-is, u.reasoned-is) (
+            loop.invariant.0,
+            omega (arith, has.0),
+            reasons-kept own view c.args.bars c.args.stored c.args.nogoods.now loop.i c.requires.own_fits room _ has.1 loop.invariant.2,
+            joined-kept own view c.args.bars c.args.stored c.args.nogoods.now loop.i loop.reasoned loop.nogoods loop.whole
+                _ (omega (arith, room, c.requires.own_fits.few)) loop.invariant.2 loop.invariant.3 loop.invariant.4 narrow has.1 u.lhs-is,
+            wide,
+            half-left,
+          )
+      | else-rest-eq1+else-tried-i u ↦ let room : loop.i < own.domain = omega (arith, u.if-tried-i.false, c.requires.nogoods_len.1) in
+          let is = rw u.digit.ensures.0 at u.with_digit-lhs.ensures in
+          let lacking = cut-lacks _ _ _ u.if-tried-i.false (rw loop.invariant.5 at u.if-rest-eq1.false) in
+          let more =
+          reasons-given own view c.args.bars c.args.stored c.args.nogoods.now loop.i c.requires.own_fits room lacking u.blamed-k.result
+          u.with_digit-lhs.result loop.reasoned loop.nogoods loop.invariant.0 u.blamed-k.ensures is loop.invariant.2 in
+          rw (u.nogoods-is, u.reasoned-is, u.lhs-is) (
+            simp length-set loop.invariant.0,
+            omega (arith, u.if-tried-i.false),
+            more,
+            joined-given own view c.args.bars c.args.stored c.args.nogoods.now loop.i loop.reasoned loop.nogoods loop.whole
+                u.with_digit-lhs.result (omega (arith, room, c.requires.own_fits.few)) loop.invariant.2 loop.invariant.3 loop.invariant.4 (rw u.lhs-is at narrow) loop.invariant.0 more,
+            rw u.lhs-is at wide,
+            half-left,
+          )
     ]

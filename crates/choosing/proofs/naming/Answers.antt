@@ -20,16 +20,16 @@ loop-i-preserved c =
     let loop = c.loop-i in
     let halved : loop.rest / 2 ≡ c.args.stored / 2 ^ (loop.i + 1) = rw (loop.invariant.2, add-one loop.i, half c.args.stored loop.i) in
     elim c.if-rest-eq1.branch [
-      | then-rest-eq1 u ↦ rw u.all-1 (
-      omega arith,
-      rw (add-one loop.i) (overlaid-stored c.args.stored c.args.nogoods.now loop.i loop.all (rw loop.invariant.2 at u.if-rest-eq1.true) loop.invariant.1),
-      halved,
-    )
+      | then-rest-eq1 u ↦ rw u.all-is (
+        omega arith,
+        rw (add-one loop.i) (overlaid-stored c.args.stored c.args.nogoods.now loop.i loop.all (rw loop.invariant.2 at u.if-rest-eq1.true) loop.invariant.1),
+        halved,
+      )
       | else-rest-eq1 u ↦ rw u.all-is (
-      omega arith,
-      rw (add-one loop.i) (overlaid-other c.args.stored c.args.nogoods.now loop.i loop.all (rw loop.invariant.2 at u.if-rest-eq1.false) loop.invariant.1),
-      halved,
-    )
+        omega arith,
+        rw (add-one loop.i) (overlaid-other c.args.stored c.args.nogoods.now loop.i loop.all (rw loop.invariant.2 at u.if-rest-eq1.false) loop.invariant.1),
+        halved,
+      )
     ]
 
 pub returns : goal.returns

@@ -27,10 +27,10 @@ offset_bounds-bans-k c = omega arith
 pub bounds-bans-k : goal.bounds-bans-k
 bounds-bans-k c =
     let met : (c.first_digit-k.result ≤ length c.args.bans.now) × (1 ≤ assignment c.loop-rest.rest c.first_digit-k.result)
-        × (assignment c.loop-rest.rest c.first_digit-k.result ≤ 8) =
-        let f = c.first_digit-k.ensures in
-        near c.args.own c.args.bans.now (assignment c.args.view) c.loop-rest.b (assignment c.loop-rest.rest) c.requires.0
-        c.requires.1 c.loop-rest.invariant c.first_digit-k.result f.2 f.3 f.1 in
+    × (assignment c.loop-rest.rest c.first_digit-k.result ≤ 8) =
+    let f = c.first_digit-k.ensures in
+    near c.args.own c.args.bans.now (assignment c.args.view) c.loop-rest.b (assignment c.loop-rest.rest) c.requires.able
+    c.requires.view_fits c.loop-rest.invariant c.first_digit-k.result f.2 f.3 f.1 in
     omega (arith, met.0)
 
 pub digit-requires : goal.digit-requires
@@ -39,10 +39,10 @@ digit-requires c = omega arith
 pub barred_at-requires : goal.barred_at-requires
 barred_at-requires c =
     let met : (c.first_digit-k.result ≤ length c.args.bans.now) × (1 ≤ assignment c.loop-rest.rest c.first_digit-k.result)
-        × (assignment c.loop-rest.rest c.first_digit-k.result ≤ 8) =
-        let f = c.first_digit-k.ensures in
-        near c.args.own c.args.bans.now (assignment c.args.view) c.loop-rest.b (assignment c.loop-rest.rest) c.requires.0
-        c.requires.1 c.loop-rest.invariant c.first_digit-k.result f.2 f.3 f.1 in
+    × (assignment c.loop-rest.rest c.first_digit-k.result ≤ 8) =
+    let f = c.first_digit-k.ensures in
+    near c.args.own c.args.bans.now (assignment c.args.view) c.loop-rest.b (assignment c.loop-rest.rest) c.requires.able
+    c.requires.view_fits c.loop-rest.invariant c.first_digit-k.result f.2 f.3 f.1 in
     rw c.digit.ensures.0 (met.1, met.2)
 
 pub with-b-requires : goal.with-b-requires
@@ -60,8 +60,8 @@ pub loop-rest-preserved : goal.loop-rest-preserved
 loop-rest-preserved c =
     let f = c.first_digit-k.ensures in
     rw c.with_digit-rest.ensures
-    (walk-goes c.args.own c.args.bans.now (assignment c.args.view) c.loop-rest.b (assignment c.loop-rest.rest) c.requires.0
-    c.requires.1 c.loop-rest.invariant c.first_digit-k.result f.2 f.3 f.1 c.with-b.result
+    (walk-goes c.args.own c.args.bans.now (assignment c.args.view) c.loop-rest.b (assignment c.loop-rest.rest) c.requires.able
+    c.requires.view_fits c.loop-rest.invariant c.first_digit-k.result f.2 f.3 f.1 c.with-b.result
     (λ j l h. rw (← c.digit.ensures.0, ← c.barred_at.ensures) (c.with-b.ensures j l h)))
 
 pub returns : goal.returns

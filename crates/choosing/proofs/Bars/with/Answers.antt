@@ -11,36 +11,36 @@ use Rattle.choosing.proofs.Bars.with.Goals as goal
 pub overflow_sub-b : goal.overflow_sub-b
 overflow_sub-b c =
     let low : Exchange 8 (8 * (c.args.k - 1)) c.args.self.low c.args.byte
-        (c.args.self.low / 2 ^ (8 * (c.args.k - 1)) % 256) =
-        exchange _ _ _ _ _ (omega arith) (omega arith) (omega arith) refl in
+    (c.args.self.low / 2 ^ (8 * (c.args.k - 1)) % 256) =
+    exchange _ _ _ _ _ (omega arith) (omega arith) (omega arith) refl in
     rw (masked 8 (8 * (c.args.k - 1)) c.args.self.low (omega arith)) low.taken
 
 pub overflow_add-b : goal.overflow_add-b
 overflow_add-b c =
     let low : Exchange 8 (8 * (c.args.k - 1)) c.args.self.low c.args.byte
-        (c.args.self.low / 2 ^ (8 * (c.args.k - 1)) % 256) =
-        exchange _ _ _ _ _ (omega arith) (omega arith) (omega arith) refl in
+    (c.args.self.low / 2 ^ (8 * (c.args.k - 1)) % 256) =
+    exchange _ _ _ _ _ (omega arith) (omega arith) (omega arith) refl in
     record { fits = rw (masked 8 (8 * (c.args.k - 1)) c.args.self.low (omega arith)) low.holds }
 
 pub overflow_sub-b-else-k-le8 : goal.overflow_sub-b-else-k-le8
 overflow_sub-b-else-k-le8 c =
     let high : Exchange 8 (8 * (c.args.k - 9)) c.args.self.high c.args.byte
-        (c.args.self.high / 2 ^ (8 * (c.args.k - 9)) % 256) =
-        exchange _ _ _ _ _ (omega arith) (omega arith) (omega arith) refl in
+    (c.args.self.high / 2 ^ (8 * (c.args.k - 9)) % 256) =
+    exchange _ _ _ _ _ (omega arith) (omega arith) (omega arith) refl in
     rw (masked 8 (8 * (c.args.k - 9)) c.args.self.high (omega arith)) high.taken
 
 pub overflow_add-b-else-k-le8 : goal.overflow_add-b-else-k-le8
 overflow_add-b-else-k-le8 c =
     let high : Exchange 8 (8 * (c.args.k - 9)) c.args.self.high c.args.byte
-        (c.args.self.high / 2 ^ (8 * (c.args.k - 9)) % 256) =
-        exchange _ _ _ _ _ (omega arith) (omega arith) (omega arith) refl in
+    (c.args.self.high / 2 ^ (8 * (c.args.k - 9)) % 256) =
+    exchange _ _ _ _ _ (omega arith) (omega arith) (omega arith) refl in
     record { fits = rw (masked 8 (8 * (c.args.k - 9)) c.args.self.high (omega arith)) high.holds }
 
 pub returns-then-k-le8 : goal.returns-then-k-le8
 returns-then-k-le8 c =
     let low : Exchange 8 (8 * (c.args.k - 1)) c.args.self.low c.args.byte
-        (c.args.self.low / 2 ^ (8 * (c.args.k - 1)) % 256) =
-        exchange _ _ _ _ _ (omega arith) (omega arith) (omega arith) refl in
+    (c.args.self.low / 2 ^ (8 * (c.args.k - 1)) % 256) =
+    exchange _ _ _ _ _ (omega arith) (omega arith) (omega arith) refl in
     λ j l h.
     rw (masked 8 (8 * (c.args.k - 1)) c.args.self.low (omega arith), low.is)
     (changed-low c.args.self c.args.k c.args.byte (omega arith) (omega arith) (omega arith) j l)
@@ -48,8 +48,8 @@ returns-then-k-le8 c =
 pub returns-else-k-le8 : goal.returns-else-k-le8
 returns-else-k-le8 c =
     let high : Exchange 8 (8 * (c.args.k - 9)) c.args.self.high c.args.byte
-        (c.args.self.high / 2 ^ (8 * (c.args.k - 9)) % 256) =
-        exchange _ _ _ _ _ (omega arith) (omega arith) (omega arith) refl in
+    (c.args.self.high / 2 ^ (8 * (c.args.k - 9)) % 256) =
+    exchange _ _ _ _ _ (omega arith) (omega arith) (omega arith) refl in
     λ j l h.
     rw (masked 8 (8 * (c.args.k - 9)) c.args.self.high (omega arith), high.is)
     (changed-high c.args.self c.args.k c.args.byte (omega arith) (omega arith) j l)

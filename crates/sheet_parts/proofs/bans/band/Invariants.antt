@@ -14,7 +14,7 @@ use Rattle.sheet_parts.proofs.Bands.{Upto, upto-none, upto-more, upto_all}
 use Rattle.sheet_parts.proofs.bans.band.Given as goal
 
 abbrev pub invariant-loop-k : goal.invariant-loop-k
-invariant-loop-k l = (l.k ≤ 15) × Upto l.k (between (to_z w8 l.least) (to_z w8 l.greatest)) l.word
+invariant-loop-k l = (l.k ≤ 15) × Upto l.k (between l.least l.greatest) l.word
 
 abbrev pub decreases-loop-k : goal.decreases-loop-k
 decreases-loop-k l = 15 - l.k

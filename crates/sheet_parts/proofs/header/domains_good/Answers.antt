@@ -17,13 +17,13 @@ loop-i-init c = (omega arith, refl)
 pub returns-then-not-domain_good : goal.returns-then-not-domain_good
 returns-then-not-domain_good c =
     let l = c.loop-i in
-    sym (l.invariant.1 ∙ all_to-fails l.i _ c.loop-i-test.true (sym c.domain_good.ensures ∙ not-true _ c.if-not-domain_good.true))
+    sym (l.invariant.1 ∙ all_to-fails l.i _ c.loop-i-test.true (sym c.domain_good.ensures ∙ c.if-not-domain_good.true))
 
 pub loop-i-preserved : goal.loop-i-preserved
 loop-i-preserved c =
     let l = c.loop-i in (
       omega arith,
-      l.invariant.1 ∙ all_to-goes l.i _ c.loop-i-test.true (sym c.domain_good.ensures ∙ not-false _ c.if-not-domain_good.false),
+      l.invariant.1 ∙ all_to-goes l.i _ c.loop-i-test.true (sym c.domain_good.ensures ∙ c.if-not-domain_good.false),
     )
 
 pub returns : goal.returns

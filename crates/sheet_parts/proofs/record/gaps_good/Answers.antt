@@ -10,12 +10,12 @@ use Rattle.sheet_parts.proofs.record.gaps_good.Goals as goal
 pub returns-then-not-gap_good : goal.returns-then-not-gap_good
 returns-then-not-gap_good c =
     let out = rw (to_z-of_z c.ranges.least) at c.gap_good.ensures in
-    simp (sym out ∙ not-true _ c.if-not-gap_good.true)
+    simp (sym out ∙ c.if-not-gap_good.true)
 
 pub returns-then-not-gap_good-2 : goal.returns-then-not-gap_good-2
 returns-then-not-gap_good-2 c =
     let out = rw (to_z-of_z c.ranges.greatest) at c.gap_good-2.ensures in
-    simp (sym out ∙ not-true _ c.if-not-gap_good-2.true, and-false)
+    simp (sym out ∙ c.if-not-gap_good-2.true, and-false)
 
 pub returns : goal.returns
 returns c =
@@ -24,6 +24,6 @@ returns c =
     rw (
       to_z-of_z c.ranges.least,
       to_z-of_z c.ranges.greatest,
-      sym low ∙ not-false _ c.if-not-gap_good.false,
-      sym high ∙ not-false _ c.if-not-gap_good-2.false,
+      sym low ∙ c.if-not-gap_good.false,
+      sym high ∙ c.if-not-gap_good-2.false,
     )

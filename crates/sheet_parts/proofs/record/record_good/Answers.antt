@@ -16,13 +16,13 @@ unfolding byte_at agents_in without_bans row_at row_of agents_good row_good reco
 returns-then-not-agents_good c =
     let start : record_start c.args.r ≡ 16 + 8 * c.args.r =
     start-at c.args.r c.requires.1 in
-    let other = sym c.agents_good.ensures ∙ not-true _ c.if-not-agents_good.true in
+    let other = sym c.agents_good.ensures ∙ c.if-not-agents_good.true in
     simp (start, other)
 
 pub fields_good-requires : goal.fields_good-requires
 unfolding byte_at agents_in
 fields_good-requires c =
-    let possible = sym c.agents_good.ensures ∙ not-false _ c.if-not-agents_good.false in
+    let possible = sym c.agents_good.ensures ∙ c.if-not-agents_good.false in
     named _ (16 + 8 * c.args.r) c.requires.0 (omega arith) (omega arith) possible
 
 pub returns-then-not-fields_good : goal.returns-then-not-fields_good
@@ -30,7 +30,7 @@ unfolding row_of row_good record_good
 returns-then-not-fields_good c =
     let start : record_start c.args.r ≡ 16 + 8 * c.args.r =
     start-at c.args.r c.requires.1 in
-    let unowned = sym c.fields_good.ensures ∙ not-true _ c.if-not-fields_good.true in
+    let unowned = sym c.fields_good.ensures ∙ c.if-not-fields_good.true in
     simp (start, unowned, and-false)
 
 pub returns-then-two_bytes : goal.returns-then-two_bytes
@@ -47,8 +47,8 @@ returns c =
     start-at c.args.r c.requires.1 in
     rw (
       start,
-      sym c.agents_good.ensures ∙ not-false _ c.if-not-agents_good.false,
-      sym c.fields_good.ensures ∙ not-false _ c.if-not-fields_good.false,
+      sym c.agents_good.ensures ∙ c.if-not-agents_good.false,
+      sym c.fields_good.ensures ∙ c.if-not-fields_good.false,
       ← c.two_bytes.ensures.0,
       ← c.two_bytes-2.ensures.0,
       le-leb _ _ c.if-two_bytes.false,

@@ -20,7 +20,7 @@ domain-requires c = omega arith
 pub returns-then-not-within : goal.returns-then-not-within
 unfolding owns byte_at row_at values_good
 returns-then-not-within c =
-    let unowned = sym c.within.ensures ∙ not-true _ c.if-not-within.true in
+    let unowned = sym c.within.ensures ∙ c.if-not-within.true in
     simp (← c.domain.ensures, unowned)
 
 pub overflow_cast-s-2 : goal.overflow_cast-s-2
@@ -37,7 +37,7 @@ unfolding owns byte_at row_at values_good
 returns c =
     rw (
       ← c.domain.ensures,
-      sym c.within.ensures ∙ not-false _ c.if-not-within.false,
+      sym c.within.ensures ∙ c.if-not-within.false,
       ← c.domain-2.ensures,
     )
     c.within-2.ensures

@@ -1,0 +1,71 @@
+-- `choose` is the rule of choosing.
+-- The trailing zeros of the mask of free values give the value taken, and how many get a reason.
+use borrow.Author.Rules.{rules}
+use Prim.Native.Nat.{ℕ, ◌+◌, ◌≤◌}
+use mathlib.Core.Path.{◌≡◌, sym, ◌∙◌}
+use mathlib.Core.Logic.{◌≢◌}
+use mathlib.Core.Option.{none, some}
+use native.Mathlib.Omega.{arith}
+use lib.Count.{count_trailing_zeros, trailing_le, leading_le}
+use Rattle.base.specs.Finite.{lowest}
+use Rattle.packed.proofs.Masks.{mask-lowest, mask-none}
+use Rattle.packed.specs.Packed.{mask_from}
+use Rattle.choosing.specs.Barring.{OwnFits}
+use Rattle.choosing.specs.Choosing.{left_free, Barred}
+use Rattle.choosing.specs.declared.Own.{Own}
+use Rattle.choosing.specs.declared.Bars.{Bars}
+use Rattle.choosing.proofs.Choices.{tried-all, chose_none, tried-below, next-free, chose-some}
+use Rattle.choosing.proofs.choose.Goals as goal
+use Rattle.choosing.proofs.choose.Goals.{else-mask-ne0, then-mask-ne0}
+
+-- a mask that has a bit: its trailing zeros give the lowest free value
+lowest-free : (own : Own) (stored : ℕ) (bars : Bars) (mask : ℕ) → OwnFits own → mask ≡ mask_from (left_free stored bars) 1 own.domain → mask ≢ 0
+    → lowest own.domain 1 (left_free stored bars) ≡ some (1 + count_trailing_zeros 8 mask)
+lowest-free own stored bars mask fits e n = rw e (mask-lowest _ 1 _ 8 fits.few (omega (arith, e, n)))
+
+none_free : (own : Own) (stored : ℕ) (bars : Bars) (mask : ℕ) → mask ≡ mask_from (left_free stored bars) 1 own.domain → mask ≡ 0
+    → lowest own.domain 1 (left_free stored bars) ≡ none
+none_free own stored bars mask e z = mask-none _ 1 _ (sym e ∙ z)
+
+-- at either end of a byte there are at most eight zeros; which end it must be is the law of the mask
+pub overflow_cast-tried : goal.overflow_cast-tried
+overflow_cast-tried c = record { fits = omega (arith, trailing_le 8 c.free-mask.result, leading_le 8 c.free-mask.result) }
+
+pub overflow_add-value : goal.overflow_add-value
+overflow_add-value c = record { fits = omega (arith, trailing_le 8 c.free-mask.result, leading_le 8 c.free-mask.result) }
+
+pub give_reasons-t-requires : goal.give_reasons-t-requires
+give_reasons-t-requires c =
+    let t : (c.if-mask-ne0.tried ≤ c.args.own.domain) × Barred c.args.stored c.args.bars c.if-mask-ne0.tried =
+        elim c.if-mask-ne0.branch [
+          | then-mask-ne0 u ↦
+              rw u.tried-is
+              (let t = tried-below _ _ _ _ (lowest-free c.args.own c.args.stored c.args.bars _ c.requires.own_fits c.free-mask.ensures u.if-mask-ne0.true) in
+              (omega (arith, t.0), t.1))
+          | else-mask-ne0 u ↦
+              rw u.tried-is
+              (omega arith, tried-all _ _ _ (none_free c.args.own c.args.stored c.args.bars _ c.free-mask.ensures u.if-mask-ne0.false))
+        ] in
+    record { own_fits = c.requires.own_fits; nogoods_len = (c.requires.nogoods_len.0, t.0, t.1); coherent = c.requires.nogoods_len.1 }
+
+pub returns : goal.returns
+returns c =
+    let g = c.give_reasons-t.ensures.nogoods_len_2.1 in
+    record {
+      nogoods_len_2 = (
+        c.give_reasons-t.ensures.nogoods_len_2.0,
+        elim c.if-mask-ne0.branch [
+          | then-mask-ne0 u ↦
+              let e = lowest-free c.args.own c.args.stored c.args.bars _ c.requires.own_fits c.free-mask.ensures u.if-mask-ne0.true in
+              rw u.value-is
+              (chose-some c.args.own _ c.args.bars c.args.stored c.args.nogoods.now _ _ c.requires.own_fits (rw u.tried-is at g)
+              (tried-below _ _ _ _ e).0 (next-free _ _ _ _ e))
+          | else-mask-ne0 u ↦ rw u.value-is (chose_none c.args.own _ c.args.bars _ _ (rw u.tried-is at g))
+        ],
+      );
+      whole_value = λ z.
+          elim c.if-mask-ne0.branch [
+            | then-mask-ne0 u ↦ absurd (omega (arith, z, u.value-is))
+            | else-mask-ne0 u ↦ rw u.tried-is at c.give_reasons-t.ensures.whole_value
+          ];
+    }
