@@ -9,8 +9,4 @@ use Rattle.text.proofs.append_line.Goals as goal
 
 pub returns : goal.returns
 unfolding line_of newline
-returns c =
-    let a = c.append-a.ensures in
-    let n = c.append_number-b.ensures in
-    let b = c.append.ensures in
-    (appends-then a (appends-then n.0 b), omega arith)
+returns c = (appends-then c.append-a.ensures (appends-then c.append_number-b.ensures.0 c.append.ensures), omega arith)

@@ -8,10 +8,7 @@ use Rattle.text.proofs.append.Reads as append-reads
 use Rattle.text.proofs.append_number.Goals as goal
 
 pub append-requires : goal.append-requires
-append-requires c = let d = c.decimal-k.ensures in omega (arith, d.0.1, digits-fit _ _ d.1.0 (omega arith))
+append-requires c = omega (arith, c.decimal-k.ensures.in_bounds.1, digits-fit _ _ c.decimal-k.ensures.len (omega arith))
 
 pub returns : goal.returns
-returns c =
-    let d = c.decimal-k.ensures in
-    let a = c.append.ensures in
-    (rw (d.1.1 ∙ fewest-decimal _ _ d.1.0) at a, omega (arith, d.0.1, digits-fit _ _ d.1.0 (omega arith), a.count))
+returns c = (rw (c.decimal-k.ensures.digits ∙ fewest-decimal _ _ c.decimal-k.ensures.len) at c.append.ensures, omega (arith, c.decimal-k.ensures.in_bounds.1, digits-fit _ _ c.decimal-k.ensures.len (omega arith), c.append.ensures.count))
