@@ -1,0 +1,15 @@
+-- `counts_at` has the slot counts at place k.
+-- In each of the three stretches by computation.
+use native.Mathlib.Omega.{arith}
+use borrow.Author.Rules.{rules}
+use Rattle.little_sheet.proofs.Counts.{one-agent, of_two, of_three}
+use Rattle.little_sheet.proofs.choice.counts_at.Goals as goal
+
+pub returns-then-k-lt2 : goal.returns-then-k-lt2
+returns-then-k-lt2 c = one-agent _ (omega arith)
+
+pub returns-then-k-lt6 : goal.returns-then-k-lt6
+returns-then-k-lt6 c = of_two _ (omega arith) (omega arith)
+
+pub returns : goal.returns
+returns c = of_three _ (omega arith) (omega arith)

@@ -1,0 +1,25 @@
+-- `with_ban` puts down pair k, if its bit is 1.
+-- One row more, or none.
+use Prim.Native.Nat.{◌%◌}
+use mathlib.Core.Path.{◌∙◌}
+use native.Mathlib.Omega.{arith}
+use borrow.Author.Rules.{rules}
+use borrow.Author.Tests.{eq-eqb, ne_eqb}
+use Rattle.sheet_writer.proofs.Filling.{left_out, put-down}
+use Rattle.little_sheet.specs.Abstract.{row_of}
+use Rattle.little_sheet.specs.Rows.{ban_at}
+use Rattle.little_sheet.proofs.rows.with_ban.Goals as goal
+
+pub returns-then-left-ne1 : goal.returns-then-left-ne1
+unfolding ban_at
+returns-then-left-ne1 c =
+    let a = c.args in
+    (left_out _ _ a.rows.now a.at (ne_eqb _ 1 c.if-left-ne1.true), omega arith)
+
+pub returns : goal.returns
+unfolding ban_at row_of
+returns c =
+    let a = c.args in
+    let row = c.pack.ensures ∙ c.row_at-row.ensures in
+    let yes = eq-eqb (a.left % 2) 1 (omega (arith, c.if-left-ne1.false)) in
+    (put-down _ _ a.rows.now a.at c.pack.result yes c.requires.1 row, omega arith)

@@ -1,0 +1,21 @@
+-- `sayable` tests all pairs.
+-- From agent n down, as the definition does: what is left is the test of agents 1 to j.
+use Prim.Native.Nat.{ℕ, pred, ◌≤◌}
+use mathlib.Core.Path.{◌≡◌, refl, sym, ◌∙◌}
+use mathlib.Core.Bool.{Bool, not}
+use native.Mathlib.Omega.{arith}
+use borrow.Author.Rules.{rules}
+use borrow.Author.Tests.{not-true, not-false}
+use Rattle.base.specs.Finite.{all_to}
+use Rattle.base.proofs.Loops.{all_to-none, all_to-fails, all_to-goes}
+use Rattle.problem.specs.Problem.{Problem}
+use Rattle.sheet.specs.Abstract.{problem_of}
+use Rattle.turn_rules.specs.Gaps.{gap_places, mixed_gap, sayable}
+use Rattle.turning.proofs.sayable.sayable.Given as goal
+
+abbrev pub invariant-loop-j : goal.invariant-loop-j
+invariant-loop-j l =
+    (l.j ≤ l.p.count) × (all_to l.p.count (unmixed (problem_of l.p)) ≡ all_to l.j (unmixed (problem_of l.p)))
+
+abbrev pub decreases-loop-j : goal.decreases-loop-j
+decreases-loop-j l = l.j
