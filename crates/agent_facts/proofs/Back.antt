@@ -8,7 +8,7 @@ use mathlib.Core.Option.{some}
 use Prim.Native.Nat.{ℕ, ◌≤◌, ◌<◌}
 use lib.Dec.{eqb}
 use borrow.Author.Tests.{eqb-false}
-use Rattle.base.specs.Finite.{at, is_some}
+use Rattle.base.specs.Finite.{is_some}
 use Rattle.base.proofs.Tests.{test, or_left, or_cases, eq_test}
 use Rattle.base.proofs.Search.{at_same, at_other}
 use Rattle.base.proofs.Lists.{All, All-append, All-right, any-right}

@@ -121,9 +121,9 @@ holding-links s a from lhs v t T =
       joins = λ q. absurd q;
       joined = λ y q. inl (rw T.informs at q);
       requests = λ y. rw (split y) (All-append _ (sent_to y (add_links s a lhs)) (sent_to y t.sent)
-          (gets-all (requests-get s a lhs y) (Requests a _ y)
+          (gets-all (requests-get s a lhs y) (Requests a (after (add_links s a lhs) t) y)
           (λ _ u. let (n, l) = unheard-true a lhs y u in (rw T.listens (or_right (a.listens y) _ n), l)))
-          (All-map _ _ (no-request a _ y) (sent_to y t.sent) (T.plain y)));
+          (All-map _ _ (no-request a (after (add_links s a lhs) t) y) (sent_to y t.sent) (T.plain y)));
       once = λ y. rw (split y) (one y (requests-get s a lhs y));
     }
   where
@@ -155,7 +155,7 @@ add-link-links a from =
           (λ u. rw (at_other a.informs from true y u) q);
       joins = λ _. at_same a.informs from true;
       joined = λ y q. eq_test y from (λ u. inr (u, tt)) (λ u. inl (rw (at_other a.informs from true y u) at q));
-      requests = λ y. gets-all (answer-get a from y) (Requests a _ y) (λ _ _. tt);
+      requests = λ y. gets-all (answer-get a from y) (Requests a (on_add_link a from) y) (λ _ _. tt);
       once = λ y. one-put [] (sent_to y (answer a from)) tt (gets-all (answer-get a from y) (Not IsAddLink) (λ _ _ z. z));
     }
 

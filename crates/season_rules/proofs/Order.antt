@@ -1,6 +1,6 @@
 -- The order of the sheets does not matter.
 -- Two sheets more are counted alike in either order; so a sheet can be moved to the front of a list, and what is left is by induction.
-use Prim.Native.Nat.{ℕ, ◌+◌, min, max}
+use Prim.Native.Nat.{ℕ, min, max}
 use mathlib.Core.Path.{◌≡◌, refl, sym, ap, ◌∙◌, fun_ext}
 use mathlib.Core.Bool.{true, false}
 use mathlib.Core.List.{List, [], ◌∷◌, ◌++◌, append-nil}

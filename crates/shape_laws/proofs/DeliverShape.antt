@@ -8,7 +8,6 @@ use mathlib.Core.Option.{some}
 use Prim.Native.Nat.{ℕ, ◌≤◌, ◌<◌}
 use native.Mathlib.Omega.{arith}
 use borrow.Author.Tests.{leb-true}
-use Rattle.base.specs.Finite.{at}
 use Rattle.base.proofs.Tests.{test, within-true, to-within, or_left, or_right}
 use Rattle.base.proofs.Search.{all_to-at}
 use Rattle.base.proofs.Lists.{All, All-append, All-both, All-map}

@@ -8,7 +8,6 @@ use native.Mathlib.Omega.{arith}
 use lib.ListN.{length, replicate, length-append}
 use lib.Dec.{eqb}
 use borrow.Author.Tests.{eqb-true}
-use Rattle.base.specs.Finite.{at}
 use Rattle.base.proofs.Tests.{test, to-within, or-false-both, to_both}
 use Rattle.base.proofs.Lists.{All, All-map, gather-all}
 use Rattle.base.proofs.Counting.{count_if}

@@ -8,7 +8,6 @@ use Prim.Native.Nat.{ℕ, zero, suc, pred, ◌≤◌}
 use lib.ListN.{length}
 use lib.Dec.{eqb}
 use borrow.Author.Tests.{eqb-true, eqb-false, eq-eqb}
-use Rattle.base.specs.Finite.{at}
 use Rattle.base.proofs.Tests.{test}
 use Rattle.base.proofs.Lists.{All, All-append, Any}
 use Rattle.problem.specs.Problem.{Problem}
@@ -92,7 +91,7 @@ module _ (p : Problem) (k : ℕ) (A : Act p k) (x : ℕ) where
       ⊎ Refusing
   heard-before l =
       rw (own_line A.line x) (test (chose A.move)
-      (λ c. ⊎_elim (λ v. inl (v ∙ view-listened _ _ A.move.message x l ∙ now)) (λ v. inr (v.0, c, v.1)) ((A.move.facts.busy c).view x))
+      (λ c. ⊎_elim (λ v. inl (v ∙ view-listened (receiver A) A.line.from A.move.message x l ∙ now)) (λ v. inr (v.0, c, v.1)) ((A.move.facts.busy c).view x))
       (λ c. inl ((A.move.facts.quiet c).view x ∙ now)))
     where
       now : quiet_view (receiver A) A.line.from A.move.message x
