@@ -5,8 +5,7 @@ use native.Mathlib.Omega.{arith}
 use borrow.Author.Rules.{rules}
 use Rattle.agent_rules.specs.Counts.{top, raised}
 use Rattle.agent_rules.proofs.Counts.{Raised, exact, full, raises}
-use Rattle.agent.proofs.counting.raised.Statement.{statement}
-use Rattle.agent.proofs.counting.raised.Tie as tie
+use Rattle.agent.proofs.counting.raised.Goals as goal
 
 sum : (c k : ℕ) → c ≤ 18446744073709551615 → k ≤ 18446744073709551615 - c → Raised c k → c + k ≡ raised c k
 unfolding top
@@ -18,17 +17,8 @@ unfolding top
 most c k h (exact u e) = absurd (omega arith)
 most c k h (full u e) = sym e
 
-sub-if1 : tie.Need-overflow-sub-if1
-sub-if1 c = search rules
+pub returns-then-k-c : goal.returns-then-k-c
+returns-then-k-c c = sum _ _ (omega arith) c.if-k-c.true (raises _ _)
 
-add-result : tie.Need-overflow-add-result
-add-result c = search rules
-
-returns : tie.Need-returns
-returns c = sum _ _ (omega arith) c.if1.true (raises _ _)
-
-returns-2 : tie.Need-returns-2
-returns-2 c = most _ _ (omega (arith, c.if1.false)) (raises _ _)
-
-pub raised-spec : {M : Type 1} → statement M
-raised-spec = tie.close (tie.spec sub-if1 add-result returns returns-2)
+pub returns : goal.returns
+returns c = most _ _ (omega (arith, c.if-k-c.false)) (raises _ _)
