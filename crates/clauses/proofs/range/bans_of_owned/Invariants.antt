@@ -1,0 +1,29 @@
+-- `bans_of_owned` is whether the ban words of one higher agent are between owned values.
+-- From agent j - 1 down. The invariant: what is asked of all words is asked of what is laid over each other and of those left.
+use borrow.Author.Rules.{rules}
+use Prim.Native.Nat.{ℕ, suc, pred, ◌+◌, ◌-◌, ◌<◌}
+use mathlib.Core.Path.{◌≡◌, sym, ap, ◌∙◌}
+use mathlib.Core.Bool.{Bool, ◌&&◌, and-true}
+use mathlib.Core.List.{List}
+use native.Mathlib.Omega.{arith}
+use native.Mathlib.Numerals.{sub-one}
+use lib.Dec.{eqb}
+use lib.ListN.{get_or}
+use Rattle.base.specs.Finite.{all_to}
+use Rattle.base.proofs.Peeling.{all_to-over}
+use Rattle.problem.specs.Problem.{Problem, domain, word_at, word_owned}
+use Rattle.clauses.specs.Parts.{Columns, Beyond}
+use Rattle.clauses.proofs.Overlaid.{overlaid}
+use Rattle.clauses.proofs.range.bans_of_owned.Given as goal
+
+abbrev pub word : Problem → ℕ → ℕ → Bool
+word p j i = word_owned (domain p i) (domain p j) (get_or p.bans (word_at i j) 0)
+
+abbrev pub invariant-loop-k : goal.invariant-loop-k
+invariant-loop-k l =
+    (l.k < l.j)
+    × ((p : Problem) → p.bans ≡ l.bans → Columns (domain p l.j) l.columns → ((i : ℕ) → i < 12 → Beyond (domain p (suc i)) (get_or l.rows i 0))
+    → all_to (pred l.j) (word p l.j) ≡ eqb l.over 0 && all_to l.k (word p l.j))
+
+abbrev pub decreases-loop-k : goal.decreases-loop-k
+decreases-loop-k l = l.k

@@ -1,0 +1,11 @@
+-- `beyond` has the bytes behind a domain.
+use borrow.Author.Rules.{rules}
+use native.Mathlib.Omega.{arith}
+use Rattle.clauses.proofs.Overlaid.{none-beyond, bytes-beyond}
+use Rattle.clauses.proofs.range.beyond.Goals as goal
+
+pub returns-then-d-ge8 : goal.returns-then-d-ge8
+returns-then-d-ge8 c = none-beyond c.args.d c.if-d-ge8.true
+
+pub returns : goal.returns
+returns c = bytes-beyond c.args.d (omega arith)

@@ -1,0 +1,18 @@
+-- `columns` has so many bits of each byte.
+-- All of them, or a number below 256 in each byte.
+use borrow.Author.Rules.{rules}
+use native.Mathlib.Omega.{arith}
+use Rattle.clauses.proofs.BanWords.{narrowed, wide}
+use Rattle.clauses.proofs.range.columns.Goals as goal
+
+pub returns-then-e-ge8 : goal.returns-then-e-ge8
+returns-then-e-ge8 c = wide c.args.e c.if-e-ge8.true
+
+pub overflow_sub-result : goal.overflow_sub-result
+overflow_sub-result c = (narrowed c.args.e (omega arith)).0
+
+pub overflow_mul-result : goal.overflow_mul-result
+overflow_mul-result c = record { fits = (narrowed c.args.e (omega arith)).1 }
+
+pub returns : goal.returns
+returns c = (narrowed c.args.e (omega arith)).2
