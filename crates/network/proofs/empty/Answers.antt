@@ -3,12 +3,8 @@ use mathlib.Core.Path.{refl}
 use Rattle.network.specs.Abstract.{no_place}
 use Rattle.network.specs.Empty.{empty_agent, empty_record}
 use Rattle.network.proofs.Zeros.{record-empty}
-use Rattle.network.proofs.empty.Statement.{statement}
-use Rattle.network.proofs.empty.Tie as tie
+use Rattle.network.proofs.empty.Goals as goal
 
-returns : tie.Need-returns
+pub returns : goal.returns
 unfolding empty_record empty_agent no_place
 returns c = (refl, record-empty)
-
-pub empty-spec : {M : Type 1} → statement M
-empty-spec = tie.close (tie.spec returns)
