@@ -38,13 +38,13 @@ pub record NetworkFits (r : Network) : Type 0 where
 
 -- ---- elements
 
-each_fits : {X D : Type 0} (to : X → D) (f : D → List Val → Fml) (P : X → Type 0) → ((x : X) (u : Val) → shadow (f (to x) (u ∷ [])) → P x)
-    → (xs : List X) (us : List Val) → shadow (each D f (map to xs) us) → All P xs
-each_fits to f P h [] us s = tt
-each_fits to f P h (x ∷ xs) [] s = absurd s
-each_fits to f P h (x ∷ xs) (u ∷ us) s = (h x u s.0, each_fits to f P h xs us s.1)
+each_fits : {X : Type 0} (f : X → List Val → Fml) (P : X → Type 0) → ((x : X) (u : Val) → shadow (f x (u ∷ [])) → P x)
+    → (xs : List X) (us : List Val) → shadow (each X f xs us) → All P xs
+each_fits f P h [] us s = tt
+each_fits f P h (x ∷ xs) [] s = absurd s
+each_fits f P h (x ∷ xs) (u ∷ us) s = (h x u s.0, each_fits f P h xs us s.1)
 
-agent-fits : (a : Agent) (u : Val) → shadow ((agent.the_field).row.own_val ((agent.the_type).to a) (u ∷ [])) → AgentFits a
+agent-fits : (a : Agent) (u : Val) → shadow ((agent.the_row).own_val a (u ∷ [])) → AgentFits a
 agent-fits a u s =
     let stored : Fits w8 a.stored = search rules in
     let listens : Fits w16 a.listens = search rules in
@@ -53,7 +53,7 @@ agent-fits a u s =
     let nogoods : (v : ℕ) → Fits w64 (get_or a.nogoods v 0) = λ v. search rules in
     record { stored = stored.fits; listens = listens.fits; informs = informs.fits; view = view.fits; nogoods = λ v. (nogoods v).fits }
 
-message-fits : (m : Message) (u : Val) → shadow ((place.the_field).row.own_val ((place.the_type).to (record { message = m })) (u ∷ [])) → MessageFits m
+message-fits : (m : Message) (u : Val) → shadow ((place.the_row).own_val (record { message = m }) (u ∷ [])) → MessageFits m
 message-fits (Info v) u s = tt
 message-fits (Back v p) u s =
     let low : Fits w16 p.low = search rules in
@@ -67,7 +67,7 @@ message-fits AddLink u s = tt
 pub network-fits : (r : Network) (vs : List Val) → shadow ((network.the_field).row.own_val ((network.the_type).to r) vs) → NetworkFits r
 network-fits r vs s =
     record {
-      long = simp length-map at s.1.1.1.1.1.1.1.0.1.0.1;
-      agents = each_fits (agent.the_type).to _ AgentFits agent-fits r.agents _ s.1.1.1.1.1.1.1.0.1.1;
-      places = each_fits (place.the_type).to _ _ (λ p. message-fits p.message) r.places _ s.1.1.1.1.1.1.1.1.1.1.0.1.1;
+      long = s.1.1.1.1.1.1.1.0.1.0.1;
+      agents = each_fits (agent.the_row).own_val AgentFits agent-fits r.agents _ s.1.1.1.1.1.1.1.0.1.1;
+      places = each_fits (place.the_row).own_val (λ p. MessageFits p.message) (λ p. message-fits p.message) r.places _ s.1.1.1.1.1.1.1.1.1.1.0.1.1;
     }
