@@ -3,7 +3,7 @@ use Rattle.std.specs.Prelude.{ℕ, pred, ◌≡◌, true, List, [], ◌∷◌, �
 use Prim.Native.Char.{code}
 use Prim.Native.String.{String, [] as empty, ◌∷◌ as ◌then◌}
 use Rattle.problem.specs.Sheet.{max_records}
-use Rattle.problem.specs.Cases.{header, row, gap_header, gap_row, minus, garbage, one, twos, eights, two_three, plain}
+use Rattle.problem.specs.Cases.{header, row, gap_header, gap_row, minus, garbage, twos, eights, two_three, plain}
 use Rattle.scribe_rules.specs.Statements.{Ban}
 use Rattle.scribe_rules.specs.Drafts.{Fault, NotStatement, SlotsFirst, SlotsTwice, AgentCount, DomainSize, BothKinds, NoAgent, SameAgent, HigherFirst, NotOwned, GapRange, LeastAbove, ManyRecords, LongText, Draft, no_draft, with_slots, ban_record, Taken, Next, Wrong, with_statement}
 use Rattle.scribe_rules.specs.Reading.{Outcome, Made, Faulty, read_from, sheet_of}

@@ -3,7 +3,6 @@ use mathlib.Core.Path.{refl, ap₂, ◌∙◌}
 use mathlib.Core.Bool.{not, ◌&&◌}
 use Rattle.scribe_statements.specs.Parts.{words_in}
 use Rattle.scribe_statements.proofs.Sayings.{ban-said}
-use borrow.Author.Rules.{rules}
 use Rattle.scribe_statements.proofs.ban_in.Goals as goal
 
 pub returns : goal.returns

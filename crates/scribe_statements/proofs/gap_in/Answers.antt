@@ -3,7 +3,6 @@ use mathlib.Core.Path.{refl, ap₂, ◌∙◌}
 use mathlib.Core.Bool.{not, ◌&&◌}
 use Rattle.scribe_statements.specs.Parts.{words_in}
 use Rattle.scribe_statements.proofs.Sayings.{gap-said}
-use borrow.Author.Rules.{rules}
 use Rattle.scribe_statements.proofs.gap_in.Goals as goal
 
 pub returns : goal.returns

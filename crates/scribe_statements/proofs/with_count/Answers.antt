@@ -1,10 +1,8 @@
 -- A count of the wrong size, or one more of the right size. Assumes nothing.
 use mathlib.Core.Path.{refl, sym, ◌∙◌}
 use native.Mathlib.Omega.{arith}
-use borrow.Author.Tests.{not-true, not-false}
 use Rattle.base.proofs.Tests.{within-true}
 use Rattle.scribe_statements.proofs.Sayings.{counts-wrong, counts-one}
-use borrow.Author.Rules.{rules}
 use Rattle.scribe_statements.proofs.with_count.Goals as goal
 
 pub returns-then-not-within : goal.returns-then-not-within

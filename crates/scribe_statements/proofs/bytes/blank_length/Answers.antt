@@ -1,21 +1,17 @@
 -- The bytes passed are blanks, and what is left is searched on. Assumes nothing.
-use Prim.Native.Nat.{◌-◌}
 use mathlib.Core.Path.{sym, ap, ◌∙◌}
 use mathlib.Core.Bool.{not}
-use lib.ListN.{length}
-use Rattle.scribe_rules.specs.Words.{is_blank}
-use Rattle.scribe_statements.proofs.Searching.{Passed, passed_none, found, passed-one, found_none}
-use borrow.Author.Rules.{rules}
+use Rattle.scribe_statements.proofs.Searching.{passed_none, found, passed-one, found_none}
 use Rattle.scribe_statements.proofs.bytes.blank_length.Goals as goal
 
 pub loop-i-init : goal.loop-i-init
 loop-i-init c = passed_none _ _
 
 pub returns-then-not-is_blank : goal.returns-then-not-is_blank
-returns-then-not-is_blank c = found _ _ _ c.loop-i.invariant c.loop-i-test.true (ap not (sym c.is_blank.ensures) ∙ c.if-not-is_blank.true)
+returns-then-not-is_blank c = found _ _ _ c.loop-i.invariant c.loop-i-test.true (ap not (sym c.is_blank.ensures ∙ c.if-not-is_blank.true))
 
 pub loop-i-preserved : goal.loop-i-preserved
-loop-i-preserved c = passed-one _ _ _ c.loop-i.invariant c.loop-i-test.true (ap not (sym c.is_blank.ensures) ∙ c.if-not-is_blank.false)
+loop-i-preserved c = passed-one _ _ _ c.loop-i.invariant c.loop-i-test.true (ap not (sym c.is_blank.ensures ∙ c.if-not-is_blank.false))
 
 pub returns : goal.returns
 returns c = found_none _ _ _ c.loop-i.invariant c.loop-i-test.false

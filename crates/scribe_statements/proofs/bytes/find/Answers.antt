@@ -1,10 +1,6 @@
 -- The bytes passed do not pass the test, and what is left is searched on. Assumes nothing.
-use Prim.Native.Nat.{◌-◌}
-use lib.Dec.{eqb}
-use lib.ListN.{length}
 use borrow.Author.Tests.{eq-eqb, ne_eqb}
-use Rattle.scribe_statements.proofs.Searching.{Passed, passed_none, found, passed-one, found_none}
-use borrow.Author.Rules.{rules}
+use Rattle.scribe_statements.proofs.Searching.{passed_none, found, passed-one, found_none}
 use Rattle.scribe_statements.proofs.bytes.find.Goals as goal
 
 pub loop-i-init : goal.loop-i-init

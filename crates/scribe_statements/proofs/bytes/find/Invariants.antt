@@ -2,9 +2,7 @@
 use Prim.Native.Nat.{◌-◌}
 use lib.Dec.{eqb}
 use lib.ListN.{length}
-use borrow.Author.Tests.{eq-eqb, ne_eqb}
-use Rattle.scribe_statements.proofs.Searching.{Passed, passed_none, found, passed-one, found_none}
-use borrow.Author.Rules.{rules}
+use Rattle.scribe_statements.proofs.Searching.{Passed}
 use Rattle.scribe_statements.proofs.bytes.find.Given as goal
 
 abbrev pub invariant-loop-i : goal.invariant-loop-i

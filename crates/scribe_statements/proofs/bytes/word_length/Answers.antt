@@ -1,10 +1,6 @@
 -- The bytes passed are no blanks, and what is left is searched on. Assumes nothing.
-use Prim.Native.Nat.{◌-◌}
 use mathlib.Core.Path.{sym, ◌∙◌}
-use lib.ListN.{length}
-use Rattle.scribe_rules.specs.Words.{is_blank}
-use Rattle.scribe_statements.proofs.Searching.{Passed, passed_none, found, passed-one, found_none}
-use borrow.Author.Rules.{rules}
+use Rattle.scribe_statements.proofs.Searching.{passed_none, found, passed-one, found_none}
 use Rattle.scribe_statements.proofs.bytes.word_length.Goals as goal
 
 pub loop-i-init : goal.loop-i-init

@@ -1,10 +1,8 @@
 -- The bytes passed are no blanks, and what is left is searched on. Assumes nothing.
 use Prim.Native.Nat.{◌-◌}
-use mathlib.Core.Path.{sym, ◌∙◌}
 use lib.ListN.{length}
 use Rattle.scribe_rules.specs.Words.{is_blank}
-use Rattle.scribe_statements.proofs.Searching.{Passed, passed_none, found, passed-one, found_none}
-use borrow.Author.Rules.{rules}
+use Rattle.scribe_statements.proofs.Searching.{Passed}
 use Rattle.scribe_statements.proofs.bytes.word_length.Given as goal
 
 abbrev pub invariant-loop-i : goal.invariant-loop-i

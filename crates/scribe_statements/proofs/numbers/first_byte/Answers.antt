@@ -1,6 +1,5 @@
 -- Nothing is at 0 of nothing. Assumes nothing.
 use Rattle.scribe_statements.proofs.Places.{empty-first}
-use borrow.Author.Rules.{rules}
 use Rattle.scribe_statements.proofs.numbers.first_byte.Goals as goal
 
 pub returns-then-s-eq0 : goal.returns-then-s-eq0

@@ -1,10 +1,7 @@
 -- Digit by digit, what is read so far says the same number with the digits left. Assumes nothing.
-use mathlib.Core.Path.{refl}
 use Prim.Native.Nat.{◌-◌}
-use native.Mathlib.Omega.{arith}
 use lib.ListN.{length}
-use Rattle.scribe_statements.proofs.Numerals.{no-numeral, Counted, counted_none, low_byte, high_byte, no_room, counted-one, counted-all}
-use borrow.Author.Rules.{rules}
+use Rattle.scribe_statements.proofs.Numerals.{Counted}
 use Rattle.scribe_statements.proofs.numbers.read_numeral.Given as goal
 
 abbrev pub invariant-loop-i : goal.invariant-loop-i

@@ -3,7 +3,6 @@ use mathlib.Core.Path.{refl, sym, ◌∙◌}
 use lib.Seq.{length-take-le}
 use Rattle.scribe_rules.specs.Words.{is_colon}
 use Rattle.scribe_statements.proofs.Places.{no-colon, reads-place}
-use borrow.Author.Rules.{rules}
 use Rattle.scribe_statements.proofs.numbers.read_place.Goals as goal
 
 pub returns-then-colon-s : goal.returns-then-colon-s

@@ -1,7 +1,6 @@
 -- By its first byte, if there is one. Assumes nothing.
 use mathlib.Core.Path.{refl, sym, ◌∙◌}
 use Rattle.scribe_statements.proofs.Places.{with-minus, with_none, some_first}
-use borrow.Author.Rules.{rules}
 use Rattle.scribe_statements.proofs.numbers.read_signed.Goals as goal
 
 pub slice_bounds-read_numeral-count : goal.slice_bounds-read_numeral-count

@@ -5,7 +5,6 @@ use lib.ListN.{length-take}
 use lib.Seq.{length-take-le}
 use Rattle.scribe_rules.specs.Words.{is_hash}
 use Rattle.scribe_statements.proofs.Pieces.{comment-bare}
-use borrow.Author.Rules.{rules}
 use Rattle.scribe_statements.proofs.parts.bare_length.Goals as goal
 
 pub slice_bounds-find-end : goal.slice_bounds-find-end

@@ -1,7 +1,6 @@
 -- A word that stands somewhere is there. Assumes nothing.
 use Rattle.scribe_statements.specs.Parts.{words_in}
 use Rattle.scribe_statements.proofs.Pieces.{word-there}
-use borrow.Author.Rules.{rules}
 use Rattle.scribe_statements.proofs.parts.has_word.Goals as goal
 
 pub returns : goal.returns

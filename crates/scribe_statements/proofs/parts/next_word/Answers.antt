@@ -1,7 +1,6 @@
 -- Past the blanks, and to the next one. Assumes nothing.
 use mathlib.Core.Path.{refl}
 use Rattle.scribe_statements.proofs.Pieces.{next-cut}
-use borrow.Author.Rules.{rules}
 use Rattle.scribe_statements.proofs.parts.next_word.Goals as goal
 
 pub returns : goal.returns

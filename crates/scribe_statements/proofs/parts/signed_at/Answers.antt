@@ -4,7 +4,6 @@ use mathlib.Core.List.{List}
 use Prim.Native.Nat.{ℕ}
 use Rattle.scribe_statements.specs.Parts.{ReadsSigned, words_in}
 use Rattle.scribe_statements.proofs.Pieces.{word-is}
-use borrow.Author.Rules.{rules}
 use Rattle.scribe_statements.proofs.parts.signed_at.Goals as goal
 
 pub returns : goal.returns

@@ -1,7 +1,6 @@
 -- By the last byte, if there is one. Assumes nothing.
 use native.Mathlib.Omega.{arith}
 use Rattle.scribe_statements.proofs.Pieces.{empty-bare, return-bare, other-bare}
-use borrow.Author.Rules.{rules}
 use Rattle.scribe_statements.proofs.parts.without_return.Goals as goal
 
 pub returns-then-n-eq0 : goal.returns-then-n-eq0

@@ -1,10 +1,7 @@
 -- One word after the other. Assumes nothing.
-use Prim.Native.Nat.{◌-◌, ◌≤◌}
-use lib.ListN.{drop}
 use native.Mathlib.Omega.{arith}
-use Rattle.scribe_statements.specs.Parts.{words_in, Leads}
+use Rattle.scribe_statements.specs.Parts.{words_in}
 use Rattle.scribe_statements.proofs.Pieces.{leads_goes, leads-there}
-use borrow.Author.Rules.{rules}
 use Rattle.scribe_statements.proofs.parts.word_at.Goals as goal
 
 pub loop-i-init : goal.loop-i-init

@@ -1,10 +1,7 @@
 -- One word after the other. Assumes nothing.
 use Prim.Native.Nat.{◌-◌, ◌≤◌}
 use lib.ListN.{drop}
-use native.Mathlib.Omega.{arith}
 use Rattle.scribe_statements.specs.Parts.{words_in, Leads}
-use Rattle.scribe_statements.proofs.Pieces.{leads_goes, leads-there}
-use borrow.Author.Rules.{rules}
 use Rattle.scribe_statements.proofs.parts.word_at.Given as goal
 
 abbrev pub invariant-loop-i : goal.invariant-loop-i

@@ -1,0 +1,31 @@
+-- `append_signed` puts a blank, a sign where there is one, and the number.
+-- By the sign of the byte.
+use mathlib.Core.List.{◌++◌}
+use native.Mathlib.Omega.{arith}
+use Rattle.text.proofs.Appending.{appends-then}
+use Rattle.scribe_rules.specs.Telling.{blank, dash, signed_figure}
+use Rattle.scribe_writer.proofs.Rooms.{room-first, room-rest, room-put, room-digits}
+use Rattle.scribe_writer.proofs.Signs.{sign-none, sign-some, number_is}
+use Rattle.scribe_writer.proofs.lines.append_signed.Goals as goal
+
+pub append_figure-requires : goal.append_figure-requires
+unfolding signed_figure
+append_figure-requires c = rw (sign-none _ c.if-b-lt128.true) at c.requires
+
+pub returns-then-b-lt128 : goal.returns-then-b-lt128
+unfolding signed_figure
+returns-then-b-lt128 c = rw (sign-none _ c.if-b-lt128.true) c.append_figure.ensures
+
+pub append-a-requires : goal.append-a-requires
+unfolding signed_figure blank dash
+append-a-requires c = room-put _ (room-first (blank ++ dash) _ (rw (sign-some _ c.if-b-lt128.false (omega arith)) at c.requires))
+
+pub append_number-requires : goal.append_number-requires
+unfolding signed_figure blank dash
+append_number-requires c = room-digits _ (room-rest (blank ++ dash) _ (rw (sign-some _ c.if-b-lt128.false (omega arith)) at c.requires) c.append-a.ensures)
+
+pub returns : goal.returns
+unfolding signed_figure blank dash
+returns c =
+    let b = c.args.b in
+    rw (sign-some b c.if-b-lt128.false (omega arith)) (appends-then c.append-a.ensures (number_is (omega arith) c.append_number.ensures.0))

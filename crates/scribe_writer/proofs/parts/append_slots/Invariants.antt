@@ -1,0 +1,23 @@
+-- `append_slots` puts the word and the slot count of each agent.
+-- The loop keeps what is still to be told: the counts from the next agent on, and the newline.
+use Prim.Native.Nat.{ℕ, suc, ◌-◌, ◌≤◌}
+use mathlib.Core.List.{List, ◌++◌}
+use Rattle.base.specs.Finite.{gather}
+use Rattle.problem.specs.Problem.{domain}
+use Rattle.sheet.specs.Abstract.{problem_of}
+use Rattle.sheet.specs.declared.Problem.{Problem}
+use Rattle.text.specs.Text.{newline}
+use Rattle.scribe_rules.specs.Telling.{figure}
+use Rattle.scribe_writer.proofs.Rooms.{Partly}
+use Rattle.scribe_writer.proofs.parts.append_slots.Given as goal
+
+-- the counts of so many agents from agent i on, and the newline
+abbrev pub counts : Problem → ℕ → ℕ → List ℕ
+counts p m i = gather m i (λ k. figure (domain (problem_of p) k)) ++ newline
+
+abbrev pub invariant-loop-i : goal.invariant-loop-i
+invariant-loop-i l =
+    (l.i ≤ l.p.count) × Partly l.initial.out l.initial.end (counts l.p l.p.count 1) l.out l.end (counts l.p (l.p.count - l.i) (suc l.i))
+
+abbrev pub decreases-loop-i : goal.decreases-loop-i
+decreases-loop-i l = l.p.count - l.i
