@@ -10,7 +10,7 @@ use Rattle.turning.proofs.Marks.{some-none-yet, some_more}
 use Rattle.turning.proofs.gaps.gaps_of.Given as goal
 
 abbrev pub invariant-loop-v : goal.invariant-loop-v
-invariant-loop-v l = (l.v ≤ l.d) × Marked 0 l.gaps (λ k. some_to l.v (λ l.v. gap_with l.e l.word l.v k))
+invariant-loop-v l = (l.v ≤ l.d) × Marked 0 l.gaps (λ k. some_to l.v (λ v. gap_with l.e l.word v k))
 
 abbrev pub decreases-loop-v : goal.decreases-loop-v
 decreases-loop-v l = l.d - l.v

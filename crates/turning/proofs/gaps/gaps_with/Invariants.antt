@@ -15,7 +15,7 @@ use Rattle.turning.proofs.gaps.gaps_with.Given as goal
 
 abbrev pub invariant-loop-w : goal.invariant-loop-w
 invariant-loop-w l =
-    (w ≤ l.e) × Marked l.gaps l.marked (λ k. some_to w (λ w. eqb (place_of l.v w) k && bit l.word (bit_at l.v w)))
+    (l.w ≤ l.e) × Marked l.gaps l.marked (λ k. some_to l.w (λ w. eqb (place_of l.v w) k && bit l.word (bit_at l.v w)))
 
 abbrev pub decreases-loop-w : goal.decreases-loop-w
 decreases-loop-w l = l.e - l.w
