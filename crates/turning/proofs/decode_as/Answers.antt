@@ -1,7 +1,6 @@
 -- `decode_as` is the definition's.
 -- Each way out is the check that stops there.
 use mathlib.Core.Path.{◌∙◌, sym, ap}
-use borrow.Author.Rules.{rules}
 use Rattle.problem.specs.Sheet.{fault_number, byte_at, edition_in}
 use Rattle.sheet.specs.Abstract.{outcome}
 use Rattle.turning.proofs.Answers.{as_short, as-other, as_same}

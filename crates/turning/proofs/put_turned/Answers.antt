@@ -7,7 +7,6 @@ use Rattle.problem.specs.Row.{Row}
 use Rattle.problem.specs.Writing.{written}
 use Rattle.sheet.specs.Abstract.{problem_of}
 use Rattle.sheet_writer.specs.Rows.{rows_in}
-use borrow.Author.Rules.{rules}
 use Rattle.turning.proofs.put_turned.Goals as goal
 
 pub returns : goal.returns

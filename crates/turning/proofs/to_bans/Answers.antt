@@ -5,7 +5,6 @@ use Rattle.base.specs.Lent.{untouched}
 use Rattle.sheet.specs.Abstract.{outcome_of}
 use Rattle.lent.specs.Abstract.{written_of}
 use Rattle.turning.proofs.Answers.{bans-ready, answers-no-bans, answers-bans}
-use borrow.Author.Rules.{rules}
 use Rattle.turning.proofs.to_bans.Goals as goal
 
 pub returns-then-d-ne0 : goal.returns-then-d-ne0

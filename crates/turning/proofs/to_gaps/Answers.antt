@@ -5,9 +5,7 @@ use Rattle.base.specs.Lent.{untouched}
 use Rattle.sheet.specs.Abstract.{outcome_of}
 use Rattle.lent.specs.Abstract.{written_of}
 use Rattle.turn_rules.specs.Turning.{not_sayable}
-use borrow.Author.Tests.{not-true, not-false}
 use Rattle.turning.proofs.Answers.{gaps-ready, answers-no-gaps, answers-unsayable, answers-gaps}
-use borrow.Author.Rules.{rules}
 use Rattle.turning.proofs.to_gaps.Goals as goal
 
 pub returns-then-d-ne0 : goal.returns-then-d-ne0

@@ -1,12 +1,11 @@
 -- `chosen` has the choice of an ordinal.
 -- What is left of the ordinal, in the slot counts from place k on, has the same choice.
-use Prim.Native.Nat.{ℕ, ◌-◌, ◌≤◌}
+use Prim.Native.Nat.{ℕ}
 use mathlib.Core.Path.{◌≡◌, refl, ap, ◌∙◌}
 use mathlib.Core.List.{[]}
 use native.Mathlib.Numerals.{add-one}
 use native.Mathlib.Omega.{arith}
 use lib.ListN.{get_or, drop}
-use borrow.Author.Rules.{rules}
 use Rattle.little_rules.specs.Little.{sizes, sets_of, choice_from}
 use Rattle.little_sheet.proofs.Counts.{at_small, at-sets, found_here, found-later, found_nowhere}
 use Rattle.little_sheet.proofs.choice.chosen.Goals as goal

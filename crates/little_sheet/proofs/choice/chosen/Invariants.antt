@@ -1,14 +1,9 @@
 -- `chosen` has the choice of an ordinal.
 -- What is left of the ordinal, in the slot counts from place k on, has the same choice.
-use Prim.Native.Nat.{ℕ, ◌-◌, ◌≤◌}
-use mathlib.Core.Path.{◌≡◌, refl, ap, ◌∙◌}
-use mathlib.Core.List.{[]}
-use native.Mathlib.Numerals.{add-one}
-use native.Mathlib.Omega.{arith}
-use lib.ListN.{get_or, drop}
-use borrow.Author.Rules.{rules}
-use Rattle.little_rules.specs.Little.{sizes, sets_of, choice_from}
-use Rattle.little_sheet.proofs.Counts.{at_small, at-sets, found_here, found-later, found_nowhere}
+use Prim.Native.Nat.{◌-◌, ◌≤◌}
+use mathlib.Core.Path.{◌≡◌}
+use lib.ListN.{drop}
+use Rattle.little_rules.specs.Little.{sizes, choice_from}
 use Rattle.little_sheet.proofs.choice.chosen.Given as goal
 
 abbrev pub invariant-loop-k : goal.invariant-loop-k

@@ -1,7 +1,6 @@
 -- `counts_at` has the slot counts at place k.
 -- In each of the three stretches by computation.
 use native.Mathlib.Omega.{arith}
-use borrow.Author.Rules.{rules}
 use Rattle.little_sheet.proofs.Counts.{one-agent, of_two, of_three}
 use Rattle.little_sheet.proofs.choice.counts_at.Goals as goal
 

@@ -4,10 +4,9 @@ use Prim.Native.Nat.{◌+◌}
 use native.Mathlib.Nat.{one-mul}
 use native.Mathlib.Omega.{arith}
 use lib.Pow.{shl_exact}
-use borrow.Author.Rules.{rules}
 use Rattle.little_sheet.proofs.choice.sets_of.Goals as goal
 
 pub returns : goal.returns
 returns c =
     let all = c.pairs.result + c.pairs-2.result + c.pairs-3.result in
-    rw (shl_exact {c.pairs.ensures = 1} 1 all 64 (omega arith) (omega arith), one-mul, c.pairs.ensures.0, c.pairs-2.ensures.0, c.pairs-3.ensures.0)
+    rw (shl_exact {a = 1} 1 all 64 (omega arith) (omega arith), one-mul, c.pairs.ensures.0, c.pairs-2.ensures.0, c.pairs-3.ensures.0)

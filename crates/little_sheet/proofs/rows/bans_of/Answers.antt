@@ -1,15 +1,9 @@
 -- `bans_of` puts down the pairs of a set of bans.
 -- Those put down, and behind them what the bits left choose from the pair at hand on.
-use Prim.Native.Nat.{◌-◌, ◌≤◌}
-use mathlib.Core.Path.{◌≡◌, refl, sym, ◌∙◌}
-use mathlib.Core.Logic.{⊎_elim}
+use mathlib.Core.Path.{refl, sym, ◌∙◌}
 use native.Mathlib.Numerals.{add-one}
 use native.Mathlib.Omega.{arith}
-use lib.ListN.{length}
-use borrow.Author.Rules.{rules}
-use Rattle.little_rules.specs.Little.{chosen}
-use Rattle.little_sheet.specs.Rows.{rows_from}
-use Rattle.little_sheet.proofs.Pairs.{Going, going-begins, going-skipped, going-owned, going-ends}
+use Rattle.little_sheet.proofs.Pairs.{going-begins, going-skipped, going-owned, going-ends}
 use Rattle.little_sheet.proofs.rows.bans_of.Goals as goal
 use Rattle.little_sheet.proofs.rows.bans_of.Goals.{else-owned, then-owned}
 
@@ -21,12 +15,12 @@ loop-k-preserved c =
     let l = c.loop-k in
     let own = sym c.owned.ensures in
     elim c.if-owned.branch [
-      | then-owned u ↦ let f = u.2.ensures.0 in
-          rw (add-one l.k, u.5, u.6, u.7) (
+      | then-owned u ↦ let f = u.with_ban-count.ensures.0 in
+          rw (add-one l.k, u.rows-is, u.count-is, u.left-is) (
             omega arith,
-            omega (arith, u.2.ensures.1, l.invariant.1),
+            omega (arith, u.with_ban-count.ensures.1, l.invariant.1),
             f.long ∙ l.invariant.2,
-            going-owned _ _ _ l.count l.k l.left (omega arith) l.invariant.3 (own ∙ u.0.true) _ _ f,
+            going-owned _ _ _ l.count l.k l.left (omega arith) l.invariant.3 (own ∙ u.if-owned.true) _ _ f,
           )
       | else-owned u ↦ rw (add-one l.k, u.rows-is, u.count-is, u.left-is) (
         omega arith,

@@ -1,15 +1,11 @@
 -- `bans_of` puts down the pairs of a set of bans.
 -- Those put down, and behind them what the bits left choose from the pair at hand on.
 use Prim.Native.Nat.{◌-◌, ◌≤◌}
-use mathlib.Core.Path.{◌≡◌, refl, sym, ◌∙◌}
-use mathlib.Core.Logic.{⊎_elim}
-use native.Mathlib.Numerals.{add-one}
-use native.Mathlib.Omega.{arith}
+use mathlib.Core.Path.{◌≡◌}
 use lib.ListN.{length}
-use borrow.Author.Rules.{rules}
 use Rattle.little_rules.specs.Little.{chosen}
 use Rattle.little_sheet.specs.Rows.{rows_from}
-use Rattle.little_sheet.proofs.Pairs.{Going, going-begins, going-skipped, going-owned, going-ends}
+use Rattle.little_sheet.proofs.Pairs.{Going}
 use Rattle.little_sheet.proofs.rows.bans_of.Given as goal
 
 abbrev pub invariant-loop-k : goal.invariant-loop-k

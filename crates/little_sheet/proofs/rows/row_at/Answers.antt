@@ -1,7 +1,5 @@
 -- `row_at` is pair k.
 -- Field by field.
-use mathlib.Core.Logic.{⊎_elim}
-use borrow.Author.Rules.{rules}
 use borrow.Author.Tests.{lt-ltb, le-ltb}
 use native.Mathlib.Omega.{arith}
 use Rattle.little_sheet.specs.Abstract.{row_of}

@@ -3,7 +3,6 @@
 use Prim.Native.Nat.{◌%◌}
 use mathlib.Core.Path.{◌∙◌}
 use native.Mathlib.Omega.{arith}
-use borrow.Author.Rules.{rules}
 use borrow.Author.Tests.{eq-eqb, ne_eqb}
 use Rattle.sheet_writer.proofs.Filling.{left_out, put-down}
 use Rattle.little_sheet.specs.Abstract.{row_of}

@@ -1,7 +1,6 @@
 -- `has` is the bit.
 -- A shift divides by a power of two.
 use mathlib.Core.Path.{refl}
-use borrow.Author.Rules.{rules}
 use Rattle.base.specs.Bits.{bit}
 use Rattle.turning.proofs.bits.has.Goals as goal
 

@@ -3,8 +3,6 @@
 use mathlib.Core.Path.{sym, ap, ◌∙◌}
 use mathlib.Core.Bool.{not}
 use native.Mathlib.Omega.{arith}
-use borrow.Author.Rules.{rules}
-use borrow.Author.Tests.{not-true, not-false}
 use Rattle.base.specs.Bits.{bit}
 use Rattle.turning.proofs.Runs.{not-begun, begun_first, begun-above}
 use Rattle.turning.proofs.gaps.begins.Goals as goal

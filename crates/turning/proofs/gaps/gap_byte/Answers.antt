@@ -1,6 +1,5 @@
 -- `gap_byte` is the definition's.
 use mathlib.Core.Path.{refl}
-use borrow.Author.Rules.{rules}
 use Rattle.turn_rules.specs.Gaps.{gap_byte}
 use Rattle.turning.proofs.gaps.gap_byte.Goals as goal
 

@@ -1,11 +1,10 @@
 -- `gaps_of` marks the gaps of all pairs that the word has.
 -- After v turns those of 1 to v of the lower.
-use Prim.Native.Nat.{◌+◌, ◌-◌, ◌≤◌}
+use Prim.Native.Nat.{◌+◌}
 use mathlib.Core.Path.{◌≡◌, refl}
 use native.Mathlib.Omega.{arith}
-use borrow.Author.Rules.{rules}
-use Rattle.turn_rules.specs.Gaps.{some_to, has_gap}
-use Rattle.turning.specs.Rows.{Marked, gap_with}
+use Rattle.turn_rules.specs.Gaps.{has_gap}
+use Rattle.turning.specs.Rows.{gap_with}
 use Rattle.turning.proofs.Marks.{some-none-yet, some_more}
 use Rattle.turning.proofs.gaps.gaps_of.Goals as goal
 

@@ -1,15 +1,9 @@
 -- `gaps_with` marks the gaps of one value of the lower.
 -- After w turns those with 1 to w of the higher.
-use Prim.Native.Nat.{◌+◌, ◌-◌, ◌≤◌}
+use Prim.Native.Nat.{◌+◌}
 use mathlib.Core.Path.{◌≡◌, refl}
-use mathlib.Core.Bool.{◌&&◌}
 use native.Mathlib.Omega.{arith}
-use borrow.Author.Rules.{rules}
-use lib.Dec.{eqb}
-use Rattle.base.specs.Bits.{bit}
-use Rattle.problem.specs.Problem.{bit_at}
-use Rattle.turn_rules.specs.Gaps.{place_of, some_to}
-use Rattle.turning.specs.Rows.{Marked, gap_with}
+use Rattle.turning.specs.Rows.{gap_with}
 use Rattle.turning.proofs.Marks.{some-none-yet, some_more}
 use Rattle.turning.proofs.gaps.gaps_with.Goals as goal
 

@@ -1,12 +1,8 @@
 -- `last_of` goes up along the run.
 -- The last place of the whole run is that of the run from where it has come to.
-use Prim.Native.Nat.{◌-◌, ◌<◌}
-use mathlib.Core.Path.{◌≡◌, refl, sym, ◌∙◌}
+use mathlib.Core.Path.{refl, sym, ◌∙◌}
 use native.Mathlib.Omega.{arith}
-use borrow.Author.Rules.{rules}
-use borrow.Author.Tests.{not-true, not-false}
 use Rattle.base.specs.Bits.{bit}
-use Rattle.turn_rules.specs.Gaps.{last_of}
 use Rattle.turning.proofs.Runs.{last-here, last_on, last_end}
 use Rattle.turning.proofs.gaps.last_of.Goals as goal
 

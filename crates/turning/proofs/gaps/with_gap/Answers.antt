@@ -3,8 +3,6 @@
 use mathlib.Core.Path.{sym, ◌∙◌}
 use mathlib.Core.Bool.{and-true, and-false}
 use native.Mathlib.Omega.{arith}
-use borrow.Author.Rules.{rules}
-use borrow.Author.Tests.{not-true, not-false}
 use lib.Dec.{eqb}
 use Rattle.turn_rules.specs.Gaps.{place_of}
 use Rattle.turning.proofs.Marks.{renamed, marked-none, marked-one}

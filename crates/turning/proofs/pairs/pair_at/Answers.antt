@@ -4,7 +4,6 @@ use Prim.Native.Nat.{ℕ, zero, suc, ◌-◌, ◌≤◌}
 use mathlib.Core.Path.{◌≡◌, refl, ap}
 use native.Mathlib.Omega.{arith}
 use lib.ListN.{get_or}
-use borrow.Author.Rules.{rules}
 use Rattle.problem.specs.Problem.{Problem as Problem', max_agents, max_domain, domain, in_range}
 use mathlib.Core.Bool.{true}
 use Rattle.problem.proofs.Range.{Ranged, ranged, domain-small}

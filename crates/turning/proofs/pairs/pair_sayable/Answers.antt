@@ -1,6 +1,5 @@
 -- `pair_sayable` is the test of each gap.
 -- The free pairs are those of the word with all bits turned round.
-use borrow.Author.Rules.{rules}
 use native.Mathlib.Omega.{arith}
 use Rattle.turning.specs.Pairs.{in_word, word_sayable}
 use Rattle.turning.proofs.Marks.{renamed}

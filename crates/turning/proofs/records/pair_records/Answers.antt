@@ -1,6 +1,5 @@
 -- `pair_records` puts down the records of two agents.
 -- Their banned pairs, or the runs of their gaps.
-use borrow.Author.Rules.{rules}
 use Rattle.turning.specs.Pairs.{in_word}
 use Rattle.turning.proofs.Words.{rows-of-bans, rows-of-gaps}
 use Rattle.turning.proofs.records.pair_records.Goals as goal

@@ -1,23 +1,14 @@
 -- `records` puts down the records of all agents.
 -- After i turns those of agents 1 to i with the agents below them.
-use Prim.Native.Nat.{ℕ, suc, ◌+◌, ◌-◌, ◌≤◌}
+use Prim.Native.Nat.{◌+◌}
 use mathlib.Core.Path.{◌≡◌}
-use mathlib.Core.List.{List}
 use native.Mathlib.Omega.{arith}
-use borrow.Author.Rules.{rules}
-use Rattle.base.specs.Finite.{gather}
-use Rattle.problem.specs.Problem.{Problem}
-use Rattle.problem.specs.Row.{Row}
 use Rattle.sheet.specs.Abstract.{problem_of}
 use Rattle.turn_rules.specs.Bans.{over_pairs}
-use Rattle.sheet_writer.specs.Rows.{Filled}
-use Rattle.turning.specs.Pairs.{rows_of, all_rows}
+use Rattle.turning.specs.Pairs.{all_rows}
 use Rattle.sheet_writer.proofs.Filling.{gather-none-yet, gather-room, gather-more}
 use Rattle.turning.proofs.records.records.Goals as goal
-
--- of agent i with the agents below it
-abbrev below : ℕ → Problem → ℕ → List Row
-below edition p i = gather (p.count - i) (suc i) (rows_of edition p i)
+use Rattle.turning.proofs.records.records.Invariants.{below}
 
 pub loop-i-init : goal.loop-i-init
 loop-i-init c = (omega arith, gather-none-yet _ 1 _ _)

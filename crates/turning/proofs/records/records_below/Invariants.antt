@@ -1,16 +1,10 @@
 -- `records_below` puts down the records of agent i with each agent below it.
 -- After so many turns those with agents i + 1 to j.
-use Prim.Native.Nat.{suc, ◌+◌, ◌-◌, ◌≤◌}
-use mathlib.Core.Path.{◌≡◌}
-use native.Mathlib.Omega.{arith}
-use borrow.Author.Rules.{rules}
+use Prim.Native.Nat.{suc, ◌-◌, ◌≤◌}
 use Rattle.base.specs.Finite.{gather}
-use Rattle.problem.proofs.Range.{ranged}
 use Rattle.sheet.specs.Abstract.{problem_of}
 use Rattle.sheet_writer.specs.Rows.{Filled}
 use Rattle.turning.specs.Pairs.{rows_of}
-use Rattle.sheet_writer.proofs.Filling.{gather-none-yet, gather-room, gather-more}
-use Rattle.turning.proofs.Words.{pair-rows}
 use Rattle.turning.proofs.records.records_below.Given as goal
 
 abbrev pub invariant-loop-j : goal.invariant-loop-j

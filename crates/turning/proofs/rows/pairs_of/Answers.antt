@@ -1,11 +1,8 @@
 -- `pairs_of` puts down all pairs that the word has.
 -- After v turns those of 1 to v of the lower.
-use Prim.Native.Nat.{◌+◌, ◌-◌, ◌≤◌}
+use Prim.Native.Nat.{◌+◌}
 use mathlib.Core.Path.{◌≡◌}
 use native.Mathlib.Omega.{arith}
-use borrow.Author.Rules.{rules}
-use Rattle.base.specs.Finite.{gather}
-use Rattle.sheet_writer.specs.Rows.{Filled}
 use Rattle.turning.specs.Rows.{pairs_with, pairs_of}
 use Rattle.sheet_writer.proofs.Filling.{gather-none-yet, gather-room, gather-more}
 use Rattle.turning.proofs.rows.pairs_of.Goals as goal

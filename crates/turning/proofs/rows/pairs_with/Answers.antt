@@ -1,11 +1,8 @@
 -- `pairs_with` puts down the pairs of one value of the lower.
 -- After w turns those with 1 to w of the higher.
-use Prim.Native.Nat.{◌+◌, ◌-◌, ◌≤◌}
+use Prim.Native.Nat.{◌+◌}
 use mathlib.Core.Path.{◌≡◌}
 use native.Mathlib.Omega.{arith}
-use borrow.Author.Rules.{rules}
-use Rattle.base.specs.Finite.{gather}
-use Rattle.sheet_writer.specs.Rows.{Filled}
 use Rattle.turning.specs.Rows.{pair_in, pairs_with}
 use Rattle.sheet_writer.proofs.Filling.{gather-none-yet, gather-room, gather-more}
 use Rattle.turning.proofs.rows.pairs_with.Goals as goal

@@ -1,13 +1,9 @@
 -- `runs_of` puts down the runs.
 -- After k turns those that begin before place k.
-use Prim.Native.Nat.{◌-◌, ◌≤◌}
 use mathlib.Core.Path.{◌≡◌}
 use native.Mathlib.Omega.{arith}
-use borrow.Author.Rules.{rules}
 use Rattle.base.specs.Bits.{bit}
-use Rattle.base.specs.Finite.{gather}
 use Rattle.turn_rules.specs.Gaps.{gap_places, runs_of}
-use Rattle.sheet_writer.specs.Rows.{Filled}
 use Rattle.turning.specs.Rows.{run_in}
 use Rattle.sheet_writer.proofs.Filling.{gather-none-yet, gather-room, gather-more}
 use Rattle.turning.proofs.rows.runs_of.Goals as goal

@@ -1,8 +1,6 @@
 -- `with_pair` puts down a pair that the word has.
 -- One row more, or none.
 use mathlib.Core.Path.{sym, ◌∙◌}
-use borrow.Author.Rules.{rules}
-use borrow.Author.Tests.{not-true, not-false}
 use Rattle.turning.specs.Rows.{pair_in}
 use Rattle.sheet_writer.proofs.Filling.{left_out, one-room, put-down}
 use Rattle.turning.proofs.rows.with_pair.Goals as goal

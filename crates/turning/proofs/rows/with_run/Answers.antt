@@ -1,8 +1,6 @@
 -- `with_run` puts down the run that begins at a place.
 -- One row more, or none.
 use mathlib.Core.Path.{sym, ◌∙◌}
-use borrow.Author.Rules.{rules}
-use borrow.Author.Tests.{not-true, not-false}
 use Rattle.turn_rules.specs.Gaps.{run_row}
 use Rattle.turning.specs.Rows.{run_in}
 use Rattle.sheet_writer.proofs.Filling.{left_out, one-room, put-down}

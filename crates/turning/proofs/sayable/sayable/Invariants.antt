@@ -1,17 +1,17 @@
 -- `sayable` tests all pairs.
 -- From agent n down, as the definition does: what is left is the test of agents 1 to j.
 use Prim.Native.Nat.{ℕ, pred, ◌≤◌}
-use mathlib.Core.Path.{◌≡◌, refl, sym, ◌∙◌}
+use mathlib.Core.Path.{◌≡◌}
 use mathlib.Core.Bool.{Bool, not}
-use native.Mathlib.Omega.{arith}
-use borrow.Author.Rules.{rules}
-use borrow.Author.Tests.{not-true, not-false}
 use Rattle.base.specs.Finite.{all_to}
-use Rattle.base.proofs.Loops.{all_to-none, all_to-fails, all_to-goes}
 use Rattle.problem.specs.Problem.{Problem}
 use Rattle.sheet.specs.Abstract.{problem_of}
-use Rattle.turn_rules.specs.Gaps.{gap_places, mixed_gap, sayable}
+use Rattle.turn_rules.specs.Gaps.{gap_places, mixed_gap}
 use Rattle.turning.proofs.sayable.sayable.Given as goal
+
+-- agent j and those above it
+abbrev pub unmixed : Problem → ℕ → Bool
+unmixed p j = all_to (pred j) (λ i. all_to gap_places (λ k. not (mixed_gap p i j (pred k))))
 
 abbrev pub invariant-loop-j : goal.invariant-loop-j
 invariant-loop-j l =

@@ -1,19 +1,17 @@
 -- `sayable_with` tests the pairs of agent j.
 -- From agent j - 1 down, as the definition does: what is left is the test of agents 1 to i.
 use Prim.Native.Nat.{ℕ, pred, ◌<◌}
-use mathlib.Core.Path.{◌≡◌, sym, ap, ◌∙◌}
+use mathlib.Core.Path.{◌≡◌}
 use mathlib.Core.Bool.{Bool, not}
-use native.Mathlib.Omega.{arith}
-use borrow.Author.Rules.{rules}
-use borrow.Author.Tests.{not-true, not-false}
 use Rattle.base.specs.Finite.{all_to}
-use Rattle.base.proofs.Loops.{all_to-none, all_to-fails, all_to-goes}
 use Rattle.problem.specs.Problem.{Problem}
-use Rattle.problem.proofs.Range.{ranged}
 use Rattle.sheet.specs.Abstract.{problem_of}
 use Rattle.turn_rules.specs.Gaps.{gap_places, mixed_gap}
-use Rattle.turning.proofs.Words.{pair-sayable}
 use Rattle.turning.proofs.sayable.sayable_with.Given as goal
+
+-- agents i and j
+abbrev pub unmixed : Problem → ℕ → ℕ → Bool
+unmixed p j i = all_to gap_places (λ k. not (mixed_gap p i j (pred k)))
 
 abbrev pub invariant-loop-i : goal.invariant-loop-i
 invariant-loop-i l =

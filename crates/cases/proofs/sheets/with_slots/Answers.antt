@@ -1,0 +1,34 @@
+-- The slot counts are put one by one. Invariant: those put so far, with those left, come to the same.
+use Prim.Native.Nat.{◌+◌, ◌%◌}
+use mathlib.Core.Path.{sym, ap, ◌∙◌}
+use native.Mathlib.Omega.{arith}
+use lib.ListN.{set}
+use lib.Seq.{sets}
+use Rattle.cases.specs.declared.sheets.Sheet.{Sheet}
+use Rattle.cases.specs.Sheets.{slots_sheet}
+use Rattle.cases.proofs.Building.{same-sheet, counts_from, counts-done, count-goes}
+use borrow.Author.Rules.{rules}
+use Rattle.cases.proofs.sheets.with_slots.Goals as goal
+
+pub loop-i-init : goal.loop-i-init
+unfolding slots_sheet
+loop-i-init c =
+    let n = c.args.n in (
+      search rules,
+      search rules,
+      ap (λ (s : Sheet). sets (set (set s.bytes 0 (n.count % 256)) 1 1) 8 (counts_from n 0)) (sym c.blank-o.ensures),
+    )
+
+pub loop-i-preserved : goal.loop-i-preserved
+loop-i-preserved c =
+    let l = c.loop-i in
+    let n = c.args.n in
+    (search rules, l.invariant.1, l.invariant.2 ∙ count-goes n (search rules) l.o.bytes l.i c.loop-i-test.true)
+
+pub returns : goal.returns
+unfolding slots_sheet
+returns c =
+    let l = c.loop-i in
+    let n = c.args.n in
+    let done = l.invariant.2 ∙ ap (sets l.o.bytes (8 + l.i)) (counts-done n (search rules) l.i (omega arith)) in
+    same-sheet l.o _ _ (sym done) l.invariant.1
