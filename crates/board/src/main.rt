@@ -3,30 +3,31 @@
 
 use board_text::options::{Options, goes_on, no_options, opens, option, put_unopened};
 use board_text::{Begun, Stepped, begin, begin_image, call};
-use tool::read_file;
+use std::rt::{Env, Files};
+use tool::{LONGEST_ARGUMENT, argument, argument_count, read_file};
 use words::printing::Out;
 
 // ---- calls
 
-// The call that argument i says. The system passes no argument of more bytes.
-fn call_at(s: Stepped, i: usize) -> Stepped {
-    let mut word = [0u8; 131072];
-    let n = os::arg(i, &mut word);
+// The call that argument i says.
+fn call_at(rt: &impl Env, s: Stepped, i: usize) -> Stepped {
+    let mut word = [0u8; LONGEST_ARGUMENT];
+    let n = argument(rt, i, &mut word);
     let out = s.out;
     let d = s.dispatcher;
     call(out, d, &word[..n])
 }
 
 // The calls from argument `first` on, as long as what they print can be written.
-fn calls(stepped: Stepped, first: usize) {
+fn calls(rt: &impl Env, stepped: Stepped, first: usize) {
     let mut s = stepped;
-    let end = os::arg_count();
+    let end = argument_count(rt);
     let mut i = first;
     while i < end {
         if s.out.failed {
             return;
         }
-        s = call_at(s, i);
+        s = call_at(rt, s, i);
         i += 1;
     }
 }
@@ -40,7 +41,7 @@ fn begun(o: Options, bytes: &[u8]) -> Begun {
 }
 
 // The calls, where the file is not refused.
-fn play(o: Options, bytes: &[u8], first: usize) {
+fn play(rt: &impl Env, o: Options, bytes: &[u8], first: usize) {
     let b = begun(o, bytes);
     if b.number != 0 {
         return;
@@ -51,52 +52,52 @@ fn play(o: Options, bytes: &[u8], first: usize) {
         dispatcher: d,
         out: out,
     };
-    calls(s, first);
+    calls(rt, s, first);
 }
 
 // One byte beyond the longest sheet tells that the file is too long; no image is as long.
-fn open_and_play(o: Options, name: &[u8], first: usize) {
+fn open_and_play(rt: &(impl Env + Files), o: Options, name: &[u8], first: usize) {
     let mut bytes = [0u8; 33817];
-    let file = read_file(name, &mut bytes);
+    let file = read_file(rt, name, &mut bytes);
     if !file.good {
         Out::new().put(b"cannot read ").put(name).put(b"\n");
         return;
     }
     let n = file.length;
-    play(o, &bytes[..n], first);
+    play(rt, o, &bytes[..n], first);
 }
 
 // ---- the words in front of the calls
 
-fn option_at(o: Options, i: usize) -> Options {
-    let mut word = [0u8; 131072];
-    let n = os::arg(i, &mut word);
+fn option_at(rt: &impl Env, o: Options, i: usize) -> Options {
+    let mut word = [0u8; LONGEST_ARGUMENT];
+    let n = argument(rt, i, &mut word);
     option(o, &word[..n])
 }
 
 // What the words up to argument i come to. Where it is the file, the calls begin at argument `first`.
-fn follow(o: Options, i: usize, first: usize) {
-    let mut word = [0u8; 131072];
-    let n = os::arg(i, &mut word);
+fn follow(rt: &(impl Env + Files), o: Options, i: usize, first: usize) {
+    let mut word = [0u8; LONGEST_ARGUMENT];
+    let n = argument(rt, i, &mut word);
     if opens(o) {
-        open_and_play(o, &word[..n], first);
+        open_and_play(rt, o, &word[..n], first);
         return;
     }
     put_unopened(Out::new(), o, &word[..n]);
 }
 
 // The options are read, up to the file, to a word that is not understood or to the end.
-fn main() {
-    let end = os::arg_count();
+fn main(rt: HostRuntime) {
+    let end = argument_count(&rt);
     let mut o = no_options(true);
     let mut i: usize = 1;
     while i < end {
-        o = option_at(o, i);
+        o = option_at(&rt, o, i);
         if !goes_on(o) {
-            follow(o, i, i + 1);
+            follow(&rt, o, i, i + 1);
             return;
         }
         i += 1;
     }
-    follow(o, end, end);
+    follow(&rt, o, end, end);
 }

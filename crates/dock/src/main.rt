@@ -1,7 +1,7 @@
 // Reads a sheet on standard input, has the scanners settle it and prints what they come to.
 #![tactic(auto)]
 
-use libc::STDIN_FILENO;
+use tool::STDIN_FILENO;
 use words::printing::Out;
 
 // One byte beyond the longest sheet tells that the input is too long.

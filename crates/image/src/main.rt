@@ -13,7 +13,10 @@ use image_mover::{move_image, store_small};
 use image_writer::store;
 use lent::Written;
 use network::{Network, is_rule};
-use tool::{LONGEST_ARGUMENT, read_file, say, say_refused, say_surplus, written};
+use std::rt::{Env, Files};
+use tool::{
+    LONGEST_ARGUMENT, argument, argument_count, read_file, say, say_refused, say_surplus, written,
+};
 
 // ---- the image
 
@@ -41,9 +44,9 @@ fn write_image(r: Network, small: bool) {
 // ---- calls
 
 // The call that argument i says, or one line that it is none.
-fn call_at(d: Dispatcher, i: usize) -> Followed {
+fn call_at(rt: &impl Env, d: Dispatcher, i: usize) -> Followed {
     let mut word = [0u8; LONGEST_ARGUMENT];
-    let n = os::arg(i, &mut word);
+    let n = argument(rt, i, &mut word);
     let f = follow(d, &word[..n]);
     if !f.understood {
         say(b"call not understood: ", &word[..n]);
@@ -52,12 +55,12 @@ fn call_at(d: Dispatcher, i: usize) -> Followed {
 }
 
 // The calls from argument `first` on, and the image of what they leave; nothing where one of them is none.
-fn play(d: Dispatcher, small: bool, first: usize) {
+fn play(rt: &impl Env, d: Dispatcher, small: bool, first: usize) {
     let mut s = d;
-    let end = os::arg_count();
+    let end = argument_count(rt);
     let mut i = first;
     while i < end {
-        let f = call_at(s, i);
+        let f = call_at(rt, s, i);
         if !f.understood {
             return;
         }
@@ -69,9 +72,9 @@ fn play(d: Dispatcher, small: bool, first: usize) {
 }
 
 // One byte beyond the longest sheet tells that the file is too long.
-fn open_and_play(o: Options, name: &[u8], first: usize) {
+fn open_and_play(rt: &(impl Env + Files), o: Options, name: &[u8], first: usize) {
     let mut sheet = [0u8; 33817];
-    let file = read_file(name, &mut sheet);
+    let file = read_file(rt, name, &mut sheet);
     if !file.good {
         say(b"cannot read ", name);
         return;
@@ -83,7 +86,7 @@ fn open_and_play(o: Options, name: &[u8], first: usize) {
         return;
     }
     let network = started.network;
-    play(dispatch::begin(network), o.small, first);
+    play(rt, dispatch::begin(network), o.small, first);
 }
 
 // ---- the words in front of the calls
@@ -111,45 +114,45 @@ fn say_unopened(o: Options, word: &[u8]) {
     }
 }
 
-fn option_at(o: Options, i: usize) -> Options {
+fn option_at(rt: &impl Env, o: Options, i: usize) -> Options {
     let mut word = [0u8; LONGEST_ARGUMENT];
-    let n = os::arg(i, &mut word);
+    let n = argument(rt, i, &mut word);
     option(o, &word[..n])
 }
 
 // What the words up to argument i come to. Where it is the file, the calls begin at argument `first`.
-fn follow_options(o: Options, i: usize, first: usize) {
+fn follow_options(rt: &(impl Env + Files), o: Options, i: usize, first: usize) {
     let mut word = [0u8; LONGEST_ARGUMENT];
-    let n = os::arg(i, &mut word);
+    let n = argument(rt, i, &mut word);
     if opens(o) {
-        open_and_play(o, &word[..n], first);
+        open_and_play(rt, o, &word[..n], first);
         return;
     }
     say_unopened(o, &word[..n]);
 }
 
 // The options are read, up to the file, to a word that is not understood or to the end.
-fn write() {
-    let end = os::arg_count();
+fn write(rt: &(impl Env + Files)) {
+    let end = argument_count(rt);
     let mut o = no_options(false);
     let mut i: usize = 2;
     while i < end {
-        o = option_at(o, i);
+        o = option_at(rt, o, i);
         if !goes_on(o) {
-            follow_options(o, i, i + 1);
+            follow_options(rt, o, i, i + 1);
             return;
         }
         i += 1;
     }
-    follow_options(o, end, end);
+    follow_options(rt, o, end, end);
 }
 
 // ---- moving
 
 // The other form of an image. One byte beyond the longest image tells that the file is too long.
-fn move_file(name: &[u8]) {
+fn move_file(rt: &impl Files, name: &[u8]) {
     let mut given = [0u8; 19745];
-    let file = read_file(name, &mut given);
+    let file = read_file(rt, name, &mut given);
     if !file.good {
         say(b"cannot read ", name);
         return;
@@ -166,40 +169,40 @@ fn move_file(name: &[u8]) {
 }
 
 // There are no options here, and nothing stands behind the image's name.
-fn move_given() {
-    if os::arg_count() < 3 {
+fn move_given(rt: &(impl Env + Files)) {
+    if argument_count(rt) < 3 {
         say(b"no file given: ", b"image move IMAGE");
         return;
     }
     let mut word = [0u8; LONGEST_ARGUMENT];
-    let n = os::arg(2, &mut word);
+    let n = argument(rt, 2, &mut word);
     if is_option(&word[..n]) {
         say(b"option not understood: ", &word[..n]);
         return;
     }
-    if 3 < os::arg_count() {
-        say_surplus(3);
+    if 3 < argument_count(rt) {
+        say_surplus(rt, 3);
         return;
     }
-    move_file(&word[..n]);
+    move_file(rt, &word[..n]);
 }
 
 // ---- the command
 
-fn follow_command(word: &[u8]) {
+fn follow_command(rt: &(impl Env + Files), word: &[u8]) {
     if check::same(word, b"write") {
-        write();
+        write(rt);
         return;
     }
     if check::same(word, b"move") {
-        move_given();
+        move_given(rt);
         return;
     }
     say(b"command not understood: ", word);
 }
 
-fn main() {
-    if os::arg_count() < 2 {
+fn main(rt: HostRuntime) {
+    if argument_count(&rt) < 2 {
         say(
             b"no command given: ",
             b"image write [--rule N] [--small] SHEET [CALL ..], or image move IMAGE",
@@ -207,6 +210,6 @@ fn main() {
         return;
     }
     let mut word = [0u8; LONGEST_ARGUMENT];
-    let n = os::arg(1, &mut word);
-    follow_command(&word[..n]);
+    let n = argument(&rt, 1, &mut word);
+    follow_command(&rt, &word[..n]);
 }

@@ -3,7 +3,8 @@
 
 use little_sheet::little;
 use numerals::{Number, read_number};
-use tool::{LONGEST_ARGUMENT, say, say_refused, say_surplus, written};
+use std::rt::Env;
+use tool::{LONGEST_ARGUMENT, argument, argument_count, say, say_refused, say_surplus, written};
 
 // The sheet of an ordinal. The longest of them has 120 bytes.
 fn write_little(ordinal: u64) {
@@ -18,24 +19,24 @@ fn write_little(ordinal: u64) {
 }
 
 // The ordinal that a word says, if no word stands behind it.
-fn follow(word: &[u8]) {
+fn follow(rt: &impl Env, word: &[u8]) {
     let Number::Of(ordinal) = read_number(word) else {
         say(b"number not understood: ", word);
         return;
     };
-    if 2 < os::arg_count() {
-        say_surplus(2);
+    if 2 < argument_count(rt) {
+        say_surplus(rt, 2);
         return;
     }
     write_little(ordinal);
 }
 
-fn main() {
-    if os::arg_count() < 2 {
+fn main(rt: HostRuntime) {
+    if argument_count(&rt) < 2 {
         say(b"no number given: little N", b"");
         return;
     }
     let mut word = [0u8; LONGEST_ARGUMENT];
-    let n = os::arg(1, &mut word);
-    follow(&word[..n]);
+    let n = argument(&rt, 1, &mut word);
+    follow(&rt, &word[..n]);
 }

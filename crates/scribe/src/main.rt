@@ -4,12 +4,15 @@
 ghost use Rattle.std.specs.Prelude.{◌≡◌, ◌≤◌, length};
 
 use lent::Written;
-use libc::{STDERR_FILENO, STDIN_FILENO};
 use scribe_drafts::Fault;
 use scribe_faults::fault_text;
 use scribe_reader::read_sheet;
 use scribe_writer::write_text;
-use tool::{LONGEST_ARGUMENT, say, say_refused, say_surplus, written};
+use std::rt::Env;
+use tool::{
+    LONGEST_ARGUMENT, STDERR_FILENO, STDIN_FILENO, argument, argument_count, say, say_refused,
+    say_surplus, written,
+};
 
 // What was answered: the bytes that were written, or a refusal.
 fn finish(w: Written, bytes: &[u8]) {
@@ -64,14 +67,14 @@ fn text() {
 }
 
 // The command, if it is one and no word stands behind it. Nothing is read before that is clear.
-fn follow(word: &[u8]) {
+fn follow(rt: &impl Env, word: &[u8]) {
     let to_sheet = check::same(word, b"sheet");
     if !to_sheet & !check::same(word, b"text") {
         say(b"command not understood: ", word);
         return;
     }
-    if 2 < os::arg_count() {
-        say_surplus(2);
+    if 2 < argument_count(rt) {
+        say_surplus(rt, 2);
         return;
     }
     if to_sheet {
@@ -81,12 +84,12 @@ fn follow(word: &[u8]) {
     text();
 }
 
-fn main() {
-    if os::arg_count() < 2 {
+fn main(rt: HostRuntime) {
+    if argument_count(&rt) < 2 {
         say(b"no command given: scribe sheet, or scribe text", b"");
         return;
     }
     let mut word = [0u8; LONGEST_ARGUMENT];
-    let n = os::arg(1, &mut word);
-    follow(&word[..n]);
+    let n = argument(&rt, 1, &mut word);
+    follow(&rt, &word[..n]);
 }

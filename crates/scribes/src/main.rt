@@ -10,11 +10,11 @@ mod random;
 mod tallies;
 
 use cases::lines::{line_end, next_line};
-use libc::STDIN_FILENO;
 use long::put_longs;
 use printing::put_answer;
 use random::with_randoms;
 use tallies::{blank, report};
+use tool::STDIN_FILENO;
 use words::printing::Out;
 
 // Byte k of a line, 0 beyond its end.

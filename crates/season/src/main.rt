@@ -3,9 +3,9 @@
 
 ghost use Rattle.std.specs.Prelude.{◌≡◌, length};
 
-use libc::{STDERR_FILENO, STDIN_FILENO};
 use season_figures::stream::{Season, begun, length_in, with_piece};
-use tool::{LONGEST_ARGUMENT, say};
+use std::rt::Env;
+use tool::{LONGEST_ARGUMENT, STDERR_FILENO, STDIN_FILENO, argument, argument_count, say};
 use words::printing::Out;
 
 // ---- the stream
@@ -77,9 +77,9 @@ fn put_word(what: &[u8], word: &[u8]) {
 }
 
 // Argument i is not understood: an option that there is not, or that stands twice, or a word too many.
-fn put_wrong(i: usize) {
+fn put_wrong(rt: &impl Env, i: usize) {
     let mut word = [0u8; LONGEST_ARGUMENT];
-    let n = os::arg(i, &mut word);
+    let n = argument(rt, i, &mut word);
     if is_option(&word[..n]) {
         put_word(b"option not understood: ", &word[..n]);
         return;
@@ -87,24 +87,24 @@ fn put_wrong(i: usize) {
     put_word(b"argument not understood: ", &word[..n]);
 }
 
-fn is_progress(i: usize) -> bool {
+fn is_progress(rt: &impl Env, i: usize) -> bool {
     let mut word = [0u8; LONGEST_ARGUMENT];
-    let n = os::arg(i, &mut word);
+    let n = argument(rt, i, &mut word);
     check::same(&word[..n], b"--progress")
 }
 
-fn main() {
-    let end = os::arg_count();
+fn main(rt: HostRuntime) {
+    let end = argument_count(&rt);
     if end < 2 {
         follow(false);
         return;
     }
-    if !is_progress(1) {
-        put_wrong(1);
+    if !is_progress(&rt, 1) {
+        put_wrong(&rt, 1);
         return;
     }
     if 2 < end {
-        put_wrong(2);
+        put_wrong(&rt, 2);
         return;
     }
     follow(true);

@@ -11,9 +11,9 @@ ghost use Rattle.std.specs.Prelude.{◌≡◌, length};
 use cases::kinds::{ADD, ALL, CASE, RAW, SEASON, UNKNOWN, kind_of};
 use cases::lines::{line_end, next_line, numbers_in};
 use cases::sheets::{Sheet, blank, built};
-use libc::STDIN_FILENO;
 use little_sheet::little;
 use text::append;
+use tool::STDIN_FILENO;
 use words::printing::Out;
 
 // ---- the stream

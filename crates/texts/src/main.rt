@@ -14,7 +14,7 @@ use board_text::{Stepped, begin, begin_image, call};
 use cases::kinds::{BOARD, CASE, DOCK, END, OPTION, UNKNOWN, WORD, kind_of};
 use cases::lines::{Numbers, line_end, next_line, numbers_in, small};
 use cases::sheets::{Sheet, blank, built};
-use libc::STDIN_FILENO;
+use tool::STDIN_FILENO;
 use words::printing::Out;
 
 // ---- the programs

@@ -2,8 +2,11 @@
 #![tactic(auto)]
 
 use lent::Written;
-use libc::STDIN_FILENO;
-use tool::{LONGEST_ARGUMENT, say, say_refused, say_surplus, written};
+use std::rt::Env;
+use tool::{
+    LONGEST_ARGUMENT, STDIN_FILENO, argument, argument_count, say, say_refused, say_surplus,
+    written,
+};
 use turning::{to_bans, to_gaps};
 
 // What was answered: the sheet that was written, or a refusal.
@@ -36,14 +39,14 @@ fn gaps() {
 }
 
 // The command, if it is one and no word stands behind it. Nothing is read before that is clear.
-fn follow(word: &[u8]) {
+fn follow(rt: &impl Env, word: &[u8]) {
     let to_bans = check::same(word, b"bans");
     if !to_bans & !check::same(word, b"gaps") {
         say(b"command not understood: ", word);
         return;
     }
-    if 2 < os::arg_count() {
-        say_surplus(2);
+    if 2 < argument_count(rt) {
+        say_surplus(rt, 2);
         return;
     }
     if to_bans {
@@ -53,12 +56,12 @@ fn follow(word: &[u8]) {
     gaps();
 }
 
-fn main() {
-    if os::arg_count() < 2 {
+fn main(rt: HostRuntime) {
+    if argument_count(&rt) < 2 {
         say(b"no command given: turn bans, or turn gaps", b"");
         return;
     }
     let mut word = [0u8; LONGEST_ARGUMENT];
-    let n = os::arg(1, &mut word);
-    follow(&word[..n]);
+    let n = argument(&rt, 1, &mut word);
+    follow(&rt, &word[..n]);
 }

@@ -34,8 +34,8 @@ use cases::kinds::{
 use cases::lines::{line_end, next_line, numbers_in};
 use cases::sheets::{Sheet, blank, built};
 use checks::{expected, tried};
-use libc::STDIN_FILENO;
 use network::Network;
+use tool::STDIN_FILENO;
 use words::printing::Out;
 
 // ---- the tally
