@@ -2,7 +2,6 @@
 use Rattle.agent.specs.Abstract.{agent_of, counts_of}
 use Rattle.image_format.specs.Image.{agent_bytes}
 use Rattle.image_writer.proofs.Puts.{puts_then}
-use borrow.Author.Rules.{rules}
 use Rattle.image_writer.proofs.agents.put_agent.Goals as goal
 
 pub returns : goal.returns

@@ -1,15 +1,15 @@
 -- `put_agents` puts the records of agents 1 to n.
 -- Those of the agents above i are left to put.
-use Prim.Native.Nat.{◌+◌, ◌-◌, ◌*◌, ◌≤◌}
-use mathlib.Core.Path.{◌≡◌, refl, ap, ◌∙◌}
+use Prim.Native.Nat.{◌*◌}
+use mathlib.Core.Path.{refl, ap, ◌∙◌}
 use native.Mathlib.Omega.{arith}
-use lib.ListN.{length, length-map}
+use lib.ListN.{length}
 use borrow.Author.Rules.{rules}
 use Rattle.network.specs.Abstract.{network_of}
 use Rattle.network_laws.proofs.Changes.{FullArrays}
 use Rattle.image_format.specs.Reading.{agent_length}
 use Rattle.image_format.proofs.Lengths.{agents-length}
-use Rattle.image_writer.proofs.Puts.{Left, all_left, left_as, less-left, none_left, puts-as}
+use Rattle.image_writer.proofs.Puts.{all_left, left_as, less-left, none_left, puts-as}
 use Rattle.image_writer.proofs.Records.{agents_left, all-agents, first-agent, no-agents}
 use Rattle.image_writer.proofs.agents.put_agents.Goals as goal
 

@@ -2,7 +2,6 @@
 use Rattle.agent.specs.Abstract.{count_of}
 use Rattle.image_format.specs.Image.{count_bytes}
 use Rattle.image_writer.proofs.Puts.{puts_then}
-use borrow.Author.Rules.{rules}
 use Rattle.image_writer.proofs.agents.put_counts.Goals as goal
 
 pub returns : goal.returns

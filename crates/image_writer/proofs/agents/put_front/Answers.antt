@@ -1,7 +1,6 @@
 -- `put_front` puts its five parts one behind the other.
 use Rattle.agent.specs.Abstract.{assigned}
 use Rattle.image_writer.proofs.Puts.{puts_then}
-use borrow.Author.Rules.{rules}
 use Rattle.image_writer.proofs.agents.put_front.Goals as goal
 
 pub returns : goal.returns

@@ -3,7 +3,6 @@
 use mathlib.Core.Path.{refl}
 use Rattle.image_writer.proofs.Puts.{puts-as}
 use Rattle.image_writer.proofs.Records.{mask-is-put}
-use borrow.Author.Rules.{rules}
 use Rattle.image_writer.proofs.agents.put_mask.Goals as goal
 
 pub returns : goal.returns

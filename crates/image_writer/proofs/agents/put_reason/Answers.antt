@@ -2,7 +2,6 @@
 use mathlib.Core.Path.{refl}
 use Rattle.image_writer.proofs.Puts.{puts_then, puts-as}
 use Rattle.image_writer.proofs.Records.{reason-put, no-reason-put}
-use borrow.Author.Rules.{rules}
 use Rattle.image_writer.proofs.agents.put_reason.Goals as goal
 
 pub returns-then-stored : goal.returns-then-stored

@@ -1,16 +1,10 @@
 -- `put_reasons` puts the reasons of own values 1 to 8.
 -- Those of the values above v are left to put.
 use Prim.Native.Nat.{◌+◌, ◌-◌, ◌*◌, ◌≤◌}
-use mathlib.Core.Path.{◌≡◌, refl, sym, ap, ◌∙◌}
-use mathlib.Core.Option.{none}
-use native.Mathlib.Omega.{arith}
+use mathlib.Core.Path.{◌≡◌}
 use lib.ListN.{length}
-use borrow.Author.Rules.{rules}
-use Rattle.base.specs.Finite.{from_one}
-use Rattle.choosing.specs.Choosing.{nogood_at}
-use Rattle.image_format.proofs.Lengths.{reasons-length}
-use Rattle.image_writer.proofs.Puts.{Left, all_left, left_as, less-left, none_left, puts-as}
-use Rattle.image_writer.proofs.Records.{reasons_left, all-reasons, first-reason, no-reasons}
+use Rattle.image_writer.proofs.Puts.{Left}
+use Rattle.image_writer.proofs.Records.{reasons_left}
 use Rattle.image_writer.proofs.agents.put_reasons.Given as goal
 
 abbrev pub invariant-loop-v : goal.invariant-loop-v

@@ -1,11 +1,9 @@
 -- `put_bans` puts the words of all pairs, by lower, then higher agent.
 -- Those of the lower agents above `lower` are left to put.
-use Prim.Native.Nat.{◌-◌, ◌≤◌}
-use mathlib.Core.Path.{◌≡◌, refl}
+use mathlib.Core.Path.{refl}
 use native.Mathlib.Omega.{arith}
-use lib.ListN.{length}
 use borrow.Author.Rules.{rules}
-use Rattle.image_writer.proofs.Puts.{Left, all_left, left_as, less-left, none_left, puts-as}
+use Rattle.image_writer.proofs.Puts.{all_left, left_as, less-left, none_left, puts-as}
 use Rattle.image_writer.proofs.BanTable.{rows_left, all-rows, first-row, no_rows, row_room, rows-length}
 use Rattle.image_writer.proofs.bans.put_bans.Goals as goal
 

@@ -1,12 +1,10 @@
 -- `put_bans` puts the words of all pairs, by lower, then higher agent.
 -- Those of the lower agents above `lower` are left to put.
 use Prim.Native.Nat.{◌-◌, ◌≤◌}
-use mathlib.Core.Path.{◌≡◌, refl}
-use native.Mathlib.Omega.{arith}
+use mathlib.Core.Path.{◌≡◌}
 use lib.ListN.{length}
-use borrow.Author.Rules.{rules}
-use Rattle.image_writer.proofs.Puts.{Left, all_left, left_as, less-left, none_left, puts-as}
-use Rattle.image_writer.proofs.BanTable.{rows_left, all-rows, first-row, no_rows, row_room, rows-length}
+use Rattle.image_writer.proofs.Puts.{Left}
+use Rattle.image_writer.proofs.BanTable.{rows_left}
 use Rattle.image_writer.proofs.bans.put_bans.Given as goal
 
 abbrev pub invariant-loop-lower : goal.invariant-loop-lower

@@ -1,12 +1,11 @@
 -- `put_bans_of` puts the words of one lower agent, by higher agent.
 -- Those with the agents above `higher` are left to put.
-use Prim.Native.Nat.{◌+◌, ◌-◌, ◌*◌, ◌≤◌}
-use mathlib.Core.Path.{◌≡◌, refl, sym}
+use Prim.Native.Nat.{◌+◌, ◌-◌, ◌*◌}
+use mathlib.Core.Path.{refl, sym}
 use native.Mathlib.Omega.{arith}
-use lib.ListN.{length}
 use borrow.Author.Rules.{rules}
 use Rattle.clauses.proofs.Pairs.{word-place}
-use Rattle.image_writer.proofs.Puts.{Left, all_left, left_as, less-left, none_left, puts-as}
+use Rattle.image_writer.proofs.Puts.{all_left, left_as, less-left, none_left, puts-as}
 use Rattle.image_writer.proofs.BanTable.{words_left, all_words, words-length, first_word, no_words}
 use Rattle.image_writer.proofs.bans.put_bans_of.Goals as goal
 

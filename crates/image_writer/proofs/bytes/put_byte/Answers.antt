@@ -1,5 +1,4 @@
 -- `put_byte` puts one byte: the list with one element set.
-use borrow.Author.Rules.{rules}
 use Rattle.image_writer.proofs.Puts.{puts-byte}
 use Rattle.image_writer.proofs.bytes.put_byte.Goals as goal
 

@@ -1,14 +1,10 @@
 -- `put_number` puts the bytes of a number, the low one first.
 -- The bytes of what is left of the number are left to put.
 use Prim.Native.Nat.{◌+◌}
-use mathlib.Core.Path.{◌≡◌, refl}
-use native.Mathlib.Omega.{arith}
+use mathlib.Core.Path.{◌≡◌}
 use lib.ListN.{length}
-use borrow.Author.Rules.{rules}
 use Rattle.image_format.specs.Bytes.{bytes_of}
-use Rattle.image_format.proofs.Bytes.{bytes-length}
-use Rattle.image_writer.proofs.Puts.{Left, all_left, left_as, less-left, none_left}
-use Rattle.image_writer.proofs.Firsts.{first_byte, no_bytes}
+use Rattle.image_writer.proofs.Puts.{Left}
 use Rattle.image_writer.proofs.bytes.put_number.Given as goal
 
 abbrev pub invariant-loop-left : goal.invariant-loop-left

@@ -1,15 +1,13 @@
 -- `put_slots` puts the digits of agents 1 to 12, upward.
 -- The digits of the agents above k are left to put.
-use Prim.Native.Nat.{◌+◌, ◌-◌, ◌≤◌}
-use mathlib.Core.Path.{◌≡◌, refl}
+use mathlib.Core.Path.{refl}
 use native.Mathlib.Omega.{arith}
-use lib.ListN.{length}
 use borrow.Author.Rules.{rules}
 use Rattle.packed.specs.Packed.{assignment}
 use Rattle.image_format.specs.Image.{slots}
 use Rattle.image_format.proofs.Lengths.{slots_length}
-use Rattle.image_writer.proofs.Puts.{Left, all_left, left_as, less-left, none_left}
-use Rattle.image_writer.proofs.Firsts.{slots_left, all_slots, first_slot, no-slots}
+use Rattle.image_writer.proofs.Puts.{all_left, left_as, less-left, none_left}
+use Rattle.image_writer.proofs.Firsts.{all_slots, first_slot, no-slots}
 use Rattle.image_writer.proofs.bytes.put_slots.Goals as goal
 
 pub loop-k-init : goal.loop-k-init

@@ -3,7 +3,6 @@ use Prim.Native.Nat.{ℕ}
 use mathlib.Core.Path.{refl, ap}
 use mathlib.Core.List.{[], ◌∷◌}
 use native.Mathlib.Omega.{arith}
-use borrow.Author.Rules.{rules}
 use Rattle.packed.proofs.Masks.{byte_of}
 use Rattle.image_format.specs.Image.{first_form, byte_for}
 use Rattle.image_writer.proofs.Puts.{puts-copied, puts_then, puts-as}

@@ -1,7 +1,5 @@
 -- `ends_of` gives sender and receiver: the sender itself is passed over.
-use mathlib.Core.Logic.{⊎_elim}
 use native.Mathlib.Omega.{arith}
-use borrow.Author.Rules.{rules}
 use Rattle.image_writer.specs.Lines.{sender_of}
 use Rattle.image_writer.proofs.Numbered.{receiver-past, receiver-before}
 use Rattle.image_writer.proofs.lines.ends_of.Goals as goal

@@ -1,7 +1,6 @@
 -- `on_line` reads the receiver's digit in the sender's row.
 use mathlib.Core.Path.{◌∙◌}
 use native.Mathlib.Omega.{arith}
-use borrow.Author.Rules.{rules}
 use Rattle.image_writer.specs.Lines.{sender_of, receiver_of}
 use Rattle.image_writer.proofs.Numbered.{ends, row-digit}
 use Rattle.image_writer.proofs.lines.on_line.Goals as goal

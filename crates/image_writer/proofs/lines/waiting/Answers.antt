@@ -1,15 +1,11 @@
 -- `waiting` counts the messages of all lines.
 -- Those counted and those on the lines that are left are all.
-use Prim.Native.Nat.{◌+◌, ◌-◌, ◌*◌, ◌≤◌}
-use mathlib.Core.Path.{◌≡◌, ap, ◌∙◌}
+use mathlib.Core.Path.{ap, ◌∙◌}
 use native.Mathlib.Omega.{arith}
-use borrow.Author.Rules.{rules}
-use Rattle.network.specs.declared.Network.{Network}
 use Rattle.network.specs.Abstract.{network_of}
 use Rattle.image_format.specs.Image.{all_lines}
 use Rattle.image_format.specs.Reading.{message_length}
 use Rattle.image_format.proofs.Lengths.{total, messages-length}
-use Rattle.image_writer.specs.Lines.{lines_from}
 use Rattle.image_writer.proofs.Numbered.{line-total, all_lines_lem, no_lines}
 use Rattle.image_writer.proofs.lines.waiting.Goals as goal
 

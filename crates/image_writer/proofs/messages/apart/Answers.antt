@@ -1,7 +1,6 @@
 -- `apart` gives the parts of which a message's bytes are made, sort by sort.
 use Rattle.agent.specs.Abstract.{message_of}
 use Rattle.image_writer.proofs.Chains.{info-bytes, back-bytes, link-bytes}
-use borrow.Author.Rules.{rules}
 use Rattle.image_writer.proofs.messages.apart.Goals as goal
 
 pub returns-in-Info : goal.returns-in-Info

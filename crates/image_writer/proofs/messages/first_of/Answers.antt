@@ -1,7 +1,6 @@
 -- `first_of` gives the number of the first message of any list of so many.
 use mathlib.Core.Path.{sym, ◌∙◌}
 use Rattle.image_writer.proofs.Chains.{none_after, some_after}
-use borrow.Author.Rules.{rules}
 use Rattle.image_writer.proofs.messages.first_of.Goals as goal
 
 pub returns-then-count-eq0 : goal.returns-then-count-eq0

@@ -1,16 +1,13 @@
 -- `put_heads` puts a number for each line, in order.
 -- Those of the lines from `line` on are left to put, behind `before` messages.
 use Prim.Native.Nat.{◌+◌, ◌-◌, ◌*◌, ◌≤◌}
-use mathlib.Core.Path.{◌≡◌, refl}
-use native.Mathlib.Omega.{arith}
+use mathlib.Core.Path.{◌≡◌}
 use lib.ListN.{length}
 use Rattle.network.specs.declared.Network.{Network}
 use Rattle.network.specs.Abstract.{network_of}
 use Rattle.image_format.specs.Image.{all_lines, heads_from}
 use Rattle.image_writer.specs.Lines.{lines_from}
-use Rattle.image_writer.proofs.Puts.{Left, all_left, left_as, less-left, none_left}
-use Rattle.image_writer.proofs.Chains.{all-heads, heads-long, first_head, no-heads}
-use borrow.Author.Rules.{rules}
+use Rattle.image_writer.proofs.Puts.{Left}
 use Rattle.image_writer.proofs.messages.put_heads.Given as goal
 
 abbrev pub invariant-loop-line : goal.invariant-loop-line

@@ -1,7 +1,6 @@
 -- `put_message` puts a message's parts one behind the other.
 use mathlib.Core.Path.{refl, sym}
 use Rattle.image_writer.proofs.Puts.{puts_then, puts-as}
-use borrow.Author.Rules.{rules}
 use Rattle.image_writer.proofs.messages.put_message.Goals as goal
 
 pub returns : goal.returns

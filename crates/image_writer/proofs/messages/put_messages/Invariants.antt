@@ -1,14 +1,12 @@
 -- `put_messages` puts the messages of all lines, line by line.
 -- Those of this line that are not `done` and those of the lines behind it are left to put; their numbers go on behind `number`.
 use Prim.Native.Nat.{◌+◌, ◌-◌, ◌*◌, ◌≤◌}
-use mathlib.Core.Path.{◌≡◌, refl}
-use native.Mathlib.Omega.{arith}
-use lib.ListN.{length, length-map}
+use mathlib.Core.Path.{◌≡◌}
+use lib.ListN.{length}
 use Rattle.network.specs.Abstract.{network_of}
 use Rattle.image_format.specs.Image.{all_lines, messages_from}
-use Rattle.image_writer.proofs.Puts.{Left, all_left, left_as, less-left, none_left}
-use Rattle.image_writer.proofs.Chains.{chain_left, all-chains, message-room, next-message, line-done, no-chains}
-use borrow.Author.Rules.{rules}
+use Rattle.image_writer.proofs.Puts.{Left}
+use Rattle.image_writer.proofs.Chains.{chain_left}
 use Rattle.image_writer.proofs.messages.put_messages.Given as goal
 
 abbrev pub invariant-loop-line : goal.invariant-loop-line
