@@ -1,0 +1,9 @@
+-- `put_mask` puts the mask of agents 1 to 12 of a set.
+-- The number below 4096 that has these bits is that mask.
+use mathlib.Core.Path.{refl}
+use Rattle.image_writer.proofs.Puts.{puts-as}
+use Rattle.image_writer.proofs.Records.{mask-is-put}
+use Rattle.image_writer.proofs.agents.put_mask.Goals as goal
+
+pub returns : goal.returns
+returns c = puts-as refl (mask-is-put c.args.set) c.put_number.ensures
