@@ -1,0 +1,48 @@
+-- The mask of the linked agents below, from agent n down to the one next to i.
+use mathlib.Core.Path.{◌≡◌, sym, fun_ext, ◌∙◌}
+use mathlib.Core.Bool.{false, not}
+use Prim.Native.Nat.{◌+◌, ◌-◌, ◌≤◌}
+use native.Mathlib.Omega.{arith}
+use lib.Dec.{eqb}
+use lib.ListN.{get_or}
+use borrow.Author.Rules.{rules}
+use Rattle.clauses.proofs.Pairs.{word-place}
+use Rattle.start.proofs.Words.{not-linked, is-linked, linked_to, none-beyond, as-far, all-linked}
+use Rattle.start.proofs.Masks.{Masked, mask-begins, mask_fits, mask-goes, mask-moved}
+use Rattle.start.proofs.informs.Goals as goal
+
+pub loop-k-init : goal.loop-k-init
+loop-k-init c = (c.requires.1, mask-begins _ _ c.requires.2 (λ k h. none-beyond _ _ _ k h), omega arith)
+
+pub words_before-requires : goal.words_before-requires
+words_before-requires c = (omega arith, c.loop-k.invariant.1.few)
+
+pub overflow_mul-mask : goal.overflow_mul-mask
+overflow_mul-mask c = omega (arith, mask_fits _ _ _ false c.loop-k.invariant.1 (omega arith))
+
+pub overflow_cast-mask : goal.overflow_cast-mask
+overflow_cast-mask c = tt
+
+pub overflow_add-mask : goal.overflow_add-mask
+overflow_add-mask c =
+    let word = get_or c.args.bans.now (c.words_before.result + c.args.i - 1) 0 in
+    omega (arith, mask_fits _ _ _ (not (eqb word 0)) c.loop-k.invariant.1 (omega arith))
+
+pub loop-k-preserved : goal.loop-k-preserved
+loop-k-preserved c =
+    let h = c.loop-k in
+    let p = word-place c.args.i h.k _ c.words_before.ensures.0 (omega arith) (omega arith) c.words_before.ensures.1 in (
+      omega arith,
+      mask-goes _ _ _ _ h.invariant.1 (omega arith)
+          (is-linked _ _ _ _ (omega arith) (omega arith) h.invariant.1.few p.0 ∙ sym (as-far _ _ _ h.k h.invariant.2)),
+      omega (arith, h.invariant.2),
+    )
+
+pub returns : goal.returns
+returns c =
+    λ p e none.
+    let h = c.loop-k in
+    let i = c.args.i in
+    let d : h.k ≡ i = omega arith in
+    mask-moved _ h.mask i (rw d at h.invariant.1) (λ k u. as-far _ _ i k (omega (arith, c.requires.1)) ∙ not-linked _ _ _ (λ l b t. omega arith))
+    ∙ fun_ext (all-linked p _ _ i e none)
