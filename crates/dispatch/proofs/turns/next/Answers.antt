@@ -6,8 +6,7 @@ use native.Mathlib.Numerals.{add-one}
 use borrow.Author.Rules.{rules}
 use Rattle.dispatch.specs.Walking.{NextOf}
 use Rattle.dispatch.proofs.Ahead.{ahead-row}
-use Rattle.dispatch.proofs.turns.next.Statement.{statement}
-use Rattle.dispatch.proofs.turns.next.Tie as tie
+use Rattle.dispatch.proofs.turns.next.Goals as goal
 
 receiver : (n i j k : ℕ) → 1 ≤ i → i ≤ n → 1 ≤ j → j ≤ n → (n ≤ j → n ≤ i) → k ≡ suc j → NextOf n i j i k
 receiver n i j k li hi lj hj o e =
@@ -25,29 +24,11 @@ sender n i j k hi lj gj hj few e =
       further = omega arith;
     })
 
-add-t5 : tie.Need-overflow-add-t5
-add-t5 c = search rules
+pub returns-then-to-n : goal.returns-then-to-n
+returns-then-to-n c = receiver _ _ _ _ c.requires.0 c.requires.1 c.requires.2 c.requires.3 (λ q. absurd (omega (arith, c.if-to-n.true))) (add-one _)
 
-returns : tie.Need-returns
-returns c =
-    let p = c.before.requires in
-    receiver _ _ _ _ p.0 p.1 p.2 p.3 (λ q. absurd (omega (arith, c.if1.true))) (add-one _)
+pub returns-then-from-n : goal.returns-then-from-n
+returns-then-from-n c = sender _ _ _ _ c.if-from-n.true c.requires.2 (omega (arith, c.if-to-n.false)) c.requires.3 c.requires.4 (add-one _)
 
-add-t6 : tie.Need-overflow-add-t6
-add-t6 c = search rules
-
-returns-2 : tie.Need-returns-2
-returns-2 c =
-    let p = c.before.before.requires in
-    sender _ _ _ _ c.if2.true p.2 (omega (arith, c.before.if1.false)) p.3 p.4 (add-one _)
-
-add-t7 : tie.Need-overflow-add-t7
-add-t7 c = search rules
-
-returns-3 : tie.Need-returns-3
-returns-3 c =
-    let p = c.before.before.requires in
-    receiver _ _ _ _ p.0 p.1 p.2 p.3 (λ q. omega (arith, c.if2.false)) (add-one _)
-
-pub next-spec : {M : Type 1} → statement M
-next-spec = tie.close (tie.spec add-t5 returns add-t6 returns-2 add-t7 returns-3)
+pub returns : goal.returns
+returns c = receiver _ _ _ _ c.requires.0 c.requires.1 c.requires.2 c.requires.3 (λ q. omega (arith, c.if-from-n.false)) (add-one _)

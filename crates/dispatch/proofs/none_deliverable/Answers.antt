@@ -1,0 +1,34 @@
+-- The word of a run that may use no round.
+use mathlib.Core.Logic.{◌≢◌}
+use mathlib.Core.Path.{◌≡◌, refl, sym, ap, ◌∙◌}
+use mathlib.Core.List.{[], ◌∷◌}
+use types.Run.{OneOf, miss}
+use denote.Enum.Declared.{tag_of}
+use borrow.Enum.Known.{lives_at}
+use borrow.Author.Rules.{rules}
+use Rattle.engine.specs.declared.Ending.{Ending}
+use Rattle.engine.specs.declared.Ending.TheVariants.{None, Plan, Jammed, Open, Broken}
+use Rattle.engine.specs.Answers.{ending_of}
+use Rattle.engine.specs.contracts.Ending as E
+use Rattle.dispatch.proofs.Standing.{number_for, nothing_for}
+use Rattle.dispatch.proofs.none_deliverable.Goals as goal
+
+not-plan : (e : Ending) → e ≢ Plan → 10 ≡ number_for (ending_of e)
+unfolding number_for ending_of
+not-plan None n = refl
+not-plan Plan n = absurd (n refl)
+not-plan Jammed n = refl
+not-plan Open n = refl
+not-plan Broken n = refl
+
+pub returns-in-Plan : goal.returns-in-Plan
+unfolding number_for ending_of
+returns-in-Plan c =
+    let a = c.run-a in
+    let e : a.result.ending ≡ Plan = c.in-Plan.is in
+    sym (ap (λ (x : Ending). number_for (ending_of x)) e) ∙ ap number_for a.ensures.ending ∙ nothing_for _ c.requires
+
+pub returns-in_default : goal.returns-in_default
+returns-in_default c =
+    let a = c.run-a in
+    not-plan _ c.in_default.not-Plan ∙ ap number_for a.ensures.ending ∙ nothing_for _ c.requires
