@@ -1,0 +1,9 @@
+-- The two cases: the receiver is below the sender, or beyond it.
+use Rattle.random_rails.proofs.Lines.{ends_low, ends-high}
+use Rattle.random_rails.proofs.rails.ends_of.Goals as goal
+
+pub returns-then-other-from : goal.returns-then-other-from
+returns-then-other-from c = ends_low c.args.line c.requires c.if-other-from.true
+
+pub returns : goal.returns
+returns c = ends-high c.args.line c.requires c.if-other-from.false
