@@ -2,8 +2,8 @@
 -- An array's elements are looked at one by one; of each one `search` finds what its type says.
 use Prim.Native.Nat.{ℕ, ◌^◌, ◌<◌}
 use mathlib.Core.Path.{◌≡◌}
-use mathlib.Core.List.{List, [], ◌∷◌, map}
-use lib.ListN.{length, get_or, length-map}
+use mathlib.Core.List.{List, [], ◌∷◌}
+use lib.ListN.{length, get_or}
 use base.Fml.{Fml}
 use mir.Syntax.{w8, w16, w64}
 use mir.Val.{Val, Fits}
