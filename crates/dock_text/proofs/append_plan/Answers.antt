@@ -1,12 +1,9 @@
 -- The slots of a plan, and nothing for the other words. Assumes nothing.
-use mathlib.Core.Path.{◌≡◌, ap}
-use borrow.Enum.Known.{lives_at}
+use Rattle.std.proofs.Common.{◌≡◌, ap}
 use Rattle.engine.specs.declared.Ending.TheVariants.{None, Plan, Jammed, Open, Broken}
 use Rattle.engine.specs.Answers.{ending_of}
-use Rattle.engine.specs.contracts.Ending as E
 use Rattle.text.proofs.Appending.{appends-none}
 use Rattle.dock_text.specs.Text.{plan_lines}
-use borrow.Author.Rules.{rules}
 use Rattle.dock_text.proofs.append_plan.Goals as goal
 
 pub append_slots-requires : goal.append_slots-requires

@@ -2,7 +2,6 @@
 use Rattle.text.specs.Text.{newline}
 use Rattle.text.proofs.Appending.{appends-then}
 use Rattle.dock_text.specs.Text.{verdict, rounds, ran_text, answer_text}
-use borrow.Author.Rules.{rules}
 use Rattle.dock_text.proofs.append_ran.Goals as goal
 
 pub returns : goal.returns

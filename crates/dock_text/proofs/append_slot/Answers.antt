@@ -2,7 +2,6 @@
 use native.Mathlib.Omega.{arith}
 use Rattle.text.proofs.Appending.{appends-then}
 use Rattle.dock_text.specs.Text.{slot_line, scanner, slot}
-use borrow.Author.Rules.{rules}
 use Rattle.dock_text.proofs.append_slot.Goals as goal
 
 pub returns : goal.returns

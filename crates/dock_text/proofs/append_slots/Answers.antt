@@ -1,12 +1,8 @@
 -- After i turns the lines of the first i scanners stand in the buffer. Assumes nothing.
-use Prim.Native.Nat.{◌+◌, ◌*◌, ◌-◌, ◌≤◌}
 use native.Mathlib.Omega.{arith}
-use borrow.Author.Rules.{rules}
 use Rattle.base.specs.Finite.{gather}
-use Rattle.network.specs.Abstract.{network_of}
-use Rattle.text.specs.Text.{Appends}
 use Rattle.text.proofs.Appending.{appends-none}
-use Rattle.dock_text.proofs.Lines.{slot_of, slots-more, slots-all}
+use Rattle.dock_text.proofs.Lines.{slots-more, slots-all}
 use Rattle.dock_text.proofs.append_slots.Goals as goal
 
 pub loop-i-init : goal.loop-i-init

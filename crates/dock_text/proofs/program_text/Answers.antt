@@ -1,5 +1,4 @@
 -- The text with 100,000 rounds. Assumes nothing.
-use borrow.Author.Rules.{rules}
 use Rattle.dock_text.specs.Settling.{program_rounds}
 use Rattle.dock_text.proofs.program_text.Goals as goal
 

@@ -4,7 +4,6 @@ use Rattle.protocol.specs.Network.{Network, start_sheet}
 use Rattle.protocol.specs.Run.{ending_number, run}
 use Rattle.dock_text.specs.Settling.{program_rule, settled}
 use Rattle.dock_text.proofs.Refused.{refused-run}
-use borrow.Author.Rules.{rules}
 use Rattle.dock_text.proofs.settle.Goals as goal
 
 pub returns : goal.returns

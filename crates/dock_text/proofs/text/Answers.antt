@@ -2,7 +2,6 @@
 use native.Mathlib.Omega.{arith}
 use Rattle.dock_text.specs.Text.{sheet_refused}
 use Rattle.dock_text.proofs.Printed.{prints-counts, prints-refused, counted, prints-ran}
-use borrow.Author.Rules.{rules}
 use Rattle.dock_text.proofs.text.Goals as goal
 
 pub returns-then-s-ne0 : goal.returns-then-s-ne0
