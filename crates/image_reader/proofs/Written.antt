@@ -1,6 +1,6 @@
 -- A network is written into a buffer of 19,744 bytes: that is in shape and what stands there is its image, or it is not in shape.
 -- "19,744 at most": a line has at most eight messages, and there are 132 lines.
-use Prim.Native.Nat.{ℕ, ◌+◌, ◌*◌, ◌≤◌}
+use Prim.Native.Nat.{ℕ, ◌*◌, ◌≤◌}
 use mathlib.Core.Path.{◌≡◌, refl, sym, ap, ap₂, ◌∙◌}
 use mathlib.Core.Logic.{◌≢◌}
 use mathlib.Core.Bool.{true, false, ◌&&◌}

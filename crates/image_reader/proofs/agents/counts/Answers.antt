@@ -1,0 +1,6 @@
+-- `counts` are three counts of eight bytes.
+use Rattle.image_reader.proofs.Records.{counts-in}
+use Rattle.image_reader.proofs.agents.counts.Goals as goal
+
+pub returns : goal.returns
+returns c = counts-in c.args.s.now c.args.at _ _ _ c.eight_bytes.ensures c.eight_bytes-2.ensures c.eight_bytes-3.ensures

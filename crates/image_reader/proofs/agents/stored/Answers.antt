@@ -1,0 +1,32 @@
+-- `stored` is the mask of the stored reasons, from the last down.
+-- The invariant: the mask of the own values above v.
+use Prim.Native.Nat.{◌<◌}
+use mathlib.Core.Path.{◌≡◌, refl}
+use native.Mathlib.Omega.{arith}
+use lib.Dec.{eqb}
+use Rattle.packed.specs.Packed.{mask_from}
+use Rattle.packed.proofs.Masks.{byte-lt}
+use Rattle.image_reader.proofs.Masks.{next-mask, next_fits}
+use Rattle.image_reader.proofs.agents.stored.Goals as goal
+
+pub loop-v-init : goal.loop-v-init
+unfolding mask_from
+loop-v-init c = (omega arith, refl)
+
+pub overflow_mul-mask : goal.overflow_mul-mask
+overflow_mul-mask c =
+    let room : c.loop-v.mask < 128 =
+    next_fits c.args.s.now c.args.at c.loop-v.mask c.loop-v.v c.loop-v-test.true c.loop-v.invariant.1 in
+    record { fits = omega (arith, room) }
+
+pub overflow_add-mask : goal.overflow_add-mask
+overflow_add-mask c =
+    let room : c.loop-v.mask < 128 =
+    next_fits c.args.s.now c.args.at c.loop-v.mask c.loop-v.v c.loop-v-test.true c.loop-v.invariant.1 in
+    record { fits = omega (arith, room, byte-lt (eqb c.byte.result 1)) }
+
+pub loop-v-preserved : goal.loop-v-preserved
+loop-v-preserved c = (omega arith, next-mask c.args.s.now c.args.at _ c.loop-v.v _ c.loop-v-test.true c.loop-v.invariant.0 c.loop-v.invariant.1 c.byte.ensures)
+
+pub returns : goal.returns
+returns c = let e : c.loop-v.v ≡ 0 = omega arith in rw e at c.loop-v.invariant.1
