@@ -1,6 +1,6 @@
 -- Signed bytes and gaps, as the machine has them.
 -- A byte from 128 on is 256 less; a gap from -7 to 7 fits a signed byte.
-use Prim.Native.Nat.{ℕ, ◌+◌, ◌-◌, ◌≤◌, ◌<◌}
+use Prim.Native.Nat.{ℕ, ◌+◌, ◌≤◌, ◌<◌}
 use mathlib.Core.Path.{◌≡◌, ◌∙◌}
 use mathlib.Core.Bool.{Bool, ◌&&◌}
 use native.Mathlib.Omega.{arith}

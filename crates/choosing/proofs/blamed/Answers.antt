@@ -4,7 +4,6 @@ use Prim.Native.Nat.{pred}
 use mathlib.Core.Path.{◌≡◌, sym, ◌∙◌}
 use mathlib.Core.Option.{some}
 use native.Mathlib.Omega.{arith}
-use borrow.Author.Rules.{rules}
 use Rattle.base.specs.Bits.{bit}
 use Rattle.base.specs.Finite.{lowest}
 use Rattle.base.proofs.Search.{lowest-range}

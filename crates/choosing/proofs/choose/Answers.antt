@@ -1,6 +1,5 @@
 -- `choose` is the rule of choosing.
 -- The trailing zeros of the mask of free values give the value taken, and how many get a reason.
-use borrow.Author.Rules.{rules}
 use Prim.Native.Nat.{ℕ, ◌+◌, ◌≤◌}
 use mathlib.Core.Path.{◌≡◌, sym, ◌∙◌}
 use mathlib.Core.Logic.{◌≢◌}
@@ -37,15 +36,15 @@ overflow_add-value c = record { fits = omega (arith, trailing_le 8 c.free-mask.r
 pub give_reasons-t-requires : goal.give_reasons-t-requires
 give_reasons-t-requires c =
     let t : (c.if-mask-ne0.tried ≤ c.args.own.domain) × Barred c.args.stored c.args.bars c.if-mask-ne0.tried =
-        elim c.if-mask-ne0.branch [
-          | then-mask-ne0 u ↦
-              rw u.tried-is
-              (let t = tried-below _ _ _ _ (lowest-free c.args.own c.args.stored c.args.bars _ c.requires.own_fits c.free-mask.ensures u.if-mask-ne0.true) in
-              (omega (arith, t.0), t.1))
-          | else-mask-ne0 u ↦
-              rw u.tried-is
-              (omega arith, tried-all _ _ _ (none_free c.args.own c.args.stored c.args.bars _ c.free-mask.ensures u.if-mask-ne0.false))
-        ] in
+    elim c.if-mask-ne0.branch [
+      | then-mask-ne0 u ↦
+          rw u.tried-is
+          (let t = tried-below _ _ _ _ (lowest-free c.args.own c.args.stored c.args.bars _ c.requires.own_fits c.free-mask.ensures u.if-mask-ne0.true) in
+          (omega (arith, t.0), t.1))
+      | else-mask-ne0 u ↦
+          rw u.tried-is
+          (omega arith, tried-all _ _ _ (none_free c.args.own c.args.stored c.args.bars _ c.free-mask.ensures u.if-mask-ne0.false))
+    ] in
     record { own_fits = c.requires.own_fits; nogoods_len = (c.requires.nogoods_len.0, t.0, t.1); coherent = c.requires.nogoods_len.1 }
 
 pub returns : goal.returns

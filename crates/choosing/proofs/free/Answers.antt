@@ -1,6 +1,5 @@
 -- `free` is the mask of the values that are left free.
 -- Bit by bit: a law of masks.
-use borrow.Author.Rules.{rules}
 use native.Mathlib.Omega.{arith}
 use Rattle.choosing.proofs.LeftFree.{free-mask}
 use Rattle.choosing.proofs.free.Goals as goal

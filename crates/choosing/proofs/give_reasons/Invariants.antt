@@ -1,22 +1,11 @@
 -- `give_reasons` gives the reasons of the values tried, and joins the left sides on the way.
 -- Value by value, upward. The invariant: the first i have theirs, and the figure is the union of that many.
-use Prim.Native.Nat.{◌+◌, ◌*◌, ◌-◌, ◌/◌, ◌%◌, ◌^◌, ◌≤◌, ◌<◌}
-use mathlib.Core.Path.{◌≡◌, sym}
-use mathlib.Core.Logic.{⊎_elim}
-use native.Mathlib.Nat.{div-one, one-mul, mod-le}
-use native.Mathlib.Numerals.{add-one}
-use native.Mathlib.Omega.{arith}
-use lib.Bits.{or_lt}
-use lib.ListN.{length, length-set}
-use lib.Pow.{pow_pos, shl_exact}
-use borrow.Author.Rules.{rules}
-use Rattle.base.proofs.Bits.{half}
-use Rattle.agent_rules.specs.Shape.{max_named}
+use Prim.Native.Nat.{◌-◌, ◌/◌, ◌%◌, ◌^◌, ◌≤◌, ◌<◌}
+use mathlib.Core.Path.{◌≡◌}
+use lib.ListN.{length}
 use Rattle.packed.specs.Packed.{assignment}
 use Rattle.agent_rules.specs.Choosing.{union}
 use Rattle.choosing.specs.Choosing.{nogoods_of, Reasoned}
-use Rattle.choosing.proofs.Cut.{cut_has, cut-lacks}
-use Rattle.choosing.proofs.Reasons.{reasons-none, reasons-kept, barred-by, reasons-given, joined-none, joined-kept, joined-given}
 use Rattle.choosing.proofs.give_reasons.Given as goal
 
 abbrev pub invariant-loop-rest : goal.invariant-loop-rest

@@ -1,14 +1,12 @@
 -- `naming` lays the left sides stored over each other.
 -- Value by value, upward. The invariant: those of the first i.
-use Prim.Native.Nat.{◌+◌, ◌-◌, ◌/◌, ◌^◌, ◌≤◌}
+use Prim.Native.Nat.{◌+◌, ◌/◌, ◌^◌}
 use mathlib.Core.Path.{◌≡◌, sym}
-use mathlib.Core.Logic.{⊎_elim}
 use native.Mathlib.Nat.{div-one}
 use native.Mathlib.Numerals.{add-one}
 use native.Mathlib.Omega.{arith}
-use borrow.Author.Rules.{rules}
 use Rattle.base.proofs.Bits.{half}
-use Rattle.choosing.proofs.Blaming.{Overlaid, overlaid-none, overlaid-stored, overlaid-other}
+use Rattle.choosing.proofs.Blaming.{overlaid-none, overlaid-stored, overlaid-other}
 use Rattle.choosing.proofs.naming.Goals as goal
 use Rattle.choosing.proofs.naming.Goals.{else-rest-eq1, then-rest-eq1}
 

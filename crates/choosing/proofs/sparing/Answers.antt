@@ -1,13 +1,12 @@
 -- `sparing` is the mask of the nogoods that do not name an agent.
 -- From the highest own value down. The invariant: the mask of the values above i.
-use borrow.Author.Rules.{rules}
-use Prim.Native.Nat.{suc, ◌-◌, ◌≤◌, ◌<◌}
+use Prim.Native.Nat.{◌<◌}
 use mathlib.Core.Path.{◌≡◌, refl}
 use native.Mathlib.Omega.{arith}
 use lib.Dec.{eqb}
 use Rattle.packed.specs.Packed.{mask_from}
 use Rattle.packed.proofs.Masks.{byte-lt}
-use Rattle.choosing.proofs.Spared.{spares, next-mask, next_fits}
+use Rattle.choosing.proofs.Spared.{next-mask, next_fits}
 use Rattle.choosing.proofs.sparing.Goals as goal
 
 pub loop-i-init : goal.loop-i-init

@@ -1,13 +1,9 @@
 -- `sparing` is the mask of the nogoods that do not name an agent.
 -- From the highest own value down. The invariant: the mask of the values above i.
-use borrow.Author.Rules.{rules}
-use Prim.Native.Nat.{suc, ◌-◌, ◌≤◌, ◌<◌}
-use mathlib.Core.Path.{◌≡◌, refl}
-use native.Mathlib.Omega.{arith}
-use lib.Dec.{eqb}
+use Prim.Native.Nat.{suc, ◌-◌, ◌≤◌}
+use mathlib.Core.Path.{◌≡◌}
 use Rattle.packed.specs.Packed.{mask_from}
-use Rattle.packed.proofs.Masks.{byte-lt}
-use Rattle.choosing.proofs.Spared.{spares, next-mask, next_fits}
+use Rattle.choosing.proofs.Spared.{spares}
 use Rattle.choosing.proofs.sparing.Given as goal
 
 abbrev pub invariant-loop-i : goal.invariant-loop-i

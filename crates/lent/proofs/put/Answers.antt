@@ -2,12 +2,11 @@
 -- Each turn pastes one byte more.
 use mathlib.Core.Path.{◌≡◌, refl, sym, ap, ◌∙◌}
 use mathlib.Core.List.{List, ◌++◌}
-use Prim.Native.Nat.{ℕ, ◌+◌, ◌-◌, ◌≤◌}
+use Prim.Native.Nat.{ℕ, ◌+◌}
 use native.Mathlib.Omega.{arith}
 use native.Mathlib.Numerals.{add-one}
 use lib.ListN.{length, get_or, set, take, drop, length-set}
 use lib.Seq.{paste, paste-zero, paste-suc, take-length}
-use borrow.Author.Rules.{rules}
 use Rattle.lent.proofs.put.Goals as goal
 
 pub loop-i-init : goal.loop-i-init

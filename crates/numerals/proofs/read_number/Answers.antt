@@ -1,10 +1,7 @@
 -- Digit by digit, what is read so far says the same number with the digits left. Assumes nothing.
 use mathlib.Core.Path.{sym}
-use Prim.Native.Nat.{◌-◌}
 use native.Mathlib.Omega.{arith}
-use lib.ListN.{length}
-use Rattle.numerals.proofs.Numbers.{no-digits, Reading, reading_begins, low_byte, high_byte, reading-goes, reading-ends}
-use borrow.Author.Rules.{rules}
+use Rattle.numerals.proofs.Numbers.{no-digits, reading_begins, low_byte, high_byte, reading-goes, reading-ends}
 use Rattle.numerals.proofs.read_number.Goals as goal
 
 pub returns-then-s-eq0 : goal.returns-then-s-eq0

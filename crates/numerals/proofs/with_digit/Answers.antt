@@ -2,7 +2,6 @@
 use mathlib.Core.Path.{sym}
 use native.Mathlib.Omega.{arith}
 use Rattle.numerals.proofs.Numbers.{capped-low, capped-high}
-use borrow.Author.Rules.{rules}
 use Rattle.numerals.proofs.with_digit.Goals as goal
 
 pub returns-then-digit-value : goal.returns-then-digit-value

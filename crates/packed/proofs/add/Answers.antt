@@ -1,6 +1,5 @@
 -- `add` puts one agent into a set.
 -- One bit more.
-use borrow.Author.Rules.{rules}
 use Rattle.packed.proofs.Sets.{member-add}
 use Rattle.packed.proofs.add.Goals as goal
 

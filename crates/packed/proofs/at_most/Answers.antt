@@ -1,7 +1,6 @@
 -- `at_most` compares the digits of two words.
 -- Those of odd place, and those of even place a digit further on.
 use mathlib.Core.Path.{sym, ◌∙◌}
-use borrow.Author.Rules.{rules}
 use Rattle.packed.proofs.Compared.{each-compared}
 use Rattle.packed.proofs.at_most.Goals as goal
 

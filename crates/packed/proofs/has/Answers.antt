@@ -1,6 +1,5 @@
 -- `has` is whether an agent is in a set.
 -- Its bit.
-use borrow.Author.Rules.{rules}
 use Rattle.packed.proofs.Sets.{member-at}
 use Rattle.packed.proofs.has.Goals as goal
 

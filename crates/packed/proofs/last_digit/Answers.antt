@@ -1,6 +1,5 @@
 -- `last_digit` is the highest digit that is not 0.
 -- The zeros at the word's high end.
-use borrow.Author.Rules.{rules}
 use native.Mathlib.Omega.{arith}
 use lib.Count.{leading_le}
 use Rattle.packed.proofs.Ends.{last-named}

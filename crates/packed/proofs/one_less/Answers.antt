@@ -1,6 +1,5 @@
 -- `one_less` takes one off a digit of a word.
 -- The word with that digit changed.
-use borrow.Author.Rules.{rules}
 use Rattle.packed.proofs.Digits.{one_less}
 use Rattle.packed.proofs.one_less.Goals as goal
 

@@ -1,7 +1,6 @@
 -- `one_more` adds one to a digit of a word.
 -- The word with that digit changed.
 use native.Mathlib.Omega.{arith}
-use borrow.Author.Rules.{rules}
 use Rattle.packed.proofs.Digits.{one_more}
 use Rattle.packed.proofs.one_more.Goals as goal
 

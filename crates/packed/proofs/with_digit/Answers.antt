@@ -5,7 +5,6 @@ use mathlib.Core.Path.{refl}
 use native.Mathlib.Omega.{arith}
 use Rattle.packed.proofs.Fields.{Exchange, exchange, masked}
 use Rattle.packed.proofs.Digits.{digit-changed}
-use borrow.Author.Rules.{rules}
 use Rattle.packed.proofs.with_digit.Goals as goal
 
 pub overflow_sub-result : goal.overflow_sub-result

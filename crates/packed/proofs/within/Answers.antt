@@ -1,7 +1,6 @@
 -- `within` is whether each digit of a word is 0 or the same in another.
 -- The other word's digits, where the word names somebody, are the word.
 use native.Mathlib.Omega.{arith}
-use borrow.Author.Rules.{rules}
 use Rattle.packed.proofs.Wordwise.{within-is}
 use Rattle.packed.proofs.within.Goals as goal
 

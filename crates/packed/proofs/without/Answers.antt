@@ -1,6 +1,5 @@
 -- `without` takes one agent out of a set.
 -- One bit less.
-use borrow.Author.Rules.{rules}
 use Prim.Native.Nat.{◌*◌, ◌-◌, ◌%◌, ◌^◌}
 use Rattle.packed.proofs.Sets.{Without, member-without}
 use Rattle.packed.proofs.without.Goals as goal

@@ -2,8 +2,7 @@
 -- Each way out is the check that stops there; the last is the walk.
 use mathlib.Core.Path.{◌≡◌, sym, ◌∙◌}
 use mathlib.Core.Bool.{true}
-use borrow.Author.Rules.{rules}
-use borrow.Author.Tests.{ne_eqb, eqb-true, not-true, not-false}
+use borrow.Author.Tests.{ne_eqb}
 use Rattle.problem.specs.Sheet.{fault_number, header_length, record_length, records_in, header_good}
 use Rattle.sheet.specs.Abstract.{outcome}
 use Rattle.problem.proofs.Checks.{short, bad-header, bad-length}

@@ -5,7 +5,6 @@ use native.Mathlib.Omega.{arith}
 use Rattle.sheet.specs.Abstract.{problem_of}
 use Rattle.lent.specs.Abstract.{written_of}
 use Rattle.sheet_writer.proofs.Sheets.{sheet-short, sheet-put}
-use borrow.Author.Rules.{rules}
 use Rattle.sheet_writer.proofs.put_sheet.Goals as goal
 
 pub returns-then-out-length : goal.returns-then-out-length

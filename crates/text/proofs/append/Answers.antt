@@ -1,12 +1,11 @@
 -- The loop copies: after i turns the first i bytes of s stand in the buffer from `at` on. Assumes nothing.
 use mathlib.Core.Path.{◌≡◌, refl, sym, ap, ◌∙◌}
 use mathlib.Core.List.{List}
-use Prim.Native.Nat.{ℕ, ◌+◌, ◌-◌, ◌≤◌}
+use Prim.Native.Nat.{ℕ, ◌+◌}
 use native.Mathlib.Omega.{arith}
 use native.Mathlib.Numerals.{add-one}
 use lib.ListN.{length, get_or, set, length-set}
 use lib.Seq.{paste, paste-zero, paste-suc}
-use borrow.Author.Rules.{rules}
 use Rattle.text.proofs.Appending.{pasted}
 use Rattle.text.proofs.append.Goals as goal
 

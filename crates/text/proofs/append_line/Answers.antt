@@ -2,9 +2,6 @@
 use native.Mathlib.Omega.{arith}
 use Rattle.text.specs.Text.{line_of, newline}
 use Rattle.text.proofs.Appending.{appends-then}
-use borrow.Author.Rules.{rules}
-use Rattle.text.proofs.append.Reads as append-reads
-use Rattle.text.proofs.append_number.Reads as append-number-reads
 use Rattle.text.proofs.append_line.Goals as goal
 
 pub returns : goal.returns

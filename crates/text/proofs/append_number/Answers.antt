@@ -2,9 +2,6 @@
 use mathlib.Core.Path.{◌∙◌}
 use native.Mathlib.Omega.{arith}
 use Rattle.text.proofs.Digits.{fewest-decimal, digits-fit}
-use borrow.Author.Rules.{rules}
-use Rattle.io.proofs.decimal.Reads as decimal-reads
-use Rattle.text.proofs.append.Reads as append-reads
 use Rattle.text.proofs.append_number.Goals as goal
 
 pub append-requires : goal.append-requires

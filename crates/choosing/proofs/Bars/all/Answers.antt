@@ -3,7 +3,6 @@
 use Prim.Native.Nat.{pred}
 use native.Mathlib.Omega.{arith}
 use Rattle.choosing.proofs.Bytes.{overlaid-bit}
-use borrow.Author.Rules.{rules}
 use Rattle.choosing.proofs.Bars.all.Goals as goal
 
 pub returns : goal.returns

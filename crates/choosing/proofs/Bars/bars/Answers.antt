@@ -1,6 +1,5 @@
 -- `bars` says whether some agent bars an own value.
 -- That bit of each byte of either word is kept.
-use borrow.Author.Rules.{rules}
 use native.Mathlib.Numerals.{sub-one}
 use native.Mathlib.Omega.{arith}
 use Rattle.choosing.proofs.Marks.{marks, some-marked}

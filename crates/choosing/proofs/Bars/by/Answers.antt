@@ -6,7 +6,6 @@ use native.Mathlib.Numerals.{sub-one}
 use native.Mathlib.Omega.{arith}
 use Rattle.base.specs.Bits.{bit}
 use Rattle.choosing.proofs.Bytes.{bit-of-low, bit-of-high}
-use borrow.Author.Rules.{rules}
 use Rattle.choosing.proofs.Bars.by.Goals as goal
 
 pub returns-then-k-le8 : goal.returns-then-k-le8

@@ -6,7 +6,6 @@ use native.Mathlib.Numerals.{sub-one}
 use native.Mathlib.Omega.{arith}
 use lib.Count.{trailing_le}
 use Rattle.choosing.proofs.Marks.{marks, first-low, first-high, first-none}
-use borrow.Author.Rules.{rules}
 use Rattle.choosing.proofs.Bars.first.Goals as goal
 
 pub overflow_cast-result : goal.overflow_cast-result

@@ -1,11 +1,9 @@
 -- `first_of` is the lowest-numbered agent that bars a value, of those that a word names.
 -- One by one they go from the word. The invariant: the rest of the word names those that are left.
-use Prim.Native.Nat.{pred}
 use mathlib.Core.Path.{refl, sym, ◌∙◌}
 use native.Mathlib.Omega.{arith}
-use borrow.Author.Rules.{rules}
-use Rattle.packed.proofs.Naming.{naming, naming-fewer}
-use Rattle.choosing.proofs.Blaming.{Sought, sought-found, sought-passed, sought-none}
+use Rattle.packed.proofs.Naming.{naming-fewer}
+use Rattle.choosing.proofs.Blaming.{sought-found, sought-passed, sought-none}
 use Rattle.choosing.proofs.Bars.first_of.Goals as goal
 
 pub loop-rest-init : goal.loop-rest-init

@@ -1,11 +1,8 @@
 -- `first_of` is the lowest-numbered agent that bars a value, of those that a word names.
 -- One by one they go from the word. The invariant: the rest of the word names those that are left.
 use Prim.Native.Nat.{pred}
-use mathlib.Core.Path.{refl, sym, ◌∙◌}
-use native.Mathlib.Omega.{arith}
-use borrow.Author.Rules.{rules}
-use Rattle.packed.proofs.Naming.{naming, naming-fewer}
-use Rattle.choosing.proofs.Blaming.{Sought, sought-found, sought-passed, sought-none}
+use Rattle.packed.proofs.Naming.{naming}
+use Rattle.choosing.proofs.Blaming.{Sought}
 use Rattle.choosing.proofs.Bars.first_of.Given as goal
 
 abbrev pub invariant-loop-rest : goal.invariant-loop-rest

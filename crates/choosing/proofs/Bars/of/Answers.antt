@@ -5,8 +5,8 @@ use native.Mathlib.Omega.{arith}
 use lib.ListN.{length}
 use Rattle.packed.specs.Packed.{assignment}
 use Rattle.packed.proofs.Digits.{nobody-assigned}
-use Rattle.packed.proofs.Naming.{naming, naming-fewer}
-use Rattle.choosing.proofs.Walking.{Walked, walk_begins, walk_ends, near, walk-goes}
+use Rattle.packed.proofs.Naming.{naming-fewer}
+use Rattle.choosing.proofs.Walking.{walk_begins, walk_ends, near, walk-goes}
 use Rattle.choosing.proofs.Bars.of.Goals as goal
 
 pub loop-rest-init : goal.loop-rest-init

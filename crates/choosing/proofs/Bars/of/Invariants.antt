@@ -1,12 +1,8 @@
 -- `of` is what a view bars.
 -- A walk along the agents that the view names. The invariant: the bytes are those of the view less the agents that are left.
-use Prim.Native.Nat.{◌≤◌}
-use native.Mathlib.Omega.{arith}
-use lib.ListN.{length}
 use Rattle.packed.specs.Packed.{assignment}
-use Rattle.packed.proofs.Digits.{nobody-assigned}
-use Rattle.packed.proofs.Naming.{naming, naming-fewer}
-use Rattle.choosing.proofs.Walking.{Walked, walk_begins, walk_ends, near, walk-goes}
+use Rattle.packed.proofs.Naming.{naming}
+use Rattle.choosing.proofs.Walking.{Walked}
 use Rattle.choosing.proofs.Bars.of.Given as goal
 
 abbrev pub invariant-loop-rest : goal.invariant-loop-rest

@@ -5,7 +5,6 @@ use mathlib.Core.Path.{refl}
 use native.Mathlib.Omega.{arith}
 use Rattle.packed.proofs.Fields.{Exchange, exchange, masked}
 use Rattle.choosing.proofs.Bytes.{changed-low, changed-high}
-use borrow.Author.Rules.{rules}
 use Rattle.choosing.proofs.Bars.with.Goals as goal
 
 pub overflow_sub-b : goal.overflow_sub-b

@@ -1,7 +1,6 @@
 -- `barred_at` is one byte of a word of bans.
 use mathlib.Core.Path.{refl}
 use Rattle.choosing.specs.Barring.{barred_at}
-use borrow.Author.Rules.{rules}
 use Rattle.choosing.proofs.barring.barred_at.Goals as goal
 
 pub returns : goal.returns

@@ -2,7 +2,6 @@
 -- Its pairs joined to the word of its two agents.
 use Prim.Native.Nat.{◌+◌, ◌*◌}
 use native.Mathlib.Omega.{arith}
-use borrow.Author.Rules.{rules}
 use Rattle.problem.specs.Sheet.{byte_at}
 use Rattle.sheet_parts.proofs.Records.{good-record, table-there}
 use Rattle.sheet_parts.proofs.bans.add_record.Goals as goal

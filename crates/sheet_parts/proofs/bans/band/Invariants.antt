@@ -1,16 +1,8 @@
 -- `band` is the set of the pairs with a gap from least to greatest.
 -- The loop has the pairs of the gaps up to k - 8; each turn adds a diagonal.
 use Prim.Native.Nat.{◌-◌, ◌≤◌}
-use mathlib.Core.Path.{◌≡◌}
-use mathlib.Core.Bool.{Bool}
-use lib.IntN.{ℤ}
-use native.Mathlib.Omega.{arith}
-use mir.Syntax.{w8}
-use mir.Val.{to_z, of_z}
-use mir.Facts.{to_z-of_z}
-use borrow.Author.Rules.{rules}
 use Rattle.problem.specs.Row.{between}
-use Rattle.sheet_parts.proofs.Bands.{Upto, upto-none, upto-more, upto_all}
+use Rattle.sheet_parts.proofs.Bands.{Upto}
 use Rattle.sheet_parts.proofs.bans.band.Given as goal
 
 abbrev pub invariant-loop-k : goal.invariant-loop-k

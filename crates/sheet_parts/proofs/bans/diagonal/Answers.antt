@@ -1,6 +1,5 @@
 -- `diagonal` is the set of the pairs with gap k - 7.
 -- By computation, for each of the fifteen gaps.
-use borrow.Author.Rules.{rules}
 use borrow.Author.Tests.{lt-ltb, le-ltb}
 use Rattle.sheet_parts.proofs.Pairs.{diagonal, diagonal-pairs}
 use Rattle.sheet_parts.proofs.bans.diagonal.Goals as goal

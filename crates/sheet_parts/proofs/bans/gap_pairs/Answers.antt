@@ -1,7 +1,6 @@
 -- `gap_pairs` is the set of the owned pairs with a gap from least to greatest.
 -- What the calls give, put together.
 use native.Mathlib.Omega.{arith}
-use borrow.Author.Rules.{rules}
 use Rattle.sheet_parts.proofs.Gaps.{handed}
 use Rattle.sheet_parts.proofs.Pairs.{common}
 use Rattle.sheet_parts.proofs.bans.gap_pairs.Goals as goal

@@ -5,7 +5,6 @@ use mathlib.Core.Bool.{and-true, and-false}
 use lib.IntN.{pos, ◌-ℤ◌}
 use lib.Signed.{le_z}
 use mir.Facts.{to_z-of_z}
-use borrow.Author.Rules.{rules}
 use Rattle.problem.specs.Row.{between}
 use Rattle.sheet_parts.proofs.Gaps.{sub-fits, machine-gap}
 use Rattle.sheet_parts.proofs.Bands.{dropped, retested}

@@ -2,7 +2,6 @@
 -- The gap of all its pairs is the one that is tested.
 use lib.Signed.{le_z}
 use mir.Facts.{to_z-of_z}
-use borrow.Author.Rules.{rules}
 use Rattle.sheet_parts.proofs.Gaps.{sub-fits, machine-gap}
 use Rattle.sheet_parts.proofs.Bands.{kept, dropped}
 use Rattle.sheet_parts.proofs.bans.not_below.Goals as goal

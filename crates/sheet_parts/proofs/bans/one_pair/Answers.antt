@@ -4,7 +4,6 @@ use mathlib.Core.Path.{◌≡◌}
 use Prim.Native.Nat.{◌+◌, ◌-◌, ◌*◌, ◌^◌}
 use native.Mathlib.Nat.{mod-eq_of_lt}
 use native.Mathlib.Omega.{arith}
-use borrow.Author.Rules.{rules}
 use Rattle.problem.specs.Problem.{bit_at}
 use Rattle.sheet_parts.proofs.Pairs.{single}
 use Rattle.sheet_parts.proofs.bans.one_pair.Goals as goal

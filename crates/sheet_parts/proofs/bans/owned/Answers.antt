@@ -1,6 +1,5 @@
 -- `owned` is the set of the pairs of the first d and the first e values.
 -- By computation, for each of the eight counts of either agent.
-use borrow.Author.Rules.{rules}
 use Rattle.sheet_parts.proofs.Pairs.{lowers, highers, power-there, highers-short, owned-pairs}
 use Rattle.sheet_parts.proofs.bans.owned.Goals as goal
 

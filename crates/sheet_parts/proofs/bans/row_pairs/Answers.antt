@@ -2,7 +2,6 @@
 -- Byte 1 decides which of the two sets it is.
 use Prim.Native.Nat.{◌+◌, ◌*◌}
 use native.Mathlib.Omega.{arith}
-use borrow.Author.Rules.{rules}
 use Rattle.base.proofs.Tests.{within-true}
 use Rattle.problem.specs.Sheet.{byte_at, edition_in}
 use Rattle.sheet_parts.proofs.Records.{good-record, values-owned, gap_row, value_row}

@@ -3,7 +3,6 @@
 use mathlib.Core.Path.{sym}
 use Rattle.problem.specs.Sheet.{byte_at}
 use Rattle.sheet_parts.proofs.Headers.{domain-byte}
-use borrow.Author.Rules.{rules}
 use Rattle.sheet_parts.proofs.header.domain.Goals as goal
 
 pub returns : goal.returns

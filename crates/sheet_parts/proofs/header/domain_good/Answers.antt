@@ -3,7 +3,6 @@
 use native.Mathlib.Omega.{arith}
 use Rattle.problem.specs.Sheet.{byte_at, agents_in}
 use Rattle.sheet_parts.proofs.Headers.{domain-used, domain-unused}
-use borrow.Author.Rules.{rules}
 use Rattle.sheet_parts.proofs.header.domain_good.Goals as goal
 
 pub overflow_cast-s : goal.overflow_cast-s

@@ -1,12 +1,8 @@
 -- `domains_good` is the test of each of the twelve slot counts.
 -- The loop tests from agent 12 down, as the definition does: what is left is the test of agents 1 to i.
 use Prim.Native.Nat.{◌≤◌}
-use mathlib.Core.Path.{◌≡◌, refl, sym, ◌∙◌}
-use native.Mathlib.Omega.{arith}
-use borrow.Author.Rules.{rules}
-use borrow.Author.Tests.{not-true, not-false}
+use mathlib.Core.Path.{◌≡◌}
 use Rattle.base.specs.Finite.{all_to}
-use Rattle.base.proofs.Loops.{all_to-none, all_to-fails, all_to-goes}
 use Rattle.problem.specs.Problem.{domain_in_range}
 use Rattle.problem.specs.Sheet.{without_bans}
 use Rattle.sheet_parts.proofs.header.domains_good.Given as goal

@@ -1,11 +1,10 @@
 -- `domains_in` copies bytes 8 to 19.
 -- After i turns the first i places hold the first i of these bytes.
-use Prim.Native.Nat.{◌-◌, ◌≤◌}
+use Prim.Native.Nat.{◌-◌}
 use mathlib.Core.Path.{◌≡◌, refl, sym, ◌∙◌}
 use native.Mathlib.Omega.{arith}
-use lib.ListN.{length, take, drop, length-set, length-drop}
+use lib.ListN.{length, drop, length-set, length-drop}
 use lib.Seq.{take_all, get_or-drop}
-use borrow.Author.Rules.{rules}
 use Rattle.base.proofs.Loops.{filled}
 use Rattle.problem.specs.Problem.{max_agents}
 use Rattle.problem.specs.Sheet.{domains_in}

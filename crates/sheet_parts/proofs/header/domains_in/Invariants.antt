@@ -1,14 +1,8 @@
 -- `domains_in` copies bytes 8 to 19.
 -- After i turns the first i places hold the first i of these bytes.
 use Prim.Native.Nat.{◌-◌, ◌≤◌}
-use mathlib.Core.Path.{◌≡◌, refl, sym, ◌∙◌}
-use native.Mathlib.Omega.{arith}
-use lib.ListN.{length, take, drop, length-set, length-drop}
-use lib.Seq.{take_all, get_or-drop}
-use borrow.Author.Rules.{rules}
-use Rattle.base.proofs.Loops.{filled}
-use Rattle.problem.specs.Problem.{max_agents}
-use Rattle.problem.specs.Sheet.{domains_in}
+use mathlib.Core.Path.{◌≡◌}
+use lib.ListN.{length, take, drop}
 use Rattle.sheet_parts.proofs.header.domains_in.Given as goal
 
 abbrev pub invariant-loop-i : goal.invariant-loop-i

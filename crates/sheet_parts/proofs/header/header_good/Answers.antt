@@ -2,8 +2,7 @@
 -- One part that fails decides it; where all others held, it is the last part.
 use mathlib.Core.Path.{sym, ◌∙◌}
 use mathlib.Core.Bool.{and-false}
-use borrow.Author.Rules.{rules}
-use borrow.Author.Tests.{le-leb, lt-leb, eq-eqb, ne_eqb, not-true, not-false}
+use borrow.Author.Tests.{le-leb, lt-leb, eq-eqb, ne_eqb}
 use Rattle.problem.specs.Problem.{max_agents, count_in_range}
 use Rattle.problem.specs.Sheet.{max_records, byte_at, agents_in, edition_in, first_in, records_in, without_bans, header_good}
 use Rattle.sheet_parts.proofs.header.header_good.Goals as goal

@@ -4,7 +4,6 @@ use mathlib.Core.Path.{refl}
 use Prim.Native.Nat.{◌+◌}
 use native.Mathlib.Omega.{arith}
 use Rattle.problem.specs.Sheet.{byte_at, word_from}
-use borrow.Author.Rules.{rules}
 use Rattle.sheet_parts.proofs.header.two_bytes.Goals as goal
 
 pub overflow_cast-result : goal.overflow_cast-result

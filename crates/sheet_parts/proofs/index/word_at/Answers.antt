@@ -2,7 +2,6 @@
 -- By the closed form of 0 + 1 + .. + (j - 2).
 use native.Mathlib.Omega.{arith}
 use Rattle.sheet_parts.proofs.Table.{word-index, products}
-use borrow.Author.Rules.{rules}
 use Rattle.sheet_parts.proofs.index.word_at.Goals as goal
 
 pub overflow_mul-result : goal.overflow_mul-result

@@ -2,7 +2,6 @@
 -- Byte 1 decides which of the two tests it is.
 use Prim.Native.Nat.{◌+◌}
 use native.Mathlib.Omega.{arith}
-use borrow.Author.Rules.{rules}
 use borrow.Author.Tests.{eq-eqb, ne_eqb}
 use Rattle.problem.specs.Row.{gaps_good, fields_good}
 use Rattle.problem.specs.Sheet.{byte_at, edition_in, row_at}

@@ -3,8 +3,6 @@
 use mathlib.Core.Path.{sym, ◌∙◌}
 use mathlib.Core.Bool.{and-false}
 use mir.Facts.{to_z-of_z}
-use borrow.Author.Rules.{rules}
-use borrow.Author.Tests.{not-true, not-false}
 use Rattle.sheet_parts.proofs.record.gaps_good.Goals as goal
 
 pub returns-then-not-gap_good : goal.returns-then-not-gap_good

@@ -4,8 +4,7 @@ use mathlib.Core.Path.{◌≡◌, sym, ◌∙◌}
 use mathlib.Core.Bool.{and-false}
 use Prim.Native.Nat.{◌+◌, ◌*◌}
 use native.Mathlib.Omega.{arith}
-use borrow.Author.Rules.{rules}
-use borrow.Author.Tests.{le-leb, lt-leb, not-true, not-false}
+use borrow.Author.Tests.{le-leb, lt-leb}
 use Rattle.problem.specs.Row.{agents_good, row_good}
 use Rattle.problem.specs.Sheet.{byte_at, agents_in, records_in, without_bans, record_start, row_at, row_of, next_of, record_good}
 use Rattle.sheet_parts.proofs.Records.{start-at, named}

@@ -3,7 +3,6 @@
 use Prim.Native.Nat.{◌-◌}
 use mathlib.Core.Path.{◌≡◌}
 use native.Mathlib.Omega.{arith}
-use borrow.Author.Rules.{rules}
 use Rattle.sheet_parts.proofs.Gaps.{signed_low, signed_high}
 use Rattle.sheet_parts.proofs.record.signed.Goals as goal
 

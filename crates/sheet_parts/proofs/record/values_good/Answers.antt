@@ -3,8 +3,6 @@
 use mathlib.Core.Path.{sym, ◌∙◌}
 use Prim.Native.Nat.{◌+◌}
 use native.Mathlib.Omega.{arith}
-use borrow.Author.Rules.{rules}
-use borrow.Author.Tests.{not-true, not-false}
 use Rattle.problem.specs.Problem.{owns}
 use Rattle.problem.specs.Row.{values_good}
 use Rattle.problem.specs.Sheet.{byte_at, row_at}

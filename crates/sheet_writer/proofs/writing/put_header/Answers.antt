@@ -1,13 +1,11 @@
 -- `put_header` writes the header.
 -- Its front, the slot counts and the zeros, one behind the other.
 use mathlib.Core.Path.{◌≡◌, sym, ap, ◌∙◌}
-use mathlib.Core.Logic.{⊎_elim}
 use mathlib.Core.Bool.{Bool, cond}
 use native.Mathlib.Omega.{arith}
 use lib.Dec.{ltb}
 use borrow.Author.Tests.{lt-ltb, le-ltb}
 use Rattle.sheet_writer.proofs.Sheets.{header-put}
-use borrow.Author.Rules.{rules}
 use Rattle.sheet_writer.proofs.writing.put_header.Goals as goal
 use Rattle.sheet_writer.proofs.writing.put_header.Goals.{else-records-gt0, then-records-gt0}
 

@@ -2,13 +2,11 @@
 -- The row's four bytes and the index that leads on.
 use Prim.Native.Nat.{ℕ, suc, ◌+◌, ◌*◌}
 use mathlib.Core.Path.{◌≡◌, sym, ap, ◌∙◌}
-use mathlib.Core.Logic.{⊎_elim}
 use mathlib.Core.List.{List, ◌++◌}
 use native.Mathlib.Omega.{arith}
 use lib.ListN.{take, drop}
 use Rattle.sheet_writer.specs.Rows.{next_index}
 use Rattle.sheet_writer.proofs.Sheets.{next-on, next-none, next_small, row-bytes}
-use borrow.Author.Rules.{rules}
 use Rattle.sheet_writer.proofs.writing.put_record.Goals as goal
 use Rattle.sheet_writer.proofs.writing.put_record.Goals.{else-r-records, then-r-records}
 

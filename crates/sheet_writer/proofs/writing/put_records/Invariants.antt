@@ -1,12 +1,9 @@
 -- `put_records` writes the records, one behind the other.
 -- What is left to put leaves what putting all would have left.
 use Prim.Native.Nat.{◌-◌, ◌≤◌}
-use mathlib.Core.Path.{◌≡◌, refl, ◌∙◌}
-use native.Mathlib.Numerals.{add-one}
-use native.Mathlib.Omega.{arith}
+use mathlib.Core.Path.{◌≡◌}
 use lib.ListN.{length}
-use borrow.Author.Rules.{rules}
-use Rattle.sheet_writer.proofs.Sheets.{Left, all_left, less-left, none_left}
+use Rattle.sheet_writer.proofs.Sheets.{Left}
 use Rattle.sheet_writer.proofs.writing.put_records.Given as goal
 
 abbrev pub invariant-loop-r : goal.invariant-loop-r

@@ -1,0 +1,7 @@
+-- What failed at a part has failed at those behind it. Assumes nothing.
+use borrow.Author.Rules.{rules}
+use Rattle.words.proofs.printing.Out.put.Reads as put_reads
+use Rattle.board_text.proofs.options.put_wrong.Goals as goal
+
+pub returns : goal.returns
+returns c = λ h. c.put-3.ensures (c.put-2.ensures (c.put.ensures h))
