@@ -1,14 +1,13 @@
 -- All but the lines; then the lines, message by message, as `Sweep` goes through them.
 use mathlib.Core.Path.{◌≡◌, refl, sym}
 use native.Mathlib.Omega.{arith}
-use lib.ListN.{length, length-map}
+use lib.ListN.{length}
 use borrow.Author.Rules.{rules}
 use borrow.Author.Tests.{not-true, not-false}
 use Rattle.clauses.proofs.Numbering.{ends}
 use Rattle.network.specs.Abstract.{place_of, no_place}
-use Rattle.network.specs.Looking.{to_look}
 use Rattle.network.proofs.Whole.{lengths}
-use Rattle.network.proofs.Turns.{Sweeping, line-here, few-left, all-lined, last-read}
+use Rattle.network.proofs.Turns.{line-here, few-left, all-lined, last-read}
 use Rattle.network.proofs.in_shape.Goals as goal
 
 pub loop-s-init : goal.loop-s-init

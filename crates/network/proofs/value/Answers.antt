@@ -4,8 +4,7 @@ use mathlib.Core.Path.{◌≡◌, refl, sym, ◌∙◌}
 use mathlib.Core.Bool.{true}
 use Prim.Native.Nat.{◌≤◌}
 use native.Mathlib.Omega.{arith}
-use lib.ListN.{length, length-map}
-use borrow.Author.Tests.{not-true, not-false}
+use lib.ListN.{length}
 use Rattle.base.proofs.Tests.{to-within, not_within}
 use Rattle.protocol.specs.Shape.{in_shape}
 use Rattle.protocol.specs.Delivery.{rejection_number, answer_number}

@@ -1,6 +1,5 @@
 -- The run is the work in rounds.
 use mathlib.Core.Bool.{false≢true}
-use borrow.Author.Rules.{rules}
 use Rattle.run.proofs.Delivering.{ran}
 use Rattle.run.proofs.run.Goals as goal
 

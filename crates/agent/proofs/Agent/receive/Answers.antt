@@ -6,7 +6,7 @@ use lib.ListN.{length}
 use mathlib.Core.List.{List}
 use mathlib.Core.Path.{◌≡◌, refl}
 use Rattle.problem.specs.Problem.{max_agents}
-use Rattle.agent_rules.specs.Message.{Message as Message', AddLink as AddLink'}
+use Rattle.agent_rules.specs.Message.{Message as Message'}
 use Rattle.agent_rules.specs.Agent.{Step as Step'}
 use Rattle.agent_rules.specs.Shape.{RecordFits, MessageFits, any_value}
 use Rattle.agent_rules.specs.Receiving.{react}

@@ -1,7 +1,6 @@
 -- `unpack` puts a word together from three.
 use mathlib.Core.Path.{refl}
 use Rattle.agent.specs.Abstract.{unpacked}
-use borrow.Author.Rules.{rules}
 use Rattle.agent.proofs.Carried.unpack.Goals as goal
 
 pub returns : goal.returns

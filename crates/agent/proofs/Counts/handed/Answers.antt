@@ -1,6 +1,5 @@
 -- `handed` counts one message of its sort.
 use native.Mathlib.Omega.{arith}
-use borrow.Author.Rules.{rules}
 use Rattle.agent_rules.specs.Counts.{top}
 use Rattle.agent.specs.Abstract.{message_of}
 use Rattle.agent.proofs.Tallies.{Small, got-info, got-back, got-link}

@@ -1,6 +1,5 @@
 -- `posted` counts the posts left, sort by sort.
 use native.Mathlib.Omega.{arith}
-use borrow.Author.Rules.{rules}
 use Rattle.agent.proofs.Tallies.{tally, left-raised}
 use Rattle.agent.proofs.Counts.posted.Goals as goal
 

@@ -1,5 +1,4 @@
 -- `pack` takes a word apart into three.
-use borrow.Author.Rules.{rules}
 use native.Mathlib.Omega.{arith}
 use Rattle.agent.specs.Abstract.{unpacked}
 use Rattle.agent.proofs.Lhs.pack.Goals as goal

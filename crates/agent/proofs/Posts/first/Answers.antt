@@ -8,7 +8,6 @@ use Rattle.agent.specs.Abstract.{message_of, post_of}
 use Rattle.agent.specs.Posting.{Sendable}
 use Rattle.choosing.proofs.Named.{highest-named, still-short}
 use Rattle.agent.proofs.Cursor.{first-is, link-first, back-sendable, back-first, back_read, news-first, news-left}
-use borrow.Author.Rules.{rules}
 use Rattle.agent.proofs.Posts.first.Goals as goal
 
 pub returns-then-links-ne0 : goal.returns-then-links-ne0

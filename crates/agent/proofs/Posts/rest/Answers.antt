@@ -2,7 +2,6 @@
 -- The lowest agent is taken from the set, or the next Back is passed.
 use native.Mathlib.Omega.{arith}
 use Rattle.agent.proofs.Cursor.{link-rest, back-rest, news-rest, news-left}
-use borrow.Author.Rules.{rules}
 use Rattle.agent.proofs.Posts.rest.Goals as goal
 
 pub first-requires-else-self : goal.first-requires-else-self

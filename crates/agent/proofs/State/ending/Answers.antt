@@ -1,5 +1,4 @@
 -- `ending` is the step that ends with a value, or with none.
-use mathlib.Core.Logic.{⊎_elim}
 use native.Mathlib.Omega.{arith}
 use Rattle.agent_rules.specs.Message.{known}
 use Rattle.packed.proofs.Known.{known_from, unknown}

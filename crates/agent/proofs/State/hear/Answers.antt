@@ -1,6 +1,5 @@
 -- `hear` tells whether a left side holds, and what it brings.
 -- A walk along the agents that it names. The invariant: what those passed have brought.
-use borrow.Author.Rules.{rules}
 use Prim.Native.Nat.{◌≤◌, ◌<◌}
 use mathlib.Core.Path.{sym, ◌∙◌}
 use native.Mathlib.Omega.{arith}
@@ -9,7 +8,7 @@ use Rattle.packed.specs.Packed.{assignment}
 use Rattle.packed.proofs.Digits.{nobody-assigned}
 use Rattle.packed.proofs.Naming.{naming, naming-fewer}
 use Rattle.choosing.proofs.Named.{named-range}
-use Rattle.agent.proofs.Hearing.{Hearing, hear-begins, hear-matched, near, hear-new, hear-ends, hear-fails, hear-within}
+use Rattle.agent.proofs.Hearing.{hear-begins, hear-matched, near, hear-new, hear-ends, hear-fails, hear-within}
 use Rattle.agent.proofs.State.hear.Goals as goal
 
 pub returns-then-within : goal.returns-then-within

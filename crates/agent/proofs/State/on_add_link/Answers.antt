@@ -1,5 +1,4 @@
 -- `on_add_link` is the rule of a link request.
-use borrow.Author.Rules.{rules}
 use Rattle.agent.proofs.Linking.{takes-link}
 use Rattle.agent.proofs.State.on_add_link.Goals as goal
 

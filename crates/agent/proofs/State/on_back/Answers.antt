@@ -1,8 +1,5 @@
 -- `on_back` is the rule of a Back.
 -- Where it holds it is stored, and the agent has to choose; where not, it is answered.
-use mathlib.Core.Bool.{not}
-use mathlib.Core.Path.{ap}
-use borrow.Author.Rules.{rules}
 use Prim.Native.Nat.{◌≤◌}
 use native.Mathlib.Omega.{arith}
 use borrow.Author.Tests.{not-true, not-false}

@@ -1,9 +1,7 @@
 -- `on_info` is the rule of an Info.
 -- The view changes at the sender, and the nogoods that disagree are those that name it at another value.
-use borrow.Author.Rules.{rules}
 use Prim.Native.Nat.{ℕ, ◌≤◌, ◌<◌}
 use mathlib.Core.Path.{◌≡◌, sym, ◌∙◌}
-use mathlib.Core.Logic.{⊎_elim}
 use mathlib.Core.Bool.{not, false≢true}
 use native.Mathlib.Omega.{arith}
 use lib.Bits.{bit_and}

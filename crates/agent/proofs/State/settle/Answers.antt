@@ -1,10 +1,9 @@
 -- `settle` is the rule of choosing with backing up.
 -- Turn by turn; each need is a law of the turn.
-use borrow.Author.Rules.{rules}
-use Prim.Native.Nat.{◌-◌, ◌≤◌, ◌<◌}
+use Prim.Native.Nat.{◌≤◌, ◌<◌}
 use native.Mathlib.Omega.{arith}
 use Rattle.agent.proofs.Telling.{refuser-range}
-use Rattle.agent.proofs.Turns.{Turning, turn-begin, took-step, failed-step, nobody, in-range, room, next-turn}
+use Rattle.agent.proofs.Turns.{turn-begin, took-step, failed-step, nobody, in-range, room, next-turn}
 use Rattle.agent.proofs.State.settle.Goals as goal
 
 pub loop-bars-init : goal.loop-bars-init

@@ -1,10 +1,7 @@
 -- `settle` is the rule of choosing with backing up.
 -- Turn by turn; each need is a law of the turn.
-use borrow.Author.Rules.{rules}
-use Prim.Native.Nat.{◌-◌, ◌≤◌, ◌<◌}
-use native.Mathlib.Omega.{arith}
-use Rattle.agent.proofs.Telling.{refuser-range}
-use Rattle.agent.proofs.Turns.{Turning, turn-begin, took-step, failed-step, nobody, in-range, room, next-turn}
+use Prim.Native.Nat.{◌-◌}
+use Rattle.agent.proofs.Turns.{Turning}
 use Rattle.agent.proofs.State.settle.Given as goal
 
 abbrev pub invariant-loop-bars : goal.invariant-loop-bars

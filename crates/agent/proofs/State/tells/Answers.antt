@@ -1,6 +1,6 @@
 -- `tells` is the rule that says who gets the news of a value.
 -- Rule 1: those informed. Rule 2: they or nobody, and the refuser, if there is one.
-use mathlib.Core.Logic.{◌≢◌, ◌⊎◌, inl, inr, ⊎_elim}
+use mathlib.Core.Logic.{◌≢◌, ◌⊎◌, inl, inr}
 use mathlib.Core.Path.{◌≡◌, refl}
 use native.Mathlib.Omega.{arith}
 use Rattle.agent.proofs.Telling.{tells-informed, tells-quietly}

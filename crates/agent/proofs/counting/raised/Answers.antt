@@ -2,7 +2,6 @@
 use Prim.Native.Nat.{ℕ, ◌+◌, ◌-◌, ◌≤◌, ◌<◌}
 use mathlib.Core.Path.{◌≡◌, sym}
 use native.Mathlib.Omega.{arith}
-use borrow.Author.Rules.{rules}
 use Rattle.agent_rules.specs.Counts.{top, raised}
 use Rattle.agent_rules.proofs.Counts.{Raised, exact, full, raises}
 use Rattle.agent.proofs.counting.raised.Goals as goal

@@ -1,7 +1,6 @@
 -- `raised_by_set` counts the agents of a set.
 use mathlib.Core.Path.{sym}
 use native.Mathlib.Omega.{arith}
-use borrow.Author.Rules.{rules}
 use lib.Count.{ones-le}
 use Rattle.agent_rules.specs.Counts.{top}
 use Rattle.agent_rules.proofs.Counts.{raised-none}

@@ -1,10 +1,8 @@
 -- `agent_passes` is all that is asked of an agent.
 -- Beyond n or within it; within, the links first.
-use borrow.Author.Rules.{rules}
 use mathlib.Core.Path.{◌≡◌, sym, ap, ◌∙◌}
 use mathlib.Core.Bool.{true, false}
 use Prim.Native.Nat.{◌≤◌, ◌<◌}
-use borrow.Author.Tests.{not-true, not-false}
 use Rattle.agent_rules.specs.Agent.{Agent as Agent'}
 use Rattle.protocol.specs.Shape.{unused}
 use Rattle.agent.specs.Abstract.{agent_of}

@@ -1,23 +1,12 @@
 -- `heard` is the clause on an agent's links with those above it.
 -- From agent j - 1 down. The invariant: what is asked of all is asked of those left.
-use borrow.Author.Rules.{rules}
-use Prim.Native.Nat.{ℕ, ◌+◌, ◌-◌, ◌<◌}
-use mathlib.Core.Path.{◌≡◌, sym, ap, ◌∙◌}
-use native.Mathlib.Omega.{arith}
-use native.Mathlib.Numerals.{sub-one}
-use mathlib.Core.Bool.{true, not, cond}
-use mathlib.Core.Logic.{⊎_elim}
-use lib.Dec.{ltb}
-use lib.ListN.{get_or}
-use borrow.Author.Tests.{lt-ltb, not-true, not-false}
+use Prim.Native.Nat.{ℕ, ◌<◌}
+use mathlib.Core.Path.{◌≡◌}
 use Rattle.base.specs.Finite.{all_to}
-use Rattle.base.proofs.Loops.{all_to-goes, all_to-fails}
-use Rattle.base.proofs.Peeling.{all_to-over}
-use Rattle.problem.specs.Problem.{word_at}
 use Rattle.protocol.specs.Network.{Network as Network'}
 use Rattle.packed.specs.Packed.{members}
 use Rattle.clauses.specs.Parts.{heard, set_of}
-use Rattle.clauses.proofs.Clauses.{heard_from, heard-is}
+use Rattle.clauses.proofs.Clauses.{heard_from}
 use Rattle.clauses.proofs.agents.heard.Given as goal
 
 abbrev pub invariant-loop-i : goal.invariant-loop-i

@@ -1,11 +1,9 @@
 -- `holds_in_shape` is what is asked of what an agent holds by itself.
 -- Clause by clause.
-use borrow.Author.Rules.{rules}
 use mathlib.Core.Path.{◌≡◌, sym, ap, ◌∙◌}
 use mathlib.Core.Bool.{true, false, and-true}
 use Prim.Native.Nat.{◌≤◌}
 use native.Mathlib.Omega.{arith}
-use borrow.Author.Tests.{not-true, not-false}
 use Rattle.agent_rules.specs.Counts.{Sort, Infos, Backs, AddLinks, top}
 use Rattle.agent_rules.specs.Agent.{Agent as Agent'}
 use Rattle.protocol.specs.Shape.{holds_value, last_fits, view_listened}

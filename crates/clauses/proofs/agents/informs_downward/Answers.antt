@@ -1,5 +1,4 @@
 -- All are above i, and at most n.
-use borrow.Author.Rules.{rules}
 use mathlib.Core.Path.{◌≡◌, sym, ◌∙◌}
 use mathlib.Core.Bool.{true, false}
 use lib.Dec.{ltb}

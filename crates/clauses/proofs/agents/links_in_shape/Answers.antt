@@ -1,9 +1,7 @@
 -- `links_in_shape` is what is asked of an agent's links.
 -- Clause by clause.
-use borrow.Author.Rules.{rules}
 use mathlib.Core.Path.{◌≡◌, sym, ◌∙◌}
 use mathlib.Core.Bool.{true, false}
-use borrow.Author.Tests.{not-true, not-false}
 use Rattle.protocol.specs.Shape.{listens_upward, informs_downward}
 use Rattle.clauses.specs.Parts.{links_in_shape}
 use Rattle.clauses.proofs.Words.{set_is}

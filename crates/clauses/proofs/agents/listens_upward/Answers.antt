@@ -1,5 +1,4 @@
 -- All are at most i - 1.
-use borrow.Author.Rules.{rules}
 use mathlib.Core.Path.{sym, ◌∙◌}
 use Rattle.clauses.proofs.Clauses.{upward}
 use Rattle.clauses.proofs.agents.listens_upward.Goals as goal

@@ -1,16 +1,11 @@
 -- `nogoods_fit` is the clause on an agent's nogoods.
 -- From value 8 down. The invariant: what is asked of all values is asked of those left.
-use borrow.Author.Rules.{rules}
-use Prim.Native.Nat.{ℕ, ◌-◌, ◌≤◌}
-use mathlib.Core.Path.{◌≡◌, refl, sym, ◌∙◌}
-use mathlib.Core.Bool.{Bool}
+use Prim.Native.Nat.{◌-◌}
+use mathlib.Core.Path.{refl, sym, ◌∙◌}
 use native.Mathlib.Omega.{arith}
-use borrow.Author.Tests.{not-true, not-false}
-use Rattle.base.specs.Finite.{all_to}
 use Rattle.base.proofs.Loops.{all_to-goes, all_to-fails}
 use Rattle.base.proofs.Peeling.{all_to-over}
-use Rattle.agent.specs.declared.Agent.{Agent}
-use Rattle.clauses.proofs.Clauses.{stored_fits, nogoods-is, stored-out, stored-seen, unstored}
+use Rattle.clauses.proofs.Clauses.{nogoods-is, stored-out, stored-seen, unstored}
 use Rattle.clauses.proofs.agents.nogoods_fit.Invariants.{fits_at}
 use Rattle.clauses.proofs.agents.nogoods_fit.Goals as goal
 

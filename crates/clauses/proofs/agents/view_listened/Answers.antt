@@ -1,6 +1,5 @@
 -- `view_listened` is the clause on an agent's view.
 -- The values against the domains, and the agents named against those listened to.
-use borrow.Author.Rules.{rules}
 use mathlib.Core.Path.{sym, ◌∙◌}
 use native.Mathlib.Omega.{arith}
 use Rattle.agent.specs.Abstract.{assigned}

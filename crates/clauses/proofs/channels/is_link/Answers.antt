@@ -1,6 +1,5 @@
 -- `is_link` tells a link request from the other messages.
 -- Sort by sort.
-use borrow.Author.Rules.{rules}
 use Rattle.agent.specs.Abstract.{message_of}
 use Rattle.clauses.specs.Parts.{is_link}
 use Rattle.clauses.proofs.channels.is_link.Goals as goal

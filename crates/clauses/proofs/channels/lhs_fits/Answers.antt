@@ -1,6 +1,5 @@
 -- `lhs_fits` is the clause on a refusal's left side.
 -- Its values against the domains of the agents above the receiver.
-use borrow.Author.Rules.{rules}
 use Prim.Native.Nat.{◌*◌, ◌-◌}
 use mathlib.Core.Path.{sym, ◌∙◌}
 use native.Mathlib.Nat.{one-mul}

@@ -1,10 +1,9 @@
 -- `message_fits` is the shape of a message, where a link request may fit no more.
 -- Sort by sort: its direction, the value, who listens to whom, the left side.
-use borrow.Author.Rules.{rules}
 use Prim.Native.Nat.{ℕ}
 use mathlib.Core.Path.{◌≡◌, sym, ap, ◌∙◌}
 use mathlib.Core.Bool.{true, false, not, and-true, and-false, false≢true}
-use borrow.Author.Tests.{lt-ltb, le-ltb, not-true, not-false}
+use borrow.Author.Tests.{lt-ltb, le-ltb}
 use Rattle.base.proofs.Tests.{test}
 use Rattle.problem.specs.Problem.{owns}
 use Rattle.protocol.specs.Shape.{lhs_fits, message_fits}

@@ -1,5 +1,4 @@
 -- The number of a channel, as `channel_at` has it.
-use borrow.Author.Rules.{rules}
 use native.Mathlib.Omega.{arith}
 use Rattle.clauses.proofs.Numbering.{ends, channel-up, channel-down, channel-below}
 use Rattle.clauses.proofs.places.channel_at.Goals as goal

@@ -1,5 +1,4 @@
 -- The row cut off, and one digit set to 0.
-use borrow.Author.Rules.{rules}
 use Rattle.clauses.proofs.Lines.{lines_are}
 use Rattle.clauses.proofs.places.lines_of.Goals as goal
 

@@ -1,14 +1,8 @@
 -- `all_beyond` has for each agent the bytes behind its domain.
 -- From the first agent up. The invariant: those before the k-th have theirs.
-use borrow.Author.Rules.{rules}
 use Prim.Native.Nat.{ℕ, ◌-◌, ◌≤◌, ◌<◌}
 use mathlib.Core.Path.{◌≡◌}
-use native.Mathlib.Omega.{arith}
-use lib.Dec.{eqb}
-use lib.ListN.{length, length-set, get_or}
-use lib.Seq.{get_or-set_same, get_or-set_other}
-use borrow.Author.Tests.{eqb-true, eqb-false}
-use Rattle.base.proofs.Tests.{test}
+use lib.ListN.{length, get_or}
 use Rattle.clauses.specs.Parts.{Beyond}
 use Rattle.clauses.proofs.range.all_beyond.Given as goal
 

@@ -1,19 +1,13 @@
 -- `bans_of_owned` is whether the ban words of one higher agent are between owned values.
 -- From agent j - 1 down. The invariant: what is asked of all words is asked of what is laid over each other and of those left.
-use borrow.Author.Rules.{rules}
-use Prim.Native.Nat.{ℕ, suc, pred, ◌+◌, ◌-◌, ◌<◌}
-use mathlib.Core.Path.{◌≡◌, sym, ap, ◌∙◌}
-use mathlib.Core.Bool.{Bool, ◌&&◌, and-true}
-use mathlib.Core.List.{List}
-use native.Mathlib.Omega.{arith}
-use native.Mathlib.Numerals.{sub-one}
+use Prim.Native.Nat.{ℕ, suc, pred, ◌<◌}
+use mathlib.Core.Path.{◌≡◌}
+use mathlib.Core.Bool.{Bool, ◌&&◌}
 use lib.Dec.{eqb}
 use lib.ListN.{get_or}
 use Rattle.base.specs.Finite.{all_to}
-use Rattle.base.proofs.Peeling.{all_to-over}
 use Rattle.problem.specs.Problem.{Problem, domain, word_at, word_owned}
 use Rattle.clauses.specs.Parts.{Columns, Beyond}
-use Rattle.clauses.proofs.Overlaid.{overlaid}
 use Rattle.clauses.proofs.range.bans_of_owned.Given as goal
 
 abbrev pub word : Problem → ℕ → ℕ → Bool

@@ -1,16 +1,12 @@
 -- From agent 12 down. The invariant: what is asked of all agents is asked of those left.
-use borrow.Author.Rules.{rules}
-use Prim.Native.Nat.{ℕ, suc, pred, ◌-◌, ◌≤◌, ◌<◌}
+use Prim.Native.Nat.{ℕ, suc, ◌-◌, ◌≤◌, ◌<◌}
 use mathlib.Core.Path.{◌≡◌, refl, sym, ◌∙◌}
-use mathlib.Core.Bool.{Bool}
 use mathlib.Core.List.{List}
 use native.Mathlib.Omega.{arith}
 use lib.ListN.{get_or}
-use borrow.Author.Tests.{not-true, not-false}
-use Rattle.base.specs.Finite.{all_to}
 use Rattle.base.proofs.Loops.{all_to-goes, all_to-fails}
 use Rattle.base.proofs.Peeling.{all_to-over}
-use Rattle.problem.specs.Problem.{Problem, max_agents, domain, word_at, word_owned, bans_owned}
+use Rattle.problem.specs.Problem.{Problem, max_agents, domain, bans_owned}
 use Rattle.clauses.specs.Parts.{Columns, Beyond}
 use Rattle.clauses.proofs.Ranges.{domain-at}
 use Rattle.clauses.proofs.range.bans_owned.Invariants.{words}

@@ -1,5 +1,4 @@
 -- `beyond` has the bytes behind a domain.
-use borrow.Author.Rules.{rules}
 use native.Mathlib.Omega.{arith}
 use Rattle.clauses.proofs.Overlaid.{none-beyond, bytes-beyond}
 use Rattle.clauses.proofs.range.beyond.Goals as goal

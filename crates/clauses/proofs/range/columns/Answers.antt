@@ -1,6 +1,5 @@
 -- `columns` has so many bits of each byte.
 -- All of them, or a number below 256 in each byte.
-use borrow.Author.Rules.{rules}
 use native.Mathlib.Omega.{arith}
 use Rattle.clauses.proofs.BanWords.{narrowed, wide}
 use Rattle.clauses.proofs.range.columns.Goals as goal

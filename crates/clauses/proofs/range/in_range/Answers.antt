@@ -1,9 +1,7 @@
 -- n, then the domains, then the bans.
-use borrow.Author.Rules.{rules}
 use mathlib.Core.Path.{◌≡◌, sym, ◌∙◌}
 use mathlib.Core.Bool.{true, false}
 use native.Mathlib.Omega.{arith}
-use borrow.Author.Tests.{not-true, not-false}
 use Rattle.base.specs.Finite.{all_to}
 use Rattle.problem.specs.Problem.{max_agents, domain_in_range}
 use Rattle.clauses.proofs.Ranges.{count_none, count-over, in-range}

@@ -1,6 +1,5 @@
 -- `owned` is whether an agent owns a value.
 -- A digit of the domains' word.
-use borrow.Author.Rules.{rules}
 use borrow.Author.Tests.{lt-ltb, le-ltb}
 use Rattle.problem.specs.Problem.{owns}
 use Rattle.base.specs.Finite.{within}

@@ -1,5 +1,4 @@
 -- The bits up to i are 0.
-use borrow.Author.Rules.{rules}
 use mathlib.Core.Path.{sym}
 use native.Mathlib.Omega.{arith}
 use native.Mathlib.Nat.{one-mul}

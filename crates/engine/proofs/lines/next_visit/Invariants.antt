@@ -1,15 +1,7 @@
 -- From one sender to the next that has some, the visits ahead stay; then the first of them is taken.
-use Prim.Native.Nat.{◌-◌, ◌≤◌, ◌<◌}
-use mathlib.Core.Bool.{false≢true}
-use mathlib.Core.Path.{◌≡◌, refl, sym, ◌∙◌}
-use native.Mathlib.Omega.{arith}
-use lib.Dec.{eqb}
-use borrow.Author.Rules.{rules}
-use borrow.Author.Tests.{eqb-true, ltb-true, eq-eqb, ltb-false}
-use Rattle.base.proofs.Tests.{both}
-use Rattle.packed.proofs.Known.{known-true}
+use Prim.Native.Nat.{◌-◌, ◌≤◌}
+use mathlib.Core.Path.{◌≡◌}
 use Rattle.engine.specs.Lines.{ahead}
-use Rattle.engine.proofs.Ahead.{ahead-next, visit-lowest, ahead-down, ahead_none}
 use Rattle.engine.proofs.lines.next_visit.Given as goal
 
 abbrev pub invariant-loop-rest : goal.invariant-loop-rest

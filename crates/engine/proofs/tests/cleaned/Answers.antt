@@ -1,8 +1,7 @@
 -- The rows before the next one are clean.
-use Prim.Native.Nat.{◌-◌}
 use native.Mathlib.Omega.{arith}
 use borrow.Author.Rules.{rules}
-use Rattle.engine.proofs.Held.{Cleaning, cleaning-starts, one-cleaned, all-cleaned}
+use Rattle.engine.proofs.Held.{cleaning-starts, one-cleaned, all-cleaned}
 use Rattle.engine.proofs.tests.cleaned.Goals as goal
 
 pub loop-i-init : goal.loop-i-init

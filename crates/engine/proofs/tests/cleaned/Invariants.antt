@@ -1,8 +1,6 @@
 -- The rows before the next one are clean.
 use Prim.Native.Nat.{◌-◌}
-use native.Mathlib.Omega.{arith}
-use borrow.Author.Rules.{rules}
-use Rattle.engine.proofs.Held.{Cleaning, cleaning-starts, one-cleaned, all-cleaned}
+use Rattle.engine.proofs.Held.{Cleaning}
 use Rattle.engine.proofs.tests.cleaned.Given as goal
 
 abbrev pub invariant-loop-i : goal.invariant-loop-i

@@ -2,7 +2,6 @@
 use mathlib.Core.Path.{sym, ◌∙◌}
 use native.Mathlib.Omega.{arith}
 use borrow.Author.Rules.{rules}
-use borrow.Author.Tests.{not-true, not-false}
 use Rattle.engine.proofs.Testing.{Good, good, bad, stands, empty, passes}
 use Rattle.engine.proofs.tests.tested.Goals as goal
 

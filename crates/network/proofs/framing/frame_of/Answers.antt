@@ -1,5 +1,5 @@
 -- The masks of all agents; the rule and the problem; the agents, upward. What an invariant says is what was found to fit.
-use Prim.Native.Nat.{ℕ, ◌-◌, ◌≤◌, ◌<◌}
+use Prim.Native.Nat.{ℕ, ◌≤◌, ◌<◌}
 use mathlib.Core.Path.{◌≡◌, refl, sym, ap, ◌∙◌}
 use mathlib.Core.Bool.{Bool, true, false, ◌&&◌}
 use mathlib.Core.List.{List, [], map}
@@ -17,8 +17,6 @@ use Rattle.agent.specs.Abstract.{agent_of}
 use Rattle.protocol.specs.Network.{is_rule}
 use Rattle.network.specs.Abstract.{problem_of, network_of}
 use Rattle.network.proofs.Agents.{agent-at}
-use Rattle.network.specs.Looking.{Holding}
-use Rattle.network.specs.declared.Network.{Network}
 use Rattle.network.proofs.Whole.{listens_of, informs_of, linking, wide-domains, Fitting, headed, passes, framed}
 use Rattle.network.proofs.framing.frame_of.Goals as goal
 

@@ -1,25 +1,11 @@
 -- The masks of all agents; the rule and the problem; the agents, upward. What an invariant says is what was found to fit.
-use Prim.Native.Nat.{ℕ, ◌-◌, ◌≤◌, ◌<◌}
-use mathlib.Core.Path.{◌≡◌, refl, sym, ap, ◌∙◌}
-use mathlib.Core.Bool.{Bool, true, false, ◌&&◌}
-use mathlib.Core.List.{List, [], map}
-use native.Mathlib.Omega.{arith}
-use lib.Dec.{ltb}
-use lib.ListN.{length, take, get_or, length-map, length-set, get_or-map}
-use lib.Seq.{take_all}
-use borrow.Author.Rules.{rules}
-use borrow.Author.Tests.{ltb-true, ltb-false}
-use Rattle.base.proofs.Arrays.{copied}
-use Rattle.base.proofs.Tests.{both}
-use Rattle.agent.specs.Abstract.{none_counted}
-use Rattle.agent.specs.declared.Agent.{Agent}
-use Rattle.agent.specs.Abstract.{agent_of}
-use Rattle.protocol.specs.Network.{is_rule}
-use Rattle.network.specs.Abstract.{problem_of, network_of}
-use Rattle.network.proofs.Agents.{agent-at}
+use Prim.Native.Nat.{◌-◌, ◌≤◌}
+use mathlib.Core.Path.{◌≡◌}
+use mathlib.Core.List.{map}
+use lib.ListN.{length, take}
 use Rattle.network.specs.Looking.{Holding}
 use Rattle.network.specs.declared.Network.{Network}
-use Rattle.network.proofs.Whole.{listens_of, informs_of, linking, wide-domains, Fitting, headed, passes, framed}
+use Rattle.network.proofs.Whole.{listens_of, informs_of, Fitting}
 use Rattle.network.proofs.framing.frame_of.Given as goal
 
 abbrev pub invariant-loop-k : goal.invariant-loop-k

@@ -1,7 +1,6 @@
 -- The message is looked at, and then the next one is sought.
 use mathlib.Core.Path.{refl, sym, ap, ◌∙◌}
 use native.Mathlib.Omega.{arith}
-use borrow.Author.Rules.{rules}
 use Rattle.clauses.specs.Parts.{is_link, fits_now}
 use Rattle.clauses.proofs.Numbering.{ends}
 use Rattle.network.specs.Abstract.{network_of}

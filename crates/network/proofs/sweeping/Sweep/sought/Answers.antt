@@ -1,23 +1,20 @@
 -- Lines and senders are passed until something is left of a line: each turn is one of `Turns`.
-use Prim.Native.Nat.{ℕ, ◌+◌, ◌*◌, ◌-◌, ◌≤◌}
+use Prim.Native.Nat.{ℕ, ◌≤◌}
 use mathlib.Core.Path.{◌≡◌, sym, ap, ◌∙◌}
 use mathlib.Core.Bool.{Bool, true, false, not, cond, false≢true}
 use mathlib.Core.List.{List}
 use native.Mathlib.Omega.{arith}
 use lib.Dec.{eqb, ltb}
-use borrow.Author.Rules.{rules}
 use borrow.Author.Tests.{eqb-true, eq-eqb, not-true}
 use Rattle.base.proofs.Tests.{both, eq_test}
 use Rattle.packed.specs.Packed.{assignment}
 use Rattle.packed.proofs.Known.{known-true}
-use Rattle.packed.proofs.Naming.{naming, naming-few, naming-fewer}
+use Rattle.packed.proofs.Naming.{naming-few, naming-fewer}
 use Rattle.clauses.specs.Parts.{set_of}
 use Rattle.clauses.proofs.Numbering.{ends}
 use Rattle.clauses.proofs.Words.{set_at}
 use Rattle.network.specs.Abstract.{network_of}
-use Rattle.network.specs.Looking.{Framed, Going, Lined, to_look}
-use Rattle.network.specs.declared.Network.{Network}
-use Rattle.network.specs.declared.framing.Frame.{Frame}
+use Rattle.network.specs.Looking.{to_look}
 use Rattle.network.proofs.Turns.{line-lined, line-look, line-going, sender-lined, sender-look, sender-going, end-going}
 use Rattle.network.proofs.sweeping.Sweep.sought.Goals as goal
 
