@@ -1,5 +1,6 @@
 -- The records are added slot by slot. Invariant: those added so far, with those left, come to the same.
 use mathlib.Core.Path.{refl, sym, ◌∙◌}
+use native.Mathlib.Omega.{arith}
 use Rattle.cases.proofs.Building.{no-bans, ban-more, last-ban}
 use Rattle.cases.proofs.sheets.with_bans.Goals as goal
 
@@ -17,4 +18,4 @@ returns c = let l = c.loop-v in sym (l.invariant ∙ no-bans _ _ _ _ l.o l.v c.l
 pub returns-2 : goal.returns-2
 returns-2 c =
     let l = c.loop-v in
-    rw c.with_ban-o.ensures (sym (l.invariant ∙ last-ban _ _ _ _ l.o l.v c.loop-v-test.true c.if-v-last.false))
+    rw c.with_ban-o.ensures (sym (l.invariant ∙ last-ban _ _ _ _ l.o l.v c.loop-v-test.true (omega arith)))
