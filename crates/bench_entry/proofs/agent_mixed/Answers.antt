@@ -1,7 +1,6 @@
 -- Counts, value, last value, as the definition has it.
 use Rattle.agent.specs.Abstract.{agent_of}
 use Rattle.bench_entry.specs.Giving.{mixed, agent_mixed}
-use borrow.Author.Rules.{rules}
 use Rattle.bench_entry.proofs.agent_mixed.Goals as goal
 
 pub returns : goal.returns

@@ -1,5 +1,4 @@
 -- Sort by sort, as the definition has it.
-use borrow.Author.Rules.{rules}
 use Rattle.agent.specs.Abstract.{count_of, counts_of}
 use Rattle.bench_entry.specs.Giving.{sort_mixed, counts_mixed}
 use Rattle.bench_entry.proofs.all_mixed.Goals as goal

@@ -1,7 +1,7 @@
 -- The agent's record after the run is the definition's.
 use mathlib.Core.Path.{◌≡◌, ◌∙◌}
 use native.Mathlib.Omega.{arith}
-use lib.ListN.{length, length-map}
+use lib.ListN.{length}
 use Rattle.bench_entry.proofs.Giving.{counts-given, nobody-given}
 use borrow.Author.Rules.{rules}
 use Rattle.bench_entry.proofs.bench_entry_counts.Goals as goal

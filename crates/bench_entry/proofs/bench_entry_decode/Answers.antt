@@ -2,7 +2,6 @@
 use native.Mathlib.Omega.{arith}
 use Rattle.sheet.specs.Abstract.{problem_of, outcome_of}
 use Rattle.bench_entry.proofs.Giving.{fault-given, word-given, no-word-given}
-use borrow.Author.Rules.{rules}
 use Rattle.bench_entry.proofs.bench_entry_decode.Goals as goal
 
 pub returns-then-d-ne0 : goal.returns-then-d-ne0

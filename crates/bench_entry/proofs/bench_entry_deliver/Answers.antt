@@ -1,13 +1,10 @@
 -- All calls, and then value by value.
-use Prim.Native.Nat.{◌-◌, ◌≤◌}
-use mathlib.Core.Path.{◌≡◌, refl}
+use mathlib.Core.Path.{refl}
 use native.Mathlib.Omega.{arith}
 use native.Mathlib.Numerals.{add-one}
 use Rattle.protocol.specs.Network.{start_sheet}
-use Rattle.network.specs.Abstract.{network_of}
 use Rattle.bench_entry.specs.Giving.{asked_to}
 use Rattle.bench_entry.proofs.Playing.{one-asked, all_asked}
-use borrow.Author.Rules.{rules}
 use Rattle.bench_entry.proofs.bench_entry_deliver.Goals as goal
 
 pub loop-i-init : goal.loop-i-init

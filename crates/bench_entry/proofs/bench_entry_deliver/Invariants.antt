@@ -1,13 +1,8 @@
 -- All calls, and then value by value.
 use Prim.Native.Nat.{◌-◌, ◌≤◌}
-use mathlib.Core.Path.{◌≡◌, refl}
-use native.Mathlib.Omega.{arith}
-use native.Mathlib.Numerals.{add-one}
-use Rattle.protocol.specs.Network.{start_sheet}
+use mathlib.Core.Path.{◌≡◌}
 use Rattle.network.specs.Abstract.{network_of}
 use Rattle.bench_entry.specs.Giving.{asked_to}
-use Rattle.bench_entry.proofs.Playing.{one-asked, all_asked}
-use borrow.Author.Rules.{rules}
 use Rattle.bench_entry.proofs.bench_entry_deliver.Given as goal
 
 abbrev pub invariant-loop-i : goal.invariant-loop-i

@@ -1,5 +1,4 @@
 -- What the mover answers, in one number.
-use borrow.Author.Rules.{rules}
 use Rattle.bench_entry.proofs.Images.{move-refused, move-length}
 use Rattle.bench_entry.proofs.bench_entry_move.Goals as goal
 

@@ -1,14 +1,8 @@
 -- Agent by agent, the number so far is the definition's.
 use Prim.Native.Nat.{◌-◌, ◌≤◌}
-use mathlib.Core.Path.{◌≡◌, ◌∙◌}
-use native.Mathlib.Omega.{arith}
-use native.Mathlib.Numerals.{add-one}
-use lib.ListN.{length, length-map}
-use Rattle.packed.proofs.Masks.{byte-lt}
+use mathlib.Core.Path.{◌≡◌}
 use Rattle.network.specs.Abstract.{network_of}
 use Rattle.bench_entry.specs.Giving.{read_to}
-use Rattle.bench_entry.proofs.Images.{none_read, one-read, all_read}
-use borrow.Author.Rules.{rules}
 use Rattle.bench_entry.proofs.bench_entry_read.Given as goal
 
 abbrev pub invariant-loop-k : goal.invariant-loop-k

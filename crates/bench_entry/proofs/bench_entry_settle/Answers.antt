@@ -1,9 +1,8 @@
 -- Agent by agent, the number so far is the definition's; what is made of it at the end fits a word.
-use Prim.Native.Nat.{◌-◌, ◌≤◌}
 use mathlib.Core.Path.{◌≡◌, refl, sym, ◌∙◌}
 use native.Mathlib.Omega.{arith}
 use native.Mathlib.Numerals.{add-one}
-use lib.ListN.{length, length-map}
+use lib.ListN.{length}
 use Rattle.network.specs.Abstract.{network_of}
 use Rattle.engine.specs.Answers.{ending_of}
 use Rattle.bench_entry.specs.Giving.{values_to}

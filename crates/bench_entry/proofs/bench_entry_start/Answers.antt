@@ -2,7 +2,6 @@
 use mathlib.Core.Path.{sym, ◌∙◌}
 use native.Mathlib.Numerals.{add-one}
 use Rattle.bench_entry.proofs.Giving.{row-given, row-held, none-held}
-use borrow.Author.Rules.{rules}
 use Rattle.bench_entry.proofs.bench_entry_start.Goals as goal
 
 pub returns-then-started-ne0 : goal.returns-then-started-ne0

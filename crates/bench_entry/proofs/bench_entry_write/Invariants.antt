@@ -1,15 +1,10 @@
 -- Write by write, the answer and the buffer are the definition's.
 use Prim.Native.Nat.{◌-◌, ◌≤◌}
-use mathlib.Core.Path.{◌≡◌, refl}
-use native.Mathlib.Omega.{arith}
-use native.Mathlib.Numerals.{add-one}
+use mathlib.Core.Path.{◌≡◌}
 use lib.ListN.{length}
-use Rattle.base.specs.Lent.{untouched}
 use Rattle.network.specs.Abstract.{network_of}
 use Rattle.lent.specs.Abstract.{written_of}
 use Rattle.bench_entry.specs.Giving.{form_for, written_to}
-use Rattle.bench_entry.proofs.Images.{one_written, write-refused, write-length}
-use borrow.Author.Rules.{rules}
 use Rattle.bench_entry.proofs.bench_entry_write.Given as goal
 
 abbrev pub invariant-loop-k : goal.invariant-loop-k

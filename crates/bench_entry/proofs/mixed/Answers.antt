@@ -1,6 +1,5 @@
 -- As the definition has it.
 use mathlib.Core.Path.{refl}
-use borrow.Author.Rules.{rules}
 use Rattle.bench_entry.specs.Giving.{mixed, count_mixed}
 use Rattle.bench_entry.proofs.mixed.Goals as goal
 

@@ -1,11 +1,8 @@
 -- The digit of each ending is the definition's.
 use mathlib.Core.Path.{◌≡◌, refl}
-use borrow.Enum.Known.{lives_at}
 use Rattle.engine.specs.declared.Ending.TheVariants.{None, Plan, Jammed, Open, Broken}
 use Rattle.engine.specs.Answers.{ending_of}
-use Rattle.engine.specs.contracts.Ending as E
 use Rattle.bench_entry.specs.Giving.{ending_digit}
-use borrow.Author.Rules.{rules}
 use Rattle.bench_entry.proofs.number_of.Goals as goal
 
 pub returns-in-None : goal.returns-in-None

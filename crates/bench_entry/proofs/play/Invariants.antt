@@ -1,13 +1,9 @@
 -- Call by call, network and sum are the definition's.
 use Prim.Native.Nat.{◌-◌, ◌≤◌}
 use mathlib.Core.Path.{◌≡◌}
-use native.Mathlib.Omega.{arith}
-use native.Mathlib.Numerals.{add-one}
 use Rattle.protocol.specs.Network.{Started}
 use Rattle.network.specs.Abstract.{network_of}
 use Rattle.bench_entry.specs.Giving.{Playing}
-use Rattle.bench_entry.proofs.Playing.{none-played, one-played, all-played}
-use borrow.Author.Rules.{rules}
 use Rattle.bench_entry.proofs.play.Given as goal
 
 abbrev pub invariant-loop-k : goal.invariant-loop-k

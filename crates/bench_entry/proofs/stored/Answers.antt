@@ -1,5 +1,4 @@
 -- Form by form: the writer of that form says it.
-use borrow.Author.Rules.{rules}
 use Rattle.bench_entry.specs.Giving.{form_for}
 use Rattle.bench_entry.proofs.stored.Goals as goal
 

@@ -3,7 +3,6 @@ use mathlib.Core.Path.{◌≡◌, sym, ap, ◌∙◌}
 use Rattle.protocol.specs.Network.{Started, start_sheet}
 use Rattle.dispatch_rules.specs.Dispatch.{dispatcher}
 use Rattle.dock_text.proofs.Cut.{start-cut}
-use borrow.Author.Rules.{rules}
 use Rattle.board_text.proofs.begin.Goals as goal
 
 pub returns : goal.returns

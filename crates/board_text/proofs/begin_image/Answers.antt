@@ -4,7 +4,6 @@ use Rattle.image_format.specs.Reading.{Loaded}
 use Rattle.image_forms.specs.Reading.{load}
 use Rattle.dispatch_rules.specs.Dispatch.{dispatcher}
 use Rattle.image_mover.proofs.Cut.{load_cut}
-use borrow.Author.Rules.{rules}
 use Rattle.board_text.proofs.begin_image.Goals as goal
 
 pub returns : goal.returns

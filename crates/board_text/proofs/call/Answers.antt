@@ -1,11 +1,8 @@
 -- The call that the word says is made; a word that says none leaves all. Assumes nothing.
 use mathlib.Core.Path.{◌≡◌, refl, sym, ◌∙◌}
-use borrow.Enum.Known.{lives_at}
 use Rattle.dispatch.specs.Abstract.{dispatcher_of}
 use Rattle.board_text.specs.declared.calls.Call.TheVariants.{Unknown}
 use Rattle.board_text.specs.Calling.{after_call}
-use Rattle.board_text.specs.contracts.calls.Call as Call
-use borrow.Author.Rules.{rules}
 use Rattle.board_text.proofs.call.Goals as goal
 
 pub returns-in-Deliver : goal.returns-in-Deliver

@@ -1,6 +1,5 @@
 -- The delivery's contract, and the dispatcher's count and place stay. Assumes nothing.
 use Rattle.board_text.proofs.Above.{above_same}
-use borrow.Author.Rules.{rules}
 use Rattle.board_text.proofs.deliver.Goals as goal
 
 pub returns-then-answer-ne0 : goal.returns-then-answer-ne0

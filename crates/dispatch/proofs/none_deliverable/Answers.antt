@@ -1,15 +1,9 @@
 -- The word of a run that may use no round.
 use mathlib.Core.Logic.{◌≢◌}
 use mathlib.Core.Path.{◌≡◌, refl, sym, ap, ◌∙◌}
-use mathlib.Core.List.{[], ◌∷◌}
-use types.Run.{OneOf, miss}
-use denote.Enum.Declared.{tag_of}
-use borrow.Enum.Known.{lives_at}
-use borrow.Author.Rules.{rules}
 use Rattle.engine.specs.declared.Ending.{Ending}
 use Rattle.engine.specs.declared.Ending.TheVariants.{None, Plan, Jammed, Open, Broken}
 use Rattle.engine.specs.Answers.{ending_of}
-use Rattle.engine.specs.contracts.Ending as E
 use Rattle.dispatch.proofs.Standing.{number_for, nothing_for}
 use Rattle.dispatch.proofs.none_deliverable.Goals as goal
 

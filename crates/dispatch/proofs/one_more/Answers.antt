@@ -3,7 +3,6 @@ use Prim.Native.Nat.{ℕ, ◌+◌, ◌≤◌}
 use mathlib.Core.Path.{◌≡◌, sym}
 use mathlib.Core.Logic.{◌≢◌}
 use native.Mathlib.Omega.{arith}
-use borrow.Author.Rules.{rules}
 use Rattle.agent_rules.specs.Counts.{top, raised}
 use Rattle.agent_rules.proofs.Counts.{Raised, exact, full, raises}
 use Rattle.dispatch.proofs.one_more.Goals as goal

@@ -1,8 +1,6 @@
 -- Refused at once, or the wish, or else an even pick.
 use mathlib.Core.Path.{◌≡◌, sym, ◌∙◌}
-use mathlib.Core.Logic.{⊎_elim}
 use mathlib.Core.Bool.{false}
-use borrow.Author.Rules.{rules}
 use Rattle.dispatch_rules.specs.Dispatch.{meets}
 use Rattle.network.specs.Abstract.{network_of}
 use Rattle.dispatch.specs.Abstract.{line, dispatcher_of, tested_by}

@@ -1,5 +1,4 @@
 -- The line that the search serves, or none.
-use borrow.Author.Rules.{rules}
 use Rattle.network.specs.Abstract.{problem_of, network_of}
 use Rattle.dispatch.proofs.Standing.{sized}
 use Rattle.dispatch.proofs.Picking.{in-turn, nothing}

@@ -1,7 +1,5 @@
 -- The tests in the definition's order.
 use mathlib.Core.Path.{sym, ◌∙◌}
-use borrow.Author.Rules.{rules}
-use borrow.Author.Tests.{not-true, not-false}
 use Rattle.protocol.specs.Delivery.{rejection_number}
 use Rattle.network.specs.Abstract.{network_of}
 use Rattle.dispatch.specs.Abstract.{tested_by}

@@ -1,6 +1,5 @@
 -- `given` is what a start goes by.
 -- The sheet is decoded only under a rule.
-use borrow.Author.Rules.{rules}
 use mathlib.Core.Path.{sym, ◌∙◌}
 use Rattle.start.proofs.Sheets.{ruled, unruled}
 use Rattle.start.proofs.given.Goals as goal

@@ -1,14 +1,13 @@
 -- The mask of the linked agents below, from agent n down to the one next to i.
 use mathlib.Core.Path.{◌≡◌, sym, fun_ext, ◌∙◌}
 use mathlib.Core.Bool.{false, not}
-use Prim.Native.Nat.{◌+◌, ◌-◌, ◌≤◌}
+use Prim.Native.Nat.{◌+◌, ◌-◌}
 use native.Mathlib.Omega.{arith}
 use lib.Dec.{eqb}
 use lib.ListN.{get_or}
-use borrow.Author.Rules.{rules}
 use Rattle.clauses.proofs.Pairs.{word-place}
-use Rattle.start.proofs.Words.{not-linked, is-linked, linked_to, none-beyond, as-far, all-linked}
-use Rattle.start.proofs.Masks.{Masked, mask-begins, mask_fits, mask-goes, mask-moved}
+use Rattle.start.proofs.Words.{not-linked, is-linked, none-beyond, as-far, all-linked}
+use Rattle.start.proofs.Masks.{mask-begins, mask_fits, mask-goes, mask-moved}
 use Rattle.start.proofs.informs.Goals as goal
 
 pub loop-k-init : goal.loop-k-init

@@ -1,14 +1,12 @@
 -- The mask of the linked agents above, from the agent next to i down. Assumes nothing.
 use mathlib.Core.Path.{fun_ext, ◌∙◌}
 use mathlib.Core.Bool.{false, not}
-use Prim.Native.Nat.{◌+◌, ◌-◌, ◌≤◌}
+use Prim.Native.Nat.{◌+◌, ◌-◌}
 use native.Mathlib.Omega.{arith}
 use lib.Dec.{eqb}
 use lib.ListN.{get_or}
-use borrow.Author.Rules.{rules}
-use Rattle.problem.specs.Problem.{linked}
-use Rattle.start.proofs.Words.{table, table-linked, not-linked, is-linked, word-from}
-use Rattle.start.proofs.Masks.{Masked, mask-begins, mask_fits, mask-goes, mask-ends}
+use Rattle.start.proofs.Words.{table-linked, not-linked, is-linked, word-from}
+use Rattle.start.proofs.Masks.{mask-begins, mask_fits, mask-goes, mask-ends}
 use Rattle.start.proofs.listens.Goals as goal
 
 pub words_before-words-requires : goal.words_before-words-requires

@@ -1,14 +1,8 @@
 -- The mask of the linked agents above, from the agent next to i down. Assumes nothing.
-use mathlib.Core.Path.{fun_ext, ◌∙◌}
-use mathlib.Core.Bool.{false, not}
-use Prim.Native.Nat.{◌+◌, ◌-◌, ◌≤◌}
-use native.Mathlib.Omega.{arith}
-use lib.Dec.{eqb}
-use lib.ListN.{get_or}
-use borrow.Author.Rules.{rules}
+use Prim.Native.Nat.{◌+◌, ◌≤◌}
 use Rattle.problem.specs.Problem.{linked}
-use Rattle.start.proofs.Words.{table, table-linked, not-linked, is-linked, word-from}
-use Rattle.start.proofs.Masks.{Masked, mask-begins, mask_fits, mask-goes, mask-ends}
+use Rattle.start.proofs.Words.{table}
+use Rattle.start.proofs.Masks.{Masked}
 use Rattle.start.proofs.listens.Given as goal
 
 abbrev pub invariant-loop-k : goal.invariant-loop-k

@@ -1,5 +1,5 @@
 -- Two numbers that are bytes are the ends of a line. Assumes nothing.
-use mathlib.Core.Path.{◌≡◌, sym}
+use mathlib.Core.Path.{sym}
 use Rattle.board_text.proofs.Words.{no-sender, no-receiver, sender-high, receiver-high, both_bytes}
 use Rattle.board_text.proofs.calls.both_ends.Goals as goal
 

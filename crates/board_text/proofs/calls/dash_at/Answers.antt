@@ -1,8 +1,5 @@
 -- The first dash is the first byte that is one, or there is none. Assumes nothing.
-use Prim.Native.Nat.{◌-◌}
-use borrow.Author.Rules.{rules}
-use lib.ListN.{length}
-use Rattle.board_text.proofs.Words.{Passed, passed_none, dash-here, dash-later, dash-nowhere}
+use Rattle.board_text.proofs.Words.{passed_none, dash-here, dash-later, dash-nowhere}
 use Rattle.board_text.proofs.calls.dash_at.Goals as goal
 
 pub loop-i-init : goal.loop-i-init

@@ -1,8 +1,7 @@
 -- The first dash is the first byte that is one, or there is none. Assumes nothing.
 use Prim.Native.Nat.{◌-◌}
-use borrow.Author.Rules.{rules}
 use lib.ListN.{length}
-use Rattle.board_text.proofs.Words.{Passed, passed_none, dash-here, dash-later, dash-nowhere}
+use Rattle.board_text.proofs.Words.{Passed}
 use Rattle.board_text.proofs.calls.dash_at.Given as goal
 
 abbrev pub invariant-loop-i : goal.invariant-loop-i

@@ -6,7 +6,6 @@ use Rattle.numerals.specs.Reading.{number_in}
 use Rattle.board_text.specs.declared.calls.Ends.TheVariants.{Missing}
 use Rattle.board_text.specs.Reading.{ends_in, deliver_for, pick_for, run_for}
 use Rattle.board_text.proofs.Words.{rest_of, call-empty, call-run, call-pick, call-deliver}
-use borrow.Author.Rules.{rules}
 use Rattle.board_text.proofs.calls.read_call.Goals as goal
 
 pub returns-then-word-eq0 : goal.returns-then-word-eq0

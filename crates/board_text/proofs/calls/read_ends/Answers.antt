@@ -7,7 +7,6 @@ use lib.Seq.{length-take-le}
 use Rattle.numerals.specs.Reading.{number_in}
 use Rattle.board_text.specs.Reading.{dash_in, ends_for, ends_in}
 use Rattle.board_text.proofs.Words.{dashless, rest_of}
-use borrow.Author.Rules.{rules}
 use Rattle.board_text.proofs.calls.read_ends.Goals as goal
 
 pub returns-then-dash-s : goal.returns-then-dash-s

@@ -1,7 +1,6 @@
 -- The index stays in the word. Assumes nothing.
 use Prim.Native.Nat.{◌-◌, ◌≤◌}
 use lib.ListN.{length}
-use borrow.Author.Rules.{rules}
 use Rattle.board_text.proofs.calls.significant.Given as goal
 
 abbrev pub invariant-loop-i : goal.invariant-loop-i

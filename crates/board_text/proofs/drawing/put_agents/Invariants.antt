@@ -1,6 +1,5 @@
 -- The loop over the twelve agents ends. Assumes nothing.
 use Prim.Native.Nat.{◌-◌}
-use borrow.Author.Rules.{rules}
 use Rattle.board_text.proofs.drawing.put_agents.Given as goal
 
 abbrev pub invariant-loop-i : goal.invariant-loop-i

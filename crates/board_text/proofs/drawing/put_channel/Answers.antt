@@ -1,5 +1,4 @@
 -- The loop over the eight places of a channel ends; the ends of a channel are agents of 1 to 12.
-use Prim.Native.Nat.{◌-◌}
 use native.Mathlib.Omega.{arith}
 use Rattle.clauses.proofs.Numbering.{ends}
 use borrow.Author.Rules.{rules}

@@ -1,8 +1,5 @@
 -- The loop over the eight places of a channel ends; the ends of a channel are agents of 1 to 12.
 use Prim.Native.Nat.{◌-◌}
-use native.Mathlib.Omega.{arith}
-use Rattle.clauses.proofs.Numbering.{ends}
-use borrow.Author.Rules.{rules}
 use Rattle.board_text.proofs.drawing.put_channel.Given as goal
 
 abbrev pub invariant-loop-k : goal.invariant-loop-k

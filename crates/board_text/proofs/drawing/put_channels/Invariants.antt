@@ -1,6 +1,5 @@
 -- The loop over the senders ends, and names agents of 1 to 12. Assumes nothing.
 use Prim.Native.Nat.{◌-◌, ◌≤◌}
-use borrow.Author.Rules.{rules}
 use Rattle.board_text.proofs.drawing.put_channels.Given as goal
 
 abbrev pub invariant-loop-from : goal.invariant-loop-from

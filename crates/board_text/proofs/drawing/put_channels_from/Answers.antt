@@ -1,5 +1,4 @@
 -- The loop over the receivers ends, and names agents of 1 to 12. Assumes nothing.
-use Prim.Native.Nat.{◌-◌, ◌≤◌}
 use Rattle.clauses.proofs.Numbering.{to-channel}
 use borrow.Author.Rules.{rules}
 use Rattle.board_text.proofs.drawing.put_channels_from.Goals as goal

@@ -1,6 +1,5 @@
 -- The loop over the sixteen agents that a left side can name ends. Assumes nothing.
 use Prim.Native.Nat.{◌-◌}
-use borrow.Author.Rules.{rules}
 use Rattle.board_text.proofs.drawing.put_lhs.Given as goal
 
 abbrev pub invariant-loop-k : goal.invariant-loop-k

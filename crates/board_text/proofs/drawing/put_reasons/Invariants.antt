@@ -1,6 +1,5 @@
 -- The loop over the eight values ends. Assumes nothing.
 use Prim.Native.Nat.{◌-◌}
-use borrow.Author.Rules.{rules}
 use Rattle.board_text.proofs.drawing.put_reasons.Given as goal
 
 abbrev pub invariant-loop-v : goal.invariant-loop-v

@@ -1,6 +1,5 @@
 -- The loop over the sixteen agents that a view can name ends. Assumes nothing.
 use Prim.Native.Nat.{◌-◌}
-use borrow.Author.Rules.{rules}
 use Rattle.board_text.proofs.drawing.put_view.Given as goal
 
 abbrev pub invariant-loop-k : goal.invariant-loop-k

@@ -1,10 +1,7 @@
 -- Stage by stage. Assumes nothing.
 use mathlib.Core.Path.{◌≡◌, refl}
-use borrow.Enum.Known.{lives_at}
 use Rattle.board_text.specs.declared.options.Stage.TheVariants.{Words, Awaits, File, Wrong}
 use Rattle.board_text.specs.Options.{goes_on}
-use Rattle.board_text.specs.contracts.options.Stage as Stage
-use borrow.Author.Rules.{rules}
 use Rattle.board_text.proofs.options.goes_on.Goals as goal
 
 pub returns-in-Words : goal.returns-in-Words

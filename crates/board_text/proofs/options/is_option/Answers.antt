@@ -2,7 +2,6 @@
 use mathlib.Core.Path.{refl, sym}
 use Rattle.board_text.specs.Options.{is_option}
 use Rattle.board_text.proofs.Spelling.{short-word}
-use borrow.Author.Rules.{rules}
 use Rattle.board_text.proofs.options.is_option.Goals as goal
 
 pub returns-then-word-lt2 : goal.returns-then-word-lt2

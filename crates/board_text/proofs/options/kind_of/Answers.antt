@@ -3,7 +3,6 @@ use mathlib.Core.Path.{refl, sym, ◌∙◌}
 use mathlib.Core.Bool.{false≢true}
 use Rattle.board_text.specs.Options.{rule_option, image_option, small_option, kind_of}
 use Rattle.base.proofs.Same.{numbers-same, other-numbers}
-use borrow.Author.Rules.{rules}
 use Rattle.board_text.proofs.options.kind_of.Goals as goal
 
 pub returns-then-same : goal.returns-then-same

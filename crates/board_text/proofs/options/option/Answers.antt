@@ -2,13 +2,10 @@
 use mathlib.Core.Path.{◌≡◌, sym, ap, ◌∙◌}
 use mathlib.Core.List.{List}
 use Prim.Native.Nat.{ℕ}
-use borrow.Enum.Known.{lives_at}
 use Rattle.board_text.specs.declared.options.Stage.{Stage as Stages}
 use Rattle.board_text.specs.declared.options.Stage.TheVariants.{Words, Awaits, File, Wrong}
 use Rattle.board_text.specs.declared.options.Options.{Options}
 use Rattle.board_text.specs.Options.{with_kind, with_rule, option_at, with_option}
-use Rattle.board_text.specs.contracts.options.Stage as Stage
-use borrow.Author.Rules.{rules}
 use Rattle.board_text.proofs.options.option.Goals as goal
 
 at : (o : Options) (word : List ℕ) {s : Stages} → o.stage ≡ s → option_at s o word ≡ with_option o word

@@ -1,6 +1,4 @@
 -- What failed at a part has failed at those behind it. Assumes nothing.
-use borrow.Author.Rules.{rules}
-use Rattle.words.proofs.printing.Out.put.Reads as put_reads
 use Rattle.board_text.proofs.options.put_wrong.Goals as goal
 
 pub returns : goal.returns

@@ -1,10 +1,7 @@
 -- Kind by kind. Assumes nothing.
 use mathlib.Core.Path.{◌≡◌}
-use borrow.Enum.Known.{lives_at}
 use Rattle.board_text.specs.declared.options.Kind.TheVariants.{Rule, Image, Small, Unknown, File}
 use Rattle.board_text.specs.Options.{with_kind}
-use Rattle.board_text.specs.contracts.options.Kind as Kind
-use borrow.Author.Rules.{rules}
 use Rattle.board_text.proofs.options.with_kind.Goals as goal
 
 pub returns-then-taken : goal.returns-then-taken

@@ -1,5 +1,5 @@
 -- A number that is a byte is the rule. Assumes nothing.
-use mathlib.Core.Path.{◌≡◌, refl}
+use mathlib.Core.Path.{refl}
 use borrow.Author.Tests.{le-leb, lt-leb}
 use Rattle.board_text.specs.Reading.{is_byte}
 use Rattle.board_text.specs.Options.{with_rule}

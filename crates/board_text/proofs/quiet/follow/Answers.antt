@@ -1,13 +1,10 @@
 -- The call that the word says is made; a word that says none leaves all. Assumes nothing.
 use mathlib.Core.Path.{◌≡◌, refl, sym, ap, ◌∙◌}
-use borrow.Enum.Known.{lives_at}
 use Rattle.dispatch.specs.Abstract.{dispatcher_of}
 use Rattle.board_text.specs.declared.calls.Call.TheVariants.{Unknown}
 use Rattle.board_text.specs.declared.quiet.Followed.{Followed}
 use Rattle.dispatch_rules.specs.Dispatch.{with_network}
 use Rattle.board_text.specs.Calling.{is_call, after_call}
-use Rattle.board_text.specs.contracts.calls.Call as Call
-use borrow.Author.Rules.{rules}
 use Rattle.board_text.proofs.quiet.follow.Goals as goal
 
 pub returns-in-Deliver : goal.returns-in-Deliver

@@ -1,14 +1,10 @@
 -- The search from where the walk stands finds what the search from its beginning on finds.
-use Prim.Native.Nat.{◌+◌, ◌*◌, ◌-◌}
 use mathlib.Core.Path.{◌≡◌, refl, sym, ◌∙◌}
-use mathlib.Core.Logic.{⊎_elim}
 use mathlib.Core.Bool.{false}
 use native.Mathlib.Omega.{arith}
-use borrow.Author.Rules.{rules}
-use Rattle.dispatch_rules.specs.Dispatch.{up_to, deliverable, first_of}
+use Rattle.dispatch_rules.specs.Dispatch.{deliverable}
 use Rattle.network.specs.Abstract.{network_of}
 use Rattle.dispatch.specs.Abstract.{line}
-use Rattle.dispatch.specs.Walking.{ahead, Stands}
 use Rattle.dispatch.proofs.Searching.{finds, ends, further, over}
 use Rattle.dispatch.proofs.Delivering.{can, cannot, can-apart, nothing-waits}
 use Rattle.dispatch.proofs.Turning.{found_as, none-as}

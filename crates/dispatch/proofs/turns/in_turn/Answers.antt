@@ -1,7 +1,5 @@
 -- The turn is what stands behind the place, and then what stands up to it.
 use mathlib.Core.Path.{refl, sym, ◌∙◌}
-use borrow.Author.Rules.{rules}
-use borrow.Author.Tests.{not-true, not-false}
 use Rattle.engine.proofs.Testing.{Good, good}
 use Rattle.dispatch.proofs.Turning.{at_first, from_start, found-behind, found_before}
 use Rattle.dispatch.proofs.turns.in_turn.Goals as goal

@@ -3,7 +3,6 @@ use Prim.Native.Nat.{ℕ, suc, ◌≤◌, ◌<◌}
 use mathlib.Core.Path.{◌≡◌, refl}
 use native.Mathlib.Omega.{arith}
 use native.Mathlib.Numerals.{add-one}
-use borrow.Author.Rules.{rules}
 use Rattle.dispatch.specs.Walking.{NextOf}
 use Rattle.dispatch.proofs.Ahead.{ahead-row}
 use Rattle.dispatch.proofs.turns.next.Goals as goal
