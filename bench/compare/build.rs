@@ -1,4 +1,4 @@
-//! Links the proved libraries' entries: the archive that `rt staticlib bench_entry` writes.
+//! Links the proved libraries' entries: the archive that `rt lib` writes in `crates/bench_entry`, which `bench/run` puts there.
 
 fn main() {
     let folder = concat!(env!("CARGO_MANIFEST_DIR"), "/../../target/staticlib");
