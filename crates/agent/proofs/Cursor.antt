@@ -152,6 +152,9 @@ module _ (p : Posts) (backs : List ℕ) (r : Ready p backs) where
 
   -- ---- none is, but Backs are
 
+  pub back-sendable : p.next < p.count → Sendable (get_or backs p.next 0)
+  back-sendable more = r.wholes p.next more
+
   module _ (none : p.links ≡ 0) where
     without-links : posts_left p backs ≡ backs_from p.next p.count backs ++ news_to p.value p.told
     unfolding posts_left
@@ -159,9 +162,6 @@ module _ (p : Posts) (backs : List ℕ) (r : Ready p backs) where
         ap (λ (l : List Post'). l ++ backs_from p.next p.count backs ++ news_to p.value p.told) (ap links_to none ∙ links-none)
 
     module _ (more : p.next < p.count) where
-      pub back-sendable : Sendable (get_or backs p.next 0)
-      back-sendable = r.wholes p.next more
-
       pub back-first : posts_left p backs
           ≡ back_of (get_or backs p.next 0) ∷ (backs_from (p.next + 1) p.count backs ++ news_to p.value p.told)
       back-first =

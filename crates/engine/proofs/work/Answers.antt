@@ -33,7 +33,61 @@ use Rattle.engine.proofs.Storing.{storing-starts, turn-line, turn-ends, turn-sto
 use Rattle.engine.proofs.Accepting.{stored-jams, stored-goes}
 use Rattle.engine.proofs.Resting.{one_more, no_more, work-stops, stops-untouched, round-left, round-settled, round-begins}
 use Rattle.engine.proofs.work.Goals as goal
-use Rattle.engine.proofs.work.Goals.{else-not-has, else-not-missed, else-sweep, then-not-has, then-not-missed, then-sweep+else-once, then-sweep+then-once+else-number-eq0, then-sweep+then-once+then-number-eq0}
+use Rattle.engine.proofs.work.Goals.{else-not-has, else-not-missed, else-sweep, then-not-has, then-not-missed, then-sweep+else-once, then-sweep+then-once+else-number-eq0, then-sweep+then-once+then-number-eq0, After-barred-1, After-place_at-then-not-visit, After-with_digit-rest, Joined-not-has, Then-not-visit}
+
+-- a line is visited: its ends, the network, and the message at its head
+visited : (c : Then-not-visit)
+    → Ends c.next_visit-visit.result.from c.next_visit-visit.result.to
+visited c =
+    line-ends c.loop-to.invariant.0 c.next_visit-visit.result c.next_visit-visit.ensures (not-true _ c.if-not-visit.true)
+
+alive : (c : Then-not-visit)
+    → Live c.loop-to.o c.if-sweep.n c.if-sweep.o.domains c.if-sweep.o.bans c.loop-to.bars c.loop-to.ready
+alive c =
+    here c.loop-to.invariant.0 c.next_visit-visit.result c.next_visit-visit.ensures (not-true _ c.if-not-visit.true)
+
+going : (c : Then-not-visit)
+    → c.loop-to.o.verdict ≡ false
+going c =
+    no-verdict c.loop-to.invariant.0 c.next_visit-visit.result c.next_visit-visit.ensures (not-true _ c.if-not-visit.true) c.loop-to.invariant.1
+
+finding : (c : After-place_at-then-not-visit)
+    → Found c.loop-to.o c.next_visit-visit.result.from c.next_visit-visit.result.to c.place_at-then-not-visit.result
+finding c =
+    finds c.loop-to.invariant.0 c.next_visit-visit.result c.next_visit-visit.ensures (not-true _ c.if-not-visit.true) (going c.before.before.before.before) c.channel_at-then-not-visit.result c.digit-head-then-not-visit.result c.place_at-then-not-visit.result c.channel_at-then-not-visit.ensures.0 c.digit-head-then-not-visit.ensures.0 c.place_at-then-not-visit.ensures.0
+
+-- agent `to` has its bars, or they are worked out now
+readied : (c : Joined-not-has)
+    → Readied c.if-sweep.o.bans c.next_visit-visit.result.to c.words_before-words.result (get_or c.loop-to.o.agents (c.next_visit-visit.result.to - 1) no_agent) c.loop-to.bars c.loop-to.ready c.if-not-has.bars c.if-not-has.ready
+unfolding assigned
+readied c =
+    elim c.if-not-has.branch [
+      | then-not-has a ↦ worked a.of-b.result a.add-ready.result a.of-b.ensures a.add-ready.ensures a.bars-is a.ready-is
+      | else-not-has a ↦ had (sym c.has.ensures ∙ a.if-not-has.false) a.bars-is a.ready-is
+    ]
+
+bars-now : (c : Joined-not-has)
+    → (length c.if-not-has.bars ≡ 12)
+    × Barred c.if-sweep.o.bans c.loop-to.o.agents c.if-not-has.bars c.if-not-has.ready
+    × BarsOf c.if-sweep.o.bans c.next_visit-visit.result.to c.words_before-words.result (get_or c.loop-to.o.agents (c.next_visit-visit.result.to - 1) no_agent) (get_or c.if-not-has.bars (c.next_visit-visit.result.to - 1) no_bars)
+bars-now c =
+    bars-ready c.if-sweep.o.bans c.next_visit-visit.result.to c.words_before-words.result (visited c.before.before.before.before.before.before.before.before.before.before).to_low (visited c.before.before.before.before.before.before.before.before.before.before).to_high c.words_before-words.ensures.0 c.loop-to.o.agents c.loop-to.bars c.loop-to.ready (alive c.before.before.before.before.before.before.before.before.before.before).beside (alive c.before.before.before.before.before.before.before.before.before.before).barred c.if-not-has.bars c.if-not-has.ready (readied c)
+
+-- the delivery is made
+gone : (c : After-barred-1)
+    → Here c.args.once (work_by c.args.once c.args.sender c.args.receiver c.args.allowed (network_of c.if-sweep.o)) c.if-sweep.o c.if-sweep.number (arrived (rowed c.loop-room.o c.next_visit-visit.result.to c.loop-room.now) c.next_visit-visit.result.from c.next_visit-visit.result.to c.with_digit.result c.one_less.result c.receive-step.result.agent c.receive-step.result.verdict) c.if-sweep.n c.if-sweep.o.domains c.if-sweep.o.bans (set c.if-not-has.bars (c.next_visit-visit.result.to - 1) c.receive-step.result.bars) c.if-not-has.ready c.loop-to.quota c.loop-to.missed c.loop-to.left c.loop-to.made 0 c.next_visit-visit.result.from c.next_visit-visit.result.rest
+gone c =
+    let stepped : Stepped c.loop-to.o c.next_visit-visit.result.from c.next_visit-visit.result.to c.place_at-then-not-visit.result c.receive-step.result =
+    steps (finding c.before.before.before.before.before.before.before.before.before.before.before.before.before.before.before.before.before.before.before.before.before.before) no_agent _ _ c.words_before-words.result (alive c.before.before.before.before.before.before.before.before.before.before.before.before.before.before.before.before.before.before.before.before.before.before.before.before.before.before).owned (alive c.before.before.before.before.before.before.before.before.before.before.before.before.before.before.before.before.before.before.before.before.before.before.before.before.before.before).table c.words_before-words.ensures.0 c.receive-step.result c.receive-step.ensures in
+    let q = (bars-now c.before.before.before.before.before.before.before.before.before.before.before.before.before.before.before.before) in
+    stored-goes c.loop-to.invariant.0 c.next_visit-visit.result c.next_visit-visit.ensures (not-true _ c.if-not-visit.true) (going c.before.before.before.before.before.before.before.before.before.before.before.before.before.before.before.before.before.before.before.before.before.before.before.before.before.before) c.if-not-has.bars c.if-not-has.ready q.0 q.1 stepped c.loop-room.invariant (no-posts _ _ _ _ c.is_empty.ensures.1 c.loop-room-test.false c.if-room.true c.loop-room.invariant.ready)
+    (record { head = head-moved _ _ _ _ c.with_digit.ensures c.digit-then-room.ensures.0; count = c.one_less.ensures.0 }) _ c.words_before-words.ensures.0 c.receive-step.ensures.barring
+
+-- a line that meets a 10 is passed over for the rest of the round, and no other line of its sender
+passed : (c : After-with_digit-rest)
+    → assignment c.with_digit-rest.result ≡ at (assignment c.next_visit-visit.result.rest) c.next_visit-visit.result.to 0
+passed c =
+    search rules
 
 pub loop-sweep-init : goal.loop-sweep-init
 loop-sweep-init c =
@@ -156,46 +210,25 @@ pub next_visit-visit-requires : goal.next_visit-visit-requires
 next_visit-visit-requires c = (c.loop-to.invariant.0.high, c.loop-to.invariant.0.agents)
 
 pub overflow_cast-at : goal.overflow_cast-at
-overflow_cast-at c =
-    let visited : Ends c.next_visit-visit.result.from c.next_visit-visit.result.to =
-    line-ends c.loop-to.invariant.0 c.next_visit-visit.result c.next_visit-visit.ensures (not-true _ c.if-not-visit.true) in
-    let b = visited in search rules
+overflow_cast-at c = let b = (visited (goal.at.overflow_cast-at c).Then-not-visit) in search rules
 
 pub overflow_sub-at : goal.overflow_sub-at
-overflow_sub-at c =
-    let visited : Ends c.next_visit-visit.result.from c.next_visit-visit.result.to =
-    line-ends c.loop-to.invariant.0 c.next_visit-visit.result c.next_visit-visit.ensures (not-true _ c.if-not-visit.true) in
-    let b = visited in search rules
+overflow_sub-at c = let b = (visited (goal.at.overflow_sub-at c).Then-not-visit) in search rules
 
 pub overflow_cast-row : goal.overflow_cast-row
-overflow_cast-row c =
-    let visited : Ends c.next_visit-visit.result.from c.next_visit-visit.result.to =
-    line-ends c.loop-to.invariant.0 c.next_visit-visit.result c.next_visit-visit.ensures (not-true _ c.if-not-visit.true) in
-    let b = visited in search rules
+overflow_cast-row c = let b = (visited (goal.at.overflow_cast-row c).Then-not-visit) in search rules
 
 pub overflow_sub-row : goal.overflow_sub-row
-overflow_sub-row c =
-    let visited : Ends c.next_visit-visit.result.from c.next_visit-visit.result.to =
-    line-ends c.loop-to.invariant.0 c.next_visit-visit.result c.next_visit-visit.ensures (not-true _ c.if-not-visit.true) in
-    let b = visited in search rules
+overflow_sub-row c = let b = (visited (goal.at.overflow_sub-row c).Then-not-visit) in search rules
 
 pub offset_bounds-o-row : goal.offset_bounds-o-row
-offset_bounds-o-row c =
-    let visited : Ends c.next_visit-visit.result.from c.next_visit-visit.result.to =
-    line-ends c.loop-to.invariant.0 c.next_visit-visit.result c.next_visit-visit.ensures (not-true _ c.if-not-visit.true) in
-    let b = visited in search rules
+offset_bounds-o-row c = let b = (visited (goal.at.offset_bounds-o-row c).Then-not-visit) in search rules
 
 pub bounds-o-row : goal.bounds-o-row
-bounds-o-row c =
-    let visited : Ends c.next_visit-visit.result.from c.next_visit-visit.result.to =
-    line-ends c.loop-to.invariant.0 c.next_visit-visit.result c.next_visit-visit.ensures (not-true _ c.if-not-visit.true) in
-    let b = visited in search rules
+bounds-o-row c = let b = (visited (goal.at.bounds-o-row c).Then-not-visit) in search rules
 
 pub digit-head-requires-then-not-visit : goal.digit-head-requires-then-not-visit
-digit-head-requires-then-not-visit c =
-    let visited : Ends c.next_visit-visit.result.from c.next_visit-visit.result.to =
-    line-ends c.loop-to.invariant.0 c.next_visit-visit.result c.next_visit-visit.ensures (not-true _ c.if-not-visit.true) in
-    let b = visited in (b.to_low, omega (arith, b.to_high))
+digit-head-requires-then-not-visit c = let b = (visited (goal.at.digit-head-requires-then-not-visit c).Then-not-visit) in (b.to_low, omega (arith, b.to_high))
 
 pub channel_at-requires-then-not-visit : goal.channel_at-requires-then-not-visit
 channel_at-requires-then-not-visit c = line-channel c.loop-to.invariant.0 c.next_visit-visit.result c.next_visit-visit.ensures (not-true _ c.if-not-visit.true)
@@ -207,176 +240,79 @@ pub bounds-o-place_at-then-not-visit : goal.bounds-o-place_at-then-not-visit
 bounds-o-place_at-then-not-visit c = let z = c.loop-to.invariant.0.sized.places in search rules
 
 pub offset_bounds-o-at : goal.offset_bounds-o-at
-offset_bounds-o-at c =
-    let visited : Ends c.next_visit-visit.result.from c.next_visit-visit.result.to =
-    line-ends c.loop-to.invariant.0 c.next_visit-visit.result c.next_visit-visit.ensures (not-true _ c.if-not-visit.true) in
-    let b = visited in search rules
+offset_bounds-o-at c = let b = (visited (goal.at.offset_bounds-o-at c).Then-not-visit) in search rules
 
 pub bounds-o-at : goal.bounds-o-at
-bounds-o-at c =
-    let visited : Ends c.next_visit-visit.result.from c.next_visit-visit.result.to =
-    line-ends c.loop-to.invariant.0 c.next_visit-visit.result c.next_visit-visit.ensures (not-true _ c.if-not-visit.true) in
-    let b = visited in let z = c.loop-to.invariant.0.sized.agents in search rules
+bounds-o-at c = let b = (visited (goal.at.bounds-o-at c).Then-not-visit) in let z = c.loop-to.invariant.0.sized.agents in search rules
 
 pub words_before-words-requires : goal.words_before-words-requires
-words_before-words-requires c =
-    let visited : Ends c.next_visit-visit.result.from c.next_visit-visit.result.to =
-    line-ends c.loop-to.invariant.0 c.next_visit-visit.result c.next_visit-visit.ensures (not-true _ c.if-not-visit.true) in
-    let b = visited in (b.to_low, b.to_high)
+words_before-words-requires c = let b = (visited (goal.at.words_before-words-requires c).Then-not-visit) in (b.to_low, b.to_high)
 
 pub bounds-domains-at : goal.bounds-domains-at
-bounds-domains-at c =
-    let visited : Ends c.next_visit-visit.result.from c.next_visit-visit.result.to =
-    line-ends c.loop-to.invariant.0 c.next_visit-visit.result c.next_visit-visit.ensures (not-true _ c.if-not-visit.true) in
-    let b = visited in search rules
+bounds-domains-at c = let b = (visited (goal.at.bounds-domains-at c).Then-not-visit) in search rules
 
 pub overflow_add-mine : goal.overflow_add-mine
-overflow_add-mine c =
-    let visited : Ends c.next_visit-visit.result.from c.next_visit-visit.result.to =
-    line-ends c.loop-to.invariant.0 c.next_visit-visit.result c.next_visit-visit.ensures (not-true _ c.if-not-visit.true) in
-    let b = visited in search rules
+overflow_add-mine c = let b = (visited (goal.at.overflow_add-mine c).Then-not-visit) in search rules
 
 pub offset_bounds-bans-words : goal.offset_bounds-bans-words
-offset_bounds-bans-words c =
-    let visited : Ends c.next_visit-visit.result.from c.next_visit-visit.result.to =
-    line-ends c.loop-to.invariant.0 c.next_visit-visit.result c.next_visit-visit.ensures (not-true _ c.if-not-visit.true) in
-    let b = visited in search rules
+offset_bounds-bans-words c = let b = (visited (goal.at.offset_bounds-bans-words c).Then-not-visit) in search rules
 
 pub slice_bounds-mine-count : goal.slice_bounds-mine-count
-slice_bounds-mine-count c =
-    let visited : Ends c.next_visit-visit.result.from c.next_visit-visit.result.to =
-    line-ends c.loop-to.invariant.0 c.next_visit-visit.result c.next_visit-visit.ensures (not-true _ c.if-not-visit.true) in
-    let b = visited in search rules
+slice_bounds-mine-count c = let b = (visited (goal.at.slice_bounds-mine-count c).Then-not-visit) in search rules
 
 pub slice_bounds-mine-start : goal.slice_bounds-mine-start
-slice_bounds-mine-start c =
-    let visited : Ends c.next_visit-visit.result.from c.next_visit-visit.result.to =
-    line-ends c.loop-to.invariant.0 c.next_visit-visit.result c.next_visit-visit.ensures (not-true _ c.if-not-visit.true) in
-    let b = visited in search rules
+slice_bounds-mine-start c = let b = (visited (goal.at.slice_bounds-mine-start c).Then-not-visit) in search rules
 
 pub slice_bounds-mine-end : goal.slice_bounds-mine-end
-slice_bounds-mine-end c =
-    let visited : Ends c.next_visit-visit.result.from c.next_visit-visit.result.to =
-    line-ends c.loop-to.invariant.0 c.next_visit-visit.result c.next_visit-visit.ensures (not-true _ c.if-not-visit.true) in
-    let alive : Live c.loop-to.o c.if-sweep.n c.if-sweep.o.domains c.if-sweep.o.bans c.loop-to.bars c.loop-to.ready =
-    here c.loop-to.invariant.0 c.next_visit-visit.result c.next_visit-visit.ensures (not-true _ c.if-not-visit.true) in
-    let b = visited in let w : length c.if-sweep.o.bans ≡ 66 = rw alive.table c.loop-to.invariant.0.sized.bans in search rules
+slice_bounds-mine-end c = let b = (visited (goal.at.slice_bounds-mine-end c).Then-not-visit) in let w : length c.if-sweep.o.bans ≡ 66 = rw (alive (goal.at.slice_bounds-mine-end c).Then-not-visit).table c.loop-to.invariant.0.sized.bans in search rules
 
 pub has-requires : goal.has-requires
-has-requires c =
-    let visited : Ends c.next_visit-visit.result.from c.next_visit-visit.result.to =
-    line-ends c.loop-to.invariant.0 c.next_visit-visit.result c.next_visit-visit.ensures (not-true _ c.if-not-visit.true) in
-    let b = visited in (b.to_low, omega (arith, b.to_high))
+has-requires c = let b = (visited (goal.at.has-requires c).Then-not-visit) in (b.to_low, omega (arith, b.to_high))
 
 pub of-b-requires : goal.of-b-requires
 unfolding assigned
 of-b-requires c =
-    let alive : Live c.loop-to.o c.if-sweep.n c.if-sweep.o.domains c.if-sweep.o.bans c.loop-to.bars c.loop-to.ready =
-    here c.loop-to.invariant.0 c.next_visit-visit.result c.next_visit-visit.ensures (not-true _ c.if-not-visit.true) in
-    let going : c.loop-to.o.verdict ≡ false =
-    no-verdict c.loop-to.invariant.0 c.next_visit-visit.result c.next_visit-visit.ensures (not-true _ c.if-not-visit.true) c.loop-to.invariant.1 in
-    let finding : Found c.loop-to.o c.next_visit-visit.result.from c.next_visit-visit.result.to c.place_at-then-not-visit.result =
-    finds c.loop-to.invariant.0 c.next_visit-visit.result c.next_visit-visit.ensures (not-true _ c.if-not-visit.true) going c.channel_at-then-not-visit.result c.digit-head-then-not-visit.result c.place_at-then-not-visit.result c.channel_at-then-not-visit.ensures.0 c.digit-head-then-not-visit.ensures.0 c.place_at-then-not-visit.ensures.0 in
-    let a = bars-ask finding no_agent _ _ c.words_before-words.result alive.owned alive.table c.words_before-words.ensures.0 in
+    let a = bars-ask (finding (goal.at.of-b-requires c).After-place_at-then-not-visit) no_agent _ _ c.words_before-words.result (alive (goal.at.of-b-requires c).Then-not-visit).owned (alive (goal.at.of-b-requires c).Then-not-visit).table c.words_before-words.ensures.0 in
     record {
       able = a.0;
       view_fits = a.1;
     }
 
 pub offset_bounds-bars-at : goal.offset_bounds-bars-at
-offset_bounds-bars-at c =
-    let visited : Ends c.next_visit-visit.result.from c.next_visit-visit.result.to =
-    line-ends c.loop-to.invariant.0 c.next_visit-visit.result c.next_visit-visit.ensures (not-true _ c.if-not-visit.true) in
-    let b = visited in search rules
+offset_bounds-bars-at c = let b = (visited (goal.at.offset_bounds-bars-at c).Then-not-visit) in search rules
 
 pub bounds-bars-at : goal.bounds-bars-at
-bounds-bars-at c =
-    let visited : Ends c.next_visit-visit.result.from c.next_visit-visit.result.to =
-    line-ends c.loop-to.invariant.0 c.next_visit-visit.result c.next_visit-visit.ensures (not-true _ c.if-not-visit.true) in
-    let alive : Live c.loop-to.o c.if-sweep.n c.if-sweep.o.domains c.if-sweep.o.bans c.loop-to.bars c.loop-to.ready =
-    here c.loop-to.invariant.0 c.next_visit-visit.result c.next_visit-visit.ensures (not-true _ c.if-not-visit.true) in
-    let b = visited in let z = alive.beside in search rules
+bounds-bars-at c = let b = (visited (goal.at.bounds-bars-at c).Then-not-visit) in let z = (alive (goal.at.bounds-bars-at c).Then-not-visit).beside in search rules
 
 pub add-ready-requires : goal.add-ready-requires
-add-ready-requires c =
-    let visited : Ends c.next_visit-visit.result.from c.next_visit-visit.result.to =
-    line-ends c.loop-to.invariant.0 c.next_visit-visit.result c.next_visit-visit.ensures (not-true _ c.if-not-visit.true) in
-    let b = visited in (b.to_low, omega (arith, b.to_high))
+add-ready-requires c = let b = (visited (goal.at.add-ready-requires c).Then-not-visit) in (b.to_low, omega (arith, b.to_high))
 
 pub offset_bounds-bars-at-then-not-visit : goal.offset_bounds-bars-at-then-not-visit
-offset_bounds-bars-at-then-not-visit c =
-    let visited : Ends c.next_visit-visit.result.from c.next_visit-visit.result.to =
-    line-ends c.loop-to.invariant.0 c.next_visit-visit.result c.next_visit-visit.ensures (not-true _ c.if-not-visit.true) in
-    let b = visited in search rules
+offset_bounds-bars-at-then-not-visit c = let b = (visited (goal.at.offset_bounds-bars-at-then-not-visit c).Then-not-visit) in search rules
 
 pub bounds-bars-at-then-not-visit : goal.bounds-bars-at-then-not-visit
-unfolding assigned
-bounds-bars-at-then-not-visit c =
-    let visited : Ends c.next_visit-visit.result.from c.next_visit-visit.result.to =
-    line-ends c.loop-to.invariant.0 c.next_visit-visit.result c.next_visit-visit.ensures (not-true _ c.if-not-visit.true) in
-    let alive : Live c.loop-to.o c.if-sweep.n c.if-sweep.o.domains c.if-sweep.o.bans c.loop-to.bars c.loop-to.ready =
-    here c.loop-to.invariant.0 c.next_visit-visit.result c.next_visit-visit.ensures (not-true _ c.if-not-visit.true) in
-    let readied : Readied c.if-sweep.o.bans c.next_visit-visit.result.to c.words_before-words.result (get_or c.loop-to.o.agents (c.next_visit-visit.result.to - 1) no_agent) c.loop-to.bars c.loop-to.ready c.if-not-has.bars c.if-not-has.ready =
-    elim c.if-not-has.branch [
-      | then-not-has a ↦ worked a.of-b.result a.add-ready.result a.of-b.ensures a.add-ready.ensures a.bars-is a.ready-is
-      | else-not-has a ↦ had (sym c.has.ensures ∙ a.if-not-has.false) a.bars-is a.ready-is
-    ] in
-    let bars-now : (length c.if-not-has.bars ≡ 12)
-    × Barred c.if-sweep.o.bans c.loop-to.o.agents c.if-not-has.bars c.if-not-has.ready
-    × BarsOf c.if-sweep.o.bans c.next_visit-visit.result.to c.words_before-words.result (get_or c.loop-to.o.agents (c.next_visit-visit.result.to - 1) no_agent) (get_or c.if-not-has.bars (c.next_visit-visit.result.to - 1) no_bars) =
-    bars-ready c.if-sweep.o.bans c.next_visit-visit.result.to c.words_before-words.result visited.to_low visited.to_high c.words_before-words.ensures.0 c.loop-to.o.agents c.loop-to.bars c.loop-to.ready alive.beside alive.barred c.if-not-has.bars c.if-not-has.ready readied in
-    let b = visited in let z = bars-now.0 in search rules
+bounds-bars-at-then-not-visit c = let b = (visited (goal.at.bounds-bars-at-then-not-visit c).Then-not-visit) in let z = (bars-now (goal.at.bounds-bars-at-then-not-visit c).Joined-not-has).0 in search rules
 
 pub receive-step-requires : goal.receive-step-requires
-unfolding assigned
 receive-step-requires c =
-    let visited : Ends c.next_visit-visit.result.from c.next_visit-visit.result.to =
-    line-ends c.loop-to.invariant.0 c.next_visit-visit.result c.next_visit-visit.ensures (not-true _ c.if-not-visit.true) in
-    let alive : Live c.loop-to.o c.if-sweep.n c.if-sweep.o.domains c.if-sweep.o.bans c.loop-to.bars c.loop-to.ready =
-    here c.loop-to.invariant.0 c.next_visit-visit.result c.next_visit-visit.ensures (not-true _ c.if-not-visit.true) in
-    let going : c.loop-to.o.verdict ≡ false =
-    no-verdict c.loop-to.invariant.0 c.next_visit-visit.result c.next_visit-visit.ensures (not-true _ c.if-not-visit.true) c.loop-to.invariant.1 in
-    let finding : Found c.loop-to.o c.next_visit-visit.result.from c.next_visit-visit.result.to c.place_at-then-not-visit.result =
-    finds c.loop-to.invariant.0 c.next_visit-visit.result c.next_visit-visit.ensures (not-true _ c.if-not-visit.true) going c.channel_at-then-not-visit.result c.digit-head-then-not-visit.result c.place_at-then-not-visit.result c.channel_at-then-not-visit.ensures.0 c.digit-head-then-not-visit.ensures.0 c.place_at-then-not-visit.ensures.0 in
-    let readied : Readied c.if-sweep.o.bans c.next_visit-visit.result.to c.words_before-words.result (get_or c.loop-to.o.agents (c.next_visit-visit.result.to - 1) no_agent) c.loop-to.bars c.loop-to.ready c.if-not-has.bars c.if-not-has.ready =
-    elim c.if-not-has.branch [
-      | then-not-has a ↦ worked a.of-b.result a.add-ready.result a.of-b.ensures a.add-ready.ensures a.bars-is a.ready-is
-      | else-not-has a ↦ had (sym c.has.ensures ∙ a.if-not-has.false) a.bars-is a.ready-is
-    ] in
-    let bars-now : (length c.if-not-has.bars ≡ 12)
-    × Barred c.if-sweep.o.bans c.loop-to.o.agents c.if-not-has.bars c.if-not-has.ready
-    × BarsOf c.if-sweep.o.bans c.next_visit-visit.result.to c.words_before-words.result (get_or c.loop-to.o.agents (c.next_visit-visit.result.to - 1) no_agent) (get_or c.if-not-has.bars (c.next_visit-visit.result.to - 1) no_bars) =
-    bars-ready c.if-sweep.o.bans c.next_visit-visit.result.to c.words_before-words.result visited.to_low visited.to_high c.words_before-words.ensures.0 c.loop-to.o.agents c.loop-to.bars c.loop-to.ready alive.beside alive.barred c.if-not-has.bars c.if-not-has.ready readied in
-    let a = step-asks finding no_agent _ _ c.words_before-words.result alive.owned alive.table c.words_before-words.ensures.0 in
+    let a = step-asks (finding (goal.at.receive-step-requires c).After-place_at-then-not-visit) no_agent _ _ c.words_before-words.result (alive (goal.at.receive-step-requires c).Then-not-visit).owned (alive (goal.at.receive-step-requires c).Then-not-visit).table c.words_before-words.ensures.0 in
     record {
       able = a.0;
       record_fits = a.1.0;
       message_fits = a.1.1;
-      barring = bars-now.2;
+      barring = (bars-now (goal.at.receive-step-requires c).Joined-not-has).2;
     }
 
 pub offset_bounds-o-at-then-not-visit : goal.offset_bounds-o-at-then-not-visit
-offset_bounds-o-at-then-not-visit c =
-    let visited : Ends c.next_visit-visit.result.from c.next_visit-visit.result.to =
-    line-ends c.loop-to.invariant.0 c.next_visit-visit.result c.next_visit-visit.ensures (not-true _ c.if-not-visit.true) in
-    let b = visited in search rules
+offset_bounds-o-at-then-not-visit c = let b = (visited (goal.at.offset_bounds-o-at-then-not-visit c).Then-not-visit) in search rules
 
 pub bounds-o-at-then-not-visit : goal.bounds-o-at-then-not-visit
-bounds-o-at-then-not-visit c =
-    let visited : Ends c.next_visit-visit.result.from c.next_visit-visit.result.to =
-    line-ends c.loop-to.invariant.0 c.next_visit-visit.result c.next_visit-visit.ensures (not-true _ c.if-not-visit.true) in
-    let b = visited in let z = c.loop-to.invariant.0.sized.counts in search rules
+bounds-o-at-then-not-visit c = let b = (visited (goal.at.bounds-o-at-then-not-visit c).Then-not-visit) in let z = c.loop-to.invariant.0.sized.counts in search rules
 
 pub loop-room-init : goal.loop-room-init
 loop-room-init c =
-    let alive : Live c.loop-to.o c.if-sweep.n c.if-sweep.o.domains c.if-sweep.o.bans c.loop-to.bars c.loop-to.ready =
-    here c.loop-to.invariant.0 c.next_visit-visit.result c.next_visit-visit.ensures (not-true _ c.if-not-visit.true) in
-    let going : c.loop-to.o.verdict ≡ false =
-    no-verdict c.loop-to.invariant.0 c.next_visit-visit.result c.next_visit-visit.ensures (not-true _ c.if-not-visit.true) c.loop-to.invariant.1 in
-    let finding : Found c.loop-to.o c.next_visit-visit.result.from c.next_visit-visit.result.to c.place_at-then-not-visit.result =
-    finds c.loop-to.invariant.0 c.next_visit-visit.result c.next_visit-visit.ensures (not-true _ c.if-not-visit.true) going c.channel_at-then-not-visit.result c.digit-head-then-not-visit.result c.place_at-then-not-visit.result c.channel_at-then-not-visit.ensures.0 c.digit-head-then-not-visit.ensures.0 c.place_at-then-not-visit.ensures.0 in
     let stepped : Stepped c.loop-to.o c.next_visit-visit.result.from c.next_visit-visit.result.to c.place_at-then-not-visit.result c.receive-step.result =
-    steps finding no_agent _ _ c.words_before-words.result alive.owned alive.table c.words_before-words.ensures.0 c.receive-step.result c.receive-step.ensures in
+    steps (finding (goal.at.loop-room-init c).After-place_at-then-not-visit) no_agent _ _ c.words_before-words.result (alive (goal.at.loop-room-init c).Then-not-visit).owned (alive (goal.at.loop-room-init c).Then-not-visit).table c.words_before-words.ensures.0 c.receive-step.result c.receive-step.ensures in
     storing-starts _ _ c.receive-step.result _ (storing stepped) c.receive-step.ensures.ready
 
 pub first-p-requires : goal.first-p-requires
@@ -393,16 +329,10 @@ pub channel_at-requires-then-waiting-lt8 : goal.channel_at-requires-then-waiting
 channel_at-requires-then-waiting-lt8 c = turn-line c.loop-room.invariant c.first-p.result c.first-p.ensures
 
 pub offset_bounds-o-at-then-waiting-lt8 : goal.offset_bounds-o-at-then-waiting-lt8
-offset_bounds-o-at-then-waiting-lt8 c =
-    let visited : Ends c.next_visit-visit.result.from c.next_visit-visit.result.to =
-    line-ends c.loop-to.invariant.0 c.next_visit-visit.result c.next_visit-visit.ensures (not-true _ c.if-not-visit.true) in
-    let b = visited in search rules
+offset_bounds-o-at-then-waiting-lt8 c = let b = (visited (goal.at.offset_bounds-o-at-then-waiting-lt8 c).Then-not-visit) in search rules
 
 pub bounds-o-at-then-waiting-lt8 : goal.bounds-o-at-then-waiting-lt8
-bounds-o-at-then-waiting-lt8 c =
-    let visited : Ends c.next_visit-visit.result.from c.next_visit-visit.result.to =
-    line-ends c.loop-to.invariant.0 c.next_visit-visit.result c.next_visit-visit.ensures (not-true _ c.if-not-visit.true) in
-    let b = visited in let z = c.loop-room.invariant.posting.sized.heads in search rules
+bounds-o-at-then-waiting-lt8 c = let b = (visited (goal.at.bounds-o-at-then-waiting-lt8 c).Then-not-visit) in let z = c.loop-room.invariant.posting.sized.heads in search rules
 
 pub digit-requires : goal.digit-requires
 digit-requires c = let b = turn-ends c.loop-room.invariant c.first-p.result c.first-p.ensures in (b.to_low, omega (arith, b.to_high))
@@ -445,125 +375,58 @@ pub loop-room-preserved : goal.loop-room-preserved
 loop-room-preserved c = turn-full c.loop-room.invariant c.first-p.result c.first-p.ensures _ c.digit-waiting.ensures.0 c.if-waiting-lt8.false
 
 pub offset_bounds-o-at-then-room : goal.offset_bounds-o-at-then-room
-offset_bounds-o-at-then-room c =
-    let visited : Ends c.next_visit-visit.result.from c.next_visit-visit.result.to =
-    line-ends c.loop-to.invariant.0 c.next_visit-visit.result c.next_visit-visit.ensures (not-true _ c.if-not-visit.true) in
-    let b = visited in search rules
+offset_bounds-o-at-then-room c = let b = (visited (goal.at.offset_bounds-o-at-then-room c).Then-not-visit) in search rules
 
 pub bounds-o-at-then-room : goal.bounds-o-at-then-room
-bounds-o-at-then-room c =
-    let visited : Ends c.next_visit-visit.result.from c.next_visit-visit.result.to =
-    line-ends c.loop-to.invariant.0 c.next_visit-visit.result c.next_visit-visit.ensures (not-true _ c.if-not-visit.true) in
-    let b = visited in let z = c.loop-room.invariant.posting.sized.counts in search rules
+bounds-o-at-then-room c = let b = (visited (goal.at.bounds-o-at-then-room c).Then-not-visit) in let z = c.loop-room.invariant.posting.sized.counts in search rules
 
 pub offset_bounds-o-row-then-room : goal.offset_bounds-o-row-then-room
-offset_bounds-o-row-then-room c =
-    let visited : Ends c.next_visit-visit.result.from c.next_visit-visit.result.to =
-    line-ends c.loop-to.invariant.0 c.next_visit-visit.result c.next_visit-visit.ensures (not-true _ c.if-not-visit.true) in
-    let b = visited in search rules
+offset_bounds-o-row-then-room c = let b = (visited (goal.at.offset_bounds-o-row-then-room c).Then-not-visit) in search rules
 
 pub bounds-o-row-then-room : goal.bounds-o-row-then-room
-bounds-o-row-then-room c =
-    let visited : Ends c.next_visit-visit.result.from c.next_visit-visit.result.to =
-    line-ends c.loop-to.invariant.0 c.next_visit-visit.result c.next_visit-visit.ensures (not-true _ c.if-not-visit.true) in
-    let b = visited in let z = c.loop-room.invariant.posting.sized.heads in search rules
+bounds-o-row-then-room c = let b = (visited (goal.at.bounds-o-row-then-room c).Then-not-visit) in let z = c.loop-room.invariant.posting.sized.heads in search rules
 
 pub digit-requires-then-room : goal.digit-requires-then-room
-digit-requires-then-room c =
-    let visited : Ends c.next_visit-visit.result.from c.next_visit-visit.result.to =
-    line-ends c.loop-to.invariant.0 c.next_visit-visit.result c.next_visit-visit.ensures (not-true _ c.if-not-visit.true) in
-    let b = visited in (b.to_low, omega (arith, b.to_high))
+digit-requires-then-room c = let b = (visited (goal.at.digit-requires-then-room c).Then-not-visit) in (b.to_low, omega (arith, b.to_high))
 
 pub overflow_add-digit : goal.overflow_add-digit
 overflow_add-digit c = let d = c.digit-then-room.ensures.1 in search rules
 
 pub with_digit-requires : goal.with_digit-requires
-with_digit-requires c =
-    let visited : Ends c.next_visit-visit.result.from c.next_visit-visit.result.to =
-    line-ends c.loop-to.invariant.0 c.next_visit-visit.result c.next_visit-visit.ensures (not-true _ c.if-not-visit.true) in
-    let b = visited in (b.to_low, omega (arith, b.to_high), omega arith)
+with_digit-requires c = let b = (visited (goal.at.with_digit-requires c).Then-not-visit) in (b.to_low, omega (arith, b.to_high), omega arith)
 
 pub offset_bounds-o-row-then-room-2 : goal.offset_bounds-o-row-then-room-2
-offset_bounds-o-row-then-room-2 c =
-    let visited : Ends c.next_visit-visit.result.from c.next_visit-visit.result.to =
-    line-ends c.loop-to.invariant.0 c.next_visit-visit.result c.next_visit-visit.ensures (not-true _ c.if-not-visit.true) in
-    let b = visited in search rules
+offset_bounds-o-row-then-room-2 c = let b = (visited (goal.at.offset_bounds-o-row-then-room-2 c).Then-not-visit) in search rules
 
 pub bounds-o-row-then-room-2 : goal.bounds-o-row-then-room-2
-bounds-o-row-then-room-2 c =
-    let visited : Ends c.next_visit-visit.result.from c.next_visit-visit.result.to =
-    line-ends c.loop-to.invariant.0 c.next_visit-visit.result c.next_visit-visit.ensures (not-true _ c.if-not-visit.true) in
-    let b = visited in let z = c.loop-room.invariant.posting.sized.heads in search rules
+bounds-o-row-then-room-2 c = let b = (visited (goal.at.bounds-o-row-then-room-2 c).Then-not-visit) in let z = c.loop-room.invariant.posting.sized.heads in search rules
 
 pub offset_bounds-o-row-then-room-3 : goal.offset_bounds-o-row-then-room-3
-offset_bounds-o-row-then-room-3 c =
-    let visited : Ends c.next_visit-visit.result.from c.next_visit-visit.result.to =
-    line-ends c.loop-to.invariant.0 c.next_visit-visit.result c.next_visit-visit.ensures (not-true _ c.if-not-visit.true) in
-    let b = visited in search rules
+offset_bounds-o-row-then-room-3 c = let b = (visited (goal.at.offset_bounds-o-row-then-room-3 c).Then-not-visit) in search rules
 
 pub bounds-o-row-then-room-3 : goal.bounds-o-row-then-room-3
-bounds-o-row-then-room-3 c =
-    let visited : Ends c.next_visit-visit.result.from c.next_visit-visit.result.to =
-    line-ends c.loop-to.invariant.0 c.next_visit-visit.result c.next_visit-visit.ensures (not-true _ c.if-not-visit.true) in
-    let b = visited in let z = c.loop-room.invariant.posting.sized.counts in search rules
+bounds-o-row-then-room-3 c = let b = (visited (goal.at.bounds-o-row-then-room-3 c).Then-not-visit) in let z = c.loop-room.invariant.posting.sized.counts in search rules
 
 pub one_less-requires : goal.one_less-requires
-one_less-requires c =
-    let visited : Ends c.next_visit-visit.result.from c.next_visit-visit.result.to =
-    line-ends c.loop-to.invariant.0 c.next_visit-visit.result c.next_visit-visit.ensures (not-true _ c.if-not-visit.true) in
-    let going : c.loop-to.o.verdict ≡ false =
-    no-verdict c.loop-to.invariant.0 c.next_visit-visit.result c.next_visit-visit.ensures (not-true _ c.if-not-visit.true) c.loop-to.invariant.1 in
-    let finding : Found c.loop-to.o c.next_visit-visit.result.from c.next_visit-visit.result.to c.place_at-then-not-visit.result =
-    finds c.loop-to.invariant.0 c.next_visit-visit.result c.next_visit-visit.ensures (not-true _ c.if-not-visit.true) going c.channel_at-then-not-visit.result c.digit-head-then-not-visit.result c.place_at-then-not-visit.result c.channel_at-then-not-visit.ensures.0 c.digit-head-then-not-visit.ensures.0 c.place_at-then-not-visit.ensures.0 in
-    let b = visited in (b.to_low, omega (arith, b.to_high), waits-still {all = posts_left c.receive-step.result.posts c.receive-step.result.backs} finding c.loop-room.invariant.posting)
+one_less-requires c = let b = (visited (goal.at.one_less-requires c).Then-not-visit) in (b.to_low, omega (arith, b.to_high), waits-still {all = posts_left c.receive-step.result.posts c.receive-step.result.backs} (finding (goal.at.one_less-requires c).After-place_at-then-not-visit) c.loop-room.invariant.posting)
 
 pub offset_bounds-o-row-then-room-4 : goal.offset_bounds-o-row-then-room-4
-offset_bounds-o-row-then-room-4 c =
-    let visited : Ends c.next_visit-visit.result.from c.next_visit-visit.result.to =
-    line-ends c.loop-to.invariant.0 c.next_visit-visit.result c.next_visit-visit.ensures (not-true _ c.if-not-visit.true) in
-    let b = visited in search rules
+offset_bounds-o-row-then-room-4 c = let b = (visited (goal.at.offset_bounds-o-row-then-room-4 c).Then-not-visit) in search rules
 
 pub bounds-o-row-then-room-4 : goal.bounds-o-row-then-room-4
-bounds-o-row-then-room-4 c =
-    let visited : Ends c.next_visit-visit.result.from c.next_visit-visit.result.to =
-    line-ends c.loop-to.invariant.0 c.next_visit-visit.result c.next_visit-visit.ensures (not-true _ c.if-not-visit.true) in
-    let b = visited in let z = c.loop-room.invariant.posting.sized.counts in search rules
+bounds-o-row-then-room-4 c = let b = (visited (goal.at.bounds-o-row-then-room-4 c).Then-not-visit) in let z = c.loop-room.invariant.posting.sized.counts in search rules
 
 pub offset_bounds-o-at-then-room-2 : goal.offset_bounds-o-at-then-room-2
-offset_bounds-o-at-then-room-2 c =
-    let visited : Ends c.next_visit-visit.result.from c.next_visit-visit.result.to =
-    line-ends c.loop-to.invariant.0 c.next_visit-visit.result c.next_visit-visit.ensures (not-true _ c.if-not-visit.true) in
-    let b = visited in search rules
+offset_bounds-o-at-then-room-2 c = let b = (visited (goal.at.offset_bounds-o-at-then-room-2 c).Then-not-visit) in search rules
 
 pub bounds-o-at-then-room-2 : goal.bounds-o-at-then-room-2
-bounds-o-at-then-room-2 c =
-    let visited : Ends c.next_visit-visit.result.from c.next_visit-visit.result.to =
-    line-ends c.loop-to.invariant.0 c.next_visit-visit.result c.next_visit-visit.ensures (not-true _ c.if-not-visit.true) in
-    let b = visited in let z = c.loop-room.invariant.posting.sized.agents in search rules
+bounds-o-at-then-room-2 c = let b = (visited (goal.at.bounds-o-at-then-room-2 c).Then-not-visit) in let z = c.loop-room.invariant.posting.sized.agents in search rules
 
 pub offset_bounds-bars-at-then-room : goal.offset_bounds-bars-at-then-room
-offset_bounds-bars-at-then-room c =
-    let visited : Ends c.next_visit-visit.result.from c.next_visit-visit.result.to =
-    line-ends c.loop-to.invariant.0 c.next_visit-visit.result c.next_visit-visit.ensures (not-true _ c.if-not-visit.true) in
-    let b = visited in search rules
+offset_bounds-bars-at-then-room c = let b = (visited (goal.at.offset_bounds-bars-at-then-room c).Then-not-visit) in search rules
 
 pub bounds-bars-at-then-room : goal.bounds-bars-at-then-room
-unfolding assigned
-bounds-bars-at-then-room c =
-    let visited : Ends c.next_visit-visit.result.from c.next_visit-visit.result.to =
-    line-ends c.loop-to.invariant.0 c.next_visit-visit.result c.next_visit-visit.ensures (not-true _ c.if-not-visit.true) in
-    let alive : Live c.loop-to.o c.if-sweep.n c.if-sweep.o.domains c.if-sweep.o.bans c.loop-to.bars c.loop-to.ready =
-    here c.loop-to.invariant.0 c.next_visit-visit.result c.next_visit-visit.ensures (not-true _ c.if-not-visit.true) in
-    let readied : Readied c.if-sweep.o.bans c.next_visit-visit.result.to c.words_before-words.result (get_or c.loop-to.o.agents (c.next_visit-visit.result.to - 1) no_agent) c.loop-to.bars c.loop-to.ready c.if-not-has.bars c.if-not-has.ready =
-    elim c.if-not-has.branch [
-      | then-not-has a ↦ worked a.of-b.result a.add-ready.result a.of-b.ensures a.add-ready.ensures a.bars-is a.ready-is
-      | else-not-has a ↦ had (sym c.has.ensures ∙ a.if-not-has.false) a.bars-is a.ready-is
-    ] in
-    let bars-now : (length c.if-not-has.bars ≡ 12)
-    × Barred c.if-sweep.o.bans c.loop-to.o.agents c.if-not-has.bars c.if-not-has.ready
-    × BarsOf c.if-sweep.o.bans c.next_visit-visit.result.to c.words_before-words.result (get_or c.loop-to.o.agents (c.next_visit-visit.result.to - 1) no_agent) (get_or c.if-not-has.bars (c.next_visit-visit.result.to - 1) no_bars) =
-    bars-ready c.if-sweep.o.bans c.next_visit-visit.result.to c.words_before-words.result visited.to_low visited.to_high c.words_before-words.ensures.0 c.loop-to.o.agents c.loop-to.bars c.loop-to.ready alive.beside alive.barred c.if-not-has.bars c.if-not-has.ready readied in
-    let b = visited in let z = bars-now.0 in search rules
+bounds-bars-at-then-room c = let b = (visited (goal.at.bounds-bars-at-then-room c).Then-not-visit) in let z = (bars-now (goal.at.bounds-bars-at-then-room c).Joined-not-has).0 in search rules
 
 pub next_visit-requires : goal.next_visit-requires
 next_visit-requires c = (c.next_visit-visit.ensures.high, c.loop-to.invariant.0.agents)
@@ -572,105 +435,27 @@ pub loop-to-smaller-then-step : goal.loop-to-smaller-then-step
 loop-to-smaller-then-step c = none-less _ _ _ c.next_visit-visit.ensures (not-true _ c.if-not-visit.true)
 
 pub loop-to-preserved-then-step : goal.loop-to-preserved-then-step
-unfolding assigned
-loop-to-preserved-then-step c =
-    let visited : Ends c.next_visit-visit.result.from c.next_visit-visit.result.to =
-    line-ends c.loop-to.invariant.0 c.next_visit-visit.result c.next_visit-visit.ensures (not-true _ c.if-not-visit.true) in
-    let alive : Live c.loop-to.o c.if-sweep.n c.if-sweep.o.domains c.if-sweep.o.bans c.loop-to.bars c.loop-to.ready =
-    here c.loop-to.invariant.0 c.next_visit-visit.result c.next_visit-visit.ensures (not-true _ c.if-not-visit.true) in
-    let going : c.loop-to.o.verdict ≡ false =
-    no-verdict c.loop-to.invariant.0 c.next_visit-visit.result c.next_visit-visit.ensures (not-true _ c.if-not-visit.true) c.loop-to.invariant.1 in
-    let finding : Found c.loop-to.o c.next_visit-visit.result.from c.next_visit-visit.result.to c.place_at-then-not-visit.result =
-    finds c.loop-to.invariant.0 c.next_visit-visit.result c.next_visit-visit.ensures (not-true _ c.if-not-visit.true) going c.channel_at-then-not-visit.result c.digit-head-then-not-visit.result c.place_at-then-not-visit.result c.channel_at-then-not-visit.ensures.0 c.digit-head-then-not-visit.ensures.0 c.place_at-then-not-visit.ensures.0 in
-    let readied : Readied c.if-sweep.o.bans c.next_visit-visit.result.to c.words_before-words.result (get_or c.loop-to.o.agents (c.next_visit-visit.result.to - 1) no_agent) c.loop-to.bars c.loop-to.ready c.if-not-has.bars c.if-not-has.ready =
-    elim c.if-not-has.branch [
-      | then-not-has a ↦ worked a.of-b.result a.add-ready.result a.of-b.ensures a.add-ready.ensures a.bars-is a.ready-is
-      | else-not-has a ↦ had (sym c.has.ensures ∙ a.if-not-has.false) a.bars-is a.ready-is
-    ] in
-    let bars-now : (length c.if-not-has.bars ≡ 12)
-    × Barred c.if-sweep.o.bans c.loop-to.o.agents c.if-not-has.bars c.if-not-has.ready
-    × BarsOf c.if-sweep.o.bans c.next_visit-visit.result.to c.words_before-words.result (get_or c.loop-to.o.agents (c.next_visit-visit.result.to - 1) no_agent) (get_or c.if-not-has.bars (c.next_visit-visit.result.to - 1) no_bars) =
-    bars-ready c.if-sweep.o.bans c.next_visit-visit.result.to c.words_before-words.result visited.to_low visited.to_high c.words_before-words.ensures.0 c.loop-to.o.agents c.loop-to.bars c.loop-to.ready alive.beside alive.barred c.if-not-has.bars c.if-not-has.ready readied in
-    let stepped : Stepped c.loop-to.o c.next_visit-visit.result.from c.next_visit-visit.result.to c.place_at-then-not-visit.result c.receive-step.result =
-    steps finding no_agent _ _ c.words_before-words.result alive.owned alive.table c.words_before-words.ensures.0 c.receive-step.result c.receive-step.ensures in
-    let gone : Here c.args.once (work_by c.args.once c.args.sender c.args.receiver c.args.allowed (network_of c.if-sweep.o)) c.if-sweep.o c.if-sweep.number (arrived (rowed c.loop-room.o c.next_visit-visit.result.to c.loop-room.now) c.next_visit-visit.result.from c.next_visit-visit.result.to c.with_digit.result c.one_less.result c.receive-step.result.agent c.receive-step.result.verdict) c.if-sweep.n c.if-sweep.o.domains c.if-sweep.o.bans (set c.if-not-has.bars (c.next_visit-visit.result.to - 1) c.receive-step.result.bars) c.if-not-has.ready c.loop-to.quota c.loop-to.missed c.loop-to.left c.loop-to.made 0 c.next_visit-visit.result.from c.next_visit-visit.result.rest =
-    let q = bars-now in
-    stored-goes c.loop-to.invariant.0 c.next_visit-visit.result c.next_visit-visit.ensures (not-true _ c.if-not-visit.true) going c.if-not-has.bars c.if-not-has.ready q.0 q.1 stepped c.loop-room.invariant (no-posts _ _ _ _ c.is_empty.ensures.1 c.loop-room-test.false c.if-room.true c.loop-room.invariant.ready)
-    (record { head = head-moved _ _ _ _ c.with_digit.ensures c.digit-then-room.ensures.0; count = c.one_less.ensures.0 }) _ c.words_before-words.ensures.0 c.receive-step.ensures.barring in
-    (passes-all gone c.next_visit.result c.next_visit.ensures c.if-step.true, λ _. ahead_none c.loop-to.quota c.if-sweep.n c.if-sweep.n 0 refl (omega arith))
+loop-to-preserved-then-step c = (passes-all (gone (goal.at.loop-to-preserved-then-step c).After-barred-1) c.next_visit.result c.next_visit.ensures c.if-step.true, λ _. ahead_none c.loop-to.quota c.if-sweep.n c.if-sweep.n 0 refl (omega arith))
 
 pub loop-to-smaller-else-step : goal.loop-to-smaller-else-step
 loop-to-smaller-else-step c = visit-less _ _ _ c.next_visit-visit.ensures (not-true _ c.if-not-visit.true)
 
 pub loop-to-preserved-else-step : goal.loop-to-preserved-else-step
-unfolding assigned
-loop-to-preserved-else-step c =
-    let visited : Ends c.next_visit-visit.result.from c.next_visit-visit.result.to =
-    line-ends c.loop-to.invariant.0 c.next_visit-visit.result c.next_visit-visit.ensures (not-true _ c.if-not-visit.true) in
-    let alive : Live c.loop-to.o c.if-sweep.n c.if-sweep.o.domains c.if-sweep.o.bans c.loop-to.bars c.loop-to.ready =
-    here c.loop-to.invariant.0 c.next_visit-visit.result c.next_visit-visit.ensures (not-true _ c.if-not-visit.true) in
-    let going : c.loop-to.o.verdict ≡ false =
-    no-verdict c.loop-to.invariant.0 c.next_visit-visit.result c.next_visit-visit.ensures (not-true _ c.if-not-visit.true) c.loop-to.invariant.1 in
-    let finding : Found c.loop-to.o c.next_visit-visit.result.from c.next_visit-visit.result.to c.place_at-then-not-visit.result =
-    finds c.loop-to.invariant.0 c.next_visit-visit.result c.next_visit-visit.ensures (not-true _ c.if-not-visit.true) going c.channel_at-then-not-visit.result c.digit-head-then-not-visit.result c.place_at-then-not-visit.result c.channel_at-then-not-visit.ensures.0 c.digit-head-then-not-visit.ensures.0 c.place_at-then-not-visit.ensures.0 in
-    let readied : Readied c.if-sweep.o.bans c.next_visit-visit.result.to c.words_before-words.result (get_or c.loop-to.o.agents (c.next_visit-visit.result.to - 1) no_agent) c.loop-to.bars c.loop-to.ready c.if-not-has.bars c.if-not-has.ready =
-    elim c.if-not-has.branch [
-      | then-not-has a ↦ worked a.of-b.result a.add-ready.result a.of-b.ensures a.add-ready.ensures a.bars-is a.ready-is
-      | else-not-has a ↦ had (sym c.has.ensures ∙ a.if-not-has.false) a.bars-is a.ready-is
-    ] in
-    let bars-now : (length c.if-not-has.bars ≡ 12)
-    × Barred c.if-sweep.o.bans c.loop-to.o.agents c.if-not-has.bars c.if-not-has.ready
-    × BarsOf c.if-sweep.o.bans c.next_visit-visit.result.to c.words_before-words.result (get_or c.loop-to.o.agents (c.next_visit-visit.result.to - 1) no_agent) (get_or c.if-not-has.bars (c.next_visit-visit.result.to - 1) no_bars) =
-    bars-ready c.if-sweep.o.bans c.next_visit-visit.result.to c.words_before-words.result visited.to_low visited.to_high c.words_before-words.ensures.0 c.loop-to.o.agents c.loop-to.bars c.loop-to.ready alive.beside alive.barred c.if-not-has.bars c.if-not-has.ready readied in
-    let stepped : Stepped c.loop-to.o c.next_visit-visit.result.from c.next_visit-visit.result.to c.place_at-then-not-visit.result c.receive-step.result =
-    steps finding no_agent _ _ c.words_before-words.result alive.owned alive.table c.words_before-words.ensures.0 c.receive-step.result c.receive-step.ensures in
-    let gone : Here c.args.once (work_by c.args.once c.args.sender c.args.receiver c.args.allowed (network_of c.if-sweep.o)) c.if-sweep.o c.if-sweep.number (arrived (rowed c.loop-room.o c.next_visit-visit.result.to c.loop-room.now) c.next_visit-visit.result.from c.next_visit-visit.result.to c.with_digit.result c.one_less.result c.receive-step.result.agent c.receive-step.result.verdict) c.if-sweep.n c.if-sweep.o.domains c.if-sweep.o.bans (set c.if-not-has.bars (c.next_visit-visit.result.to - 1) c.receive-step.result.bars) c.if-not-has.ready c.loop-to.quota c.loop-to.missed c.loop-to.left c.loop-to.made 0 c.next_visit-visit.result.from c.next_visit-visit.result.rest =
-    let q = bars-now in
-    stored-goes c.loop-to.invariant.0 c.next_visit-visit.result c.next_visit-visit.ensures (not-true _ c.if-not-visit.true) going c.if-not-has.bars c.if-not-has.ready q.0 q.1 stepped c.loop-room.invariant (no-posts _ _ _ _ c.is_empty.ensures.1 c.loop-room-test.false c.if-room.true c.loop-room.invariant.ready)
-    (record { head = head-moved _ _ _ _ c.with_digit.ensures c.digit-then-room.ensures.0; count = c.one_less.ensures.0 }) _ c.words_before-words.ensures.0 c.receive-step.ensures.barring in
-    (gone, λ t. absurd (false≢true (sym c.if-step.false ∙ t)))
+loop-to-preserved-else-step c = ((gone (goal.at.loop-to-preserved-else-step c).After-barred-1), λ t. absurd (false≢true (sym c.if-step.false ∙ t)))
 
 pub with_digit-rest-requires : goal.with_digit-rest-requires
-with_digit-rest-requires c =
-    let visited : Ends c.next_visit-visit.result.from c.next_visit-visit.result.to =
-    line-ends c.loop-to.invariant.0 c.next_visit-visit.result c.next_visit-visit.ensures (not-true _ c.if-not-visit.true) in
-    let b = visited in (b.to_low, omega (arith, b.to_high), omega arith)
+with_digit-rest-requires c = let b = (visited (goal.at.with_digit-rest-requires c).Then-not-visit) in (b.to_low, omega (arith, b.to_high), omega arith)
 
 pub loop-to-smaller-else-room : goal.loop-to-smaller-else-room
-loop-to-smaller-else-room c =
-    let visited : Ends c.next_visit-visit.result.from c.next_visit-visit.result.to =
-    line-ends c.loop-to.invariant.0 c.next_visit-visit.result c.next_visit-visit.ensures (not-true _ c.if-not-visit.true) in
-    let passed : assignment c.with_digit-rest.result ≡ at (assignment c.next_visit-visit.result.rest) c.next_visit-visit.result.to 0 =
-    search rules in
-    let b = visited in passed-less _ _ _ c.next_visit-visit.ensures (not-true _ c.if-not-visit.true) b.to_low (omega (arith, b.to_high)) _ passed
+loop-to-smaller-else-room c = let b = (visited (goal.at.loop-to-smaller-else-room c).Then-not-visit) in passed-less _ _ _ c.next_visit-visit.ensures (not-true _ c.if-not-visit.true) b.to_low (omega (arith, b.to_high)) _ (passed (goal.at.loop-to-smaller-else-room c).After-with_digit-rest)
 
 pub loop-to-preserved-else-room : goal.loop-to-preserved-else-room
-unfolding assigned
 loop-to-preserved-else-room c =
-    let visited : Ends c.next_visit-visit.result.from c.next_visit-visit.result.to =
-    line-ends c.loop-to.invariant.0 c.next_visit-visit.result c.next_visit-visit.ensures (not-true _ c.if-not-visit.true) in
-    let alive : Live c.loop-to.o c.if-sweep.n c.if-sweep.o.domains c.if-sweep.o.bans c.loop-to.bars c.loop-to.ready =
-    here c.loop-to.invariant.0 c.next_visit-visit.result c.next_visit-visit.ensures (not-true _ c.if-not-visit.true) in
-    let going : c.loop-to.o.verdict ≡ false =
-    no-verdict c.loop-to.invariant.0 c.next_visit-visit.result c.next_visit-visit.ensures (not-true _ c.if-not-visit.true) c.loop-to.invariant.1 in
-    let finding : Found c.loop-to.o c.next_visit-visit.result.from c.next_visit-visit.result.to c.place_at-then-not-visit.result =
-    finds c.loop-to.invariant.0 c.next_visit-visit.result c.next_visit-visit.ensures (not-true _ c.if-not-visit.true) going c.channel_at-then-not-visit.result c.digit-head-then-not-visit.result c.place_at-then-not-visit.result c.channel_at-then-not-visit.ensures.0 c.digit-head-then-not-visit.ensures.0 c.place_at-then-not-visit.ensures.0 in
-    let readied : Readied c.if-sweep.o.bans c.next_visit-visit.result.to c.words_before-words.result (get_or c.loop-to.o.agents (c.next_visit-visit.result.to - 1) no_agent) c.loop-to.bars c.loop-to.ready c.if-not-has.bars c.if-not-has.ready =
-    elim c.if-not-has.branch [
-      | then-not-has a ↦ worked a.of-b.result a.add-ready.result a.of-b.ensures a.add-ready.ensures a.bars-is a.ready-is
-      | else-not-has a ↦ had (sym c.has.ensures ∙ a.if-not-has.false) a.bars-is a.ready-is
-    ] in
-    let bars-now : (length c.if-not-has.bars ≡ 12)
-    × Barred c.if-sweep.o.bans c.loop-to.o.agents c.if-not-has.bars c.if-not-has.ready
-    × BarsOf c.if-sweep.o.bans c.next_visit-visit.result.to c.words_before-words.result (get_or c.loop-to.o.agents (c.next_visit-visit.result.to - 1) no_agent) (get_or c.if-not-has.bars (c.next_visit-visit.result.to - 1) no_bars) =
-    bars-ready c.if-sweep.o.bans c.next_visit-visit.result.to c.words_before-words.result visited.to_low visited.to_high c.words_before-words.ensures.0 c.loop-to.o.agents c.loop-to.bars c.loop-to.ready alive.beside alive.barred c.if-not-has.bars c.if-not-has.ready readied in
     let stepped : Stepped c.loop-to.o c.next_visit-visit.result.from c.next_visit-visit.result.to c.place_at-then-not-visit.result c.receive-step.result =
-    steps finding no_agent _ _ c.words_before-words.result alive.owned alive.table c.words_before-words.ensures.0 c.receive-step.result c.receive-step.ensures in
-    let passed : assignment c.with_digit-rest.result ≡ at (assignment c.next_visit-visit.result.rest) c.next_visit-visit.result.to 0 =
-    search rules in
-    let q = bars-now in (
-      stored-jams c.loop-to.invariant.0 c.next_visit-visit.result c.next_visit-visit.ensures (not-true _ c.if-not-visit.true) going c.if-not-has.bars c.if-not-has.ready q.0 q.1 stepped c.loop-room.invariant c.if-room.false passed,
-      λ t. absurd (false≢true (sym going ∙ sym c.loop-room.invariant.posting.kept.verdict ∙ t)),
+    steps (finding (goal.at.loop-to-preserved-else-room c).After-place_at-then-not-visit) no_agent _ _ c.words_before-words.result (alive (goal.at.loop-to-preserved-else-room c).Then-not-visit).owned (alive (goal.at.loop-to-preserved-else-room c).Then-not-visit).table c.words_before-words.ensures.0 c.receive-step.result c.receive-step.ensures in
+    let q = (bars-now (goal.at.loop-to-preserved-else-room c).Joined-not-has) in (
+      stored-jams c.loop-to.invariant.0 c.next_visit-visit.result c.next_visit-visit.ensures (not-true _ c.if-not-visit.true) (going (goal.at.loop-to-preserved-else-room c).Then-not-visit) c.if-not-has.bars c.if-not-has.ready q.0 q.1 stepped c.loop-room.invariant c.if-room.false (passed (goal.at.loop-to-preserved-else-room c).After-with_digit-rest),
+      λ t. absurd (false≢true (sym (going (goal.at.loop-to-preserved-else-room c).Then-not-visit) ∙ sym c.loop-room.invariant.posting.kept.verdict ∙ t)),
     )
 
 pub overflow_add-made : goal.overflow_add-made

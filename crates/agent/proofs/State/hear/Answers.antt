@@ -10,6 +10,21 @@ use Rattle.packed.proofs.Naming.{naming, naming-fewer}
 use Rattle.choosing.proofs.Named.{named-range}
 use Rattle.agent.proofs.Hearing.{hear-begins, hear-matched, near, hear-new, hear-ends, hear-fails, hear-within}
 use Rattle.agent.proofs.State.hear.Goals as goal
+use Rattle.agent.proofs.State.hear.Goals.{After-first_digit-k, After-with_digit-rest}
+
+-- the agent met is above
+met : (c : After-first_digit-k)
+    → (c.first_digit-k.result ≤ length c.args.bans.now) × (1 ≤ assignment c.loop-rest.rest c.first_digit-k.result)
+    × (assignment c.loop-rest.rest c.first_digit-k.result ≤ 8)
+met c =
+    near c.args.self _ c.args.bans.now (assignment c.loop-rest.rest) c.loop-rest.h c.loop-rest.invariant c.first_digit-k.result c.first_digit-k.ensures.1
+    c.args.own c.requires.able c.requires.view_fits c.first_digit-k.ensures.2 c.first_digit-k.ensures.3
+
+-- one agent fewer is left
+fewer : (c : After-with_digit-rest)
+    → naming c.with_digit-rest.result < naming c.loop-rest.rest
+fewer c =
+    naming-fewer c.loop-rest.rest c.with_digit-rest.result c.first_digit-k.result c.first_digit-k.ensures.2 c.first_digit-k.ensures.3 c.first_digit-k.ensures.1 c.with_digit-rest.ensures
 
 pub returns-then-within : goal.returns-then-within
 returns-then-within c =
@@ -41,10 +56,7 @@ returns-then-digit-u c =
     (rw e at c.first_digit-k.ensures.1) (sym c.has.ensures ∙ c.if-has.true) (λ q. c.if-digit-u.true (c.digit.ensures.0 ∙ q ∙ sym e ∙ sym c.digit-u.ensures.0)) _ _ _
 
 pub loop-rest-smaller-else-digit-u : goal.loop-rest-smaller-else-digit-u
-loop-rest-smaller-else-digit-u c =
-    let fewer : naming c.with_digit-rest.result < naming c.loop-rest.rest =
-    naming-fewer c.loop-rest.rest c.with_digit-rest.result c.first_digit-k.result c.first_digit-k.ensures.2 c.first_digit-k.ensures.3 c.first_digit-k.ensures.1 c.with_digit-rest.ensures in
-    fewer
+loop-rest-smaller-else-digit-u c = (fewer (goal.at.loop-rest-smaller-else-digit-u c).After-with_digit-rest)
 
 pub loop-rest-preserved-else-digit-u : goal.loop-rest-preserved-else-digit-u
 loop-rest-preserved-else-digit-u c =
@@ -66,29 +78,16 @@ pub offset_bounds-bans-k : goal.offset_bounds-bans-k
 offset_bounds-bans-k c = omega (arith, c.first_digit-k.ensures)
 
 pub bounds-bans-k : goal.bounds-bans-k
-bounds-bans-k c =
-    let met : (c.first_digit-k.result ≤ length c.args.bans.now) × (1 ≤ assignment c.loop-rest.rest c.first_digit-k.result)
-    × (assignment c.loop-rest.rest c.first_digit-k.result ≤ 8) =
-    near c.args.self _ c.args.bans.now (assignment c.loop-rest.rest) c.loop-rest.h c.loop-rest.invariant c.first_digit-k.result c.first_digit-k.ensures.1
-    c.args.own c.requires.able c.requires.view_fits c.first_digit-k.ensures.2 c.first_digit-k.ensures.3 in
-    omega (arith, met.0, c.first_digit-k.ensures.2)
+bounds-bans-k c = omega (arith, (met (goal.at.bounds-bans-k c).After-first_digit-k).0, c.first_digit-k.ensures.2)
 
 pub barred_at-requires : goal.barred_at-requires
-barred_at-requires c =
-    let met : (c.first_digit-k.result ≤ length c.args.bans.now) × (1 ≤ assignment c.loop-rest.rest c.first_digit-k.result)
-    × (assignment c.loop-rest.rest c.first_digit-k.result ≤ 8) =
-    near c.args.self _ c.args.bans.now (assignment c.loop-rest.rest) c.loop-rest.h c.loop-rest.invariant c.first_digit-k.result c.first_digit-k.ensures.1
-    c.args.own c.requires.able c.requires.view_fits c.first_digit-k.ensures.2 c.first_digit-k.ensures.3 in
-    let m = met in rw c.digit-u.ensures.0 (m.1, m.2)
+barred_at-requires c = let m = (met (goal.at.barred_at-requires c).After-first_digit-k) in rw c.digit-u.ensures.0 (m.1, m.2)
 
 pub with-now-requires : goal.with-now-requires
 with-now-requires c = (c.first_digit-k.ensures.2, c.first_digit-k.ensures.3)
 
 pub loop-rest-smaller : goal.loop-rest-smaller
-loop-rest-smaller c =
-    let fewer : naming c.with_digit-rest.result < naming c.loop-rest.rest =
-    naming-fewer c.loop-rest.rest c.with_digit-rest.result c.first_digit-k.result c.first_digit-k.ensures.2 c.first_digit-k.ensures.3 c.first_digit-k.ensures.1 c.with_digit-rest.ensures in
-    fewer
+loop-rest-smaller c = (fewer (goal.at.loop-rest-smaller c).After-with_digit-rest)
 
 pub loop-rest-preserved : goal.loop-rest-preserved
 loop-rest-preserved c =

@@ -1,6 +1,6 @@
 -- `on_info` is the rule of an Info.
 -- The view changes at the sender, and the nogoods that disagree are those that name it at another value.
-use Prim.Native.Nat.{ℕ, ◌≤◌, ◌<◌}
+use Prim.Native.Nat.{ℕ, ◌≤◌, ◌<◌, ◌^◌}
 use mathlib.Core.Path.{◌≡◌, sym, ◌∙◌}
 use mathlib.Core.Bool.{not, false≢true}
 use native.Mathlib.Omega.{arith}
@@ -12,56 +12,43 @@ use Rattle.packed.specs.Packed.{assignment}
 use Rattle.agent_rules.specs.Receiving.{on_info}
 use Rattle.choosing.specs.Barring.{self_of, bans_in}
 use Rattle.choosing.specs.Choosing.{nogoods_of}
-use Rattle.agent.specs.Parts.{agent_in, keeping, Takes}
+use Rattle.agent.specs.Parts.{agent_in, keeping, Handed, Takes}
+use Rattle.agent.specs.declared.State.{State}
+use Rattle.agent_rules.specs.Message.{Info as Info'}
+use Rattle.choosing.specs.declared.Own.{Own}
+use mathlib.Core.List.{List}
 use Rattle.agent.proofs.Fits.{fits-sound}
 use Rattle.agent.proofs.Views.{kept_same, kept_new, kept-other}
 use Rattle.agent.proofs.Infos.{sender, valued, takes-info}
 use Rattle.agent.proofs.State.on_info.Goals as goal
 use Rattle.agent.proofs.State.on_info.Goals.{else-old-v, then-old-v}
 
+-- the sender has a number
+in-range : (own : Own) (bans : List ℕ) (s : State) (nogoods : List ℕ) (from v : ℕ) → Handed own bans s nogoods from (Info' v) → s.listens < 2 ^ 16
+    → (1 ≤ from) × (from ≤ 16)
+in-range own bans s nogoods from v handed small =
+    let f = sender own bans s nogoods from v handed small in (f.0, omega (arith, f.1, handed.able.fits.last))
+
 pub digit-old-requires : goal.digit-old-requires
-digit-old-requires c =
-    let from-above : (1 ≤ c.args.from) × (c.args.from < c.args.own.number) × (1 ≤ c.args.v) × (c.args.v ≤ 8) =
-    sender c.args.own c.args.bans.now c.args.self c.args.nogoods.now c.args.from c.args.v c.requires (omega arith) in
-    let in-range : (1 ≤ c.args.from) × (c.args.from ≤ 16) =
-    let f = from-above in (f.0, omega (arith, f.1, c.requires.able.fits.last)) in
-    in-range
+digit-old-requires c = in-range _ _ _ _ _ _ c.requires (omega arith)
 
 pub sparing-requires : goal.sparing-requires
-sparing-requires c =
-    let from-above : (1 ≤ c.args.from) × (c.args.from < c.args.own.number) × (1 ≤ c.args.v) × (c.args.v ≤ 8) =
-    sender c.args.own c.args.bans.now c.args.self c.args.nogoods.now c.args.from c.args.v c.requires (omega arith) in
-    let in-range : (1 ≤ c.args.from) × (c.args.from ≤ 16) =
-    let f = from-above in (f.0, omega (arith, f.1, c.requires.able.fits.last)) in
-    in-range
+sparing-requires c = in-range _ _ _ _ _ _ c.requires (omega arith)
 
 pub with_digit-requires : goal.with_digit-requires
 with_digit-requires c =
-    let from-above : (1 ≤ c.args.from) × (c.args.from < c.args.own.number) × (1 ≤ c.args.v) × (c.args.v ≤ 8) =
-    sender c.args.own c.args.bans.now c.args.self c.args.nogoods.now c.args.from c.args.v c.requires (omega arith) in
-    let in-range : (1 ≤ c.args.from) × (c.args.from ≤ 16) =
-    let f = from-above in (f.0, omega (arith, f.1, c.requires.able.fits.last)) in
-    let f = from-above in let r = in-range in (r.0, r.1, omega (arith, f.3))
+    let f = sender _ _ _ _ _ _ c.requires (omega arith) in let r = in-range _ _ _ _ _ _ c.requires (omega arith) in (r.0, r.1, omega (arith, f.3))
 
 pub bounds-bans-from : goal.bounds-bans-from
 bounds-bans-from c =
-    let from-above : (1 ≤ c.args.from) × (c.args.from < c.args.own.number) × (1 ≤ c.args.v) × (c.args.v ≤ 8) =
-    sender c.args.own c.args.bans.now c.args.self c.args.nogoods.now c.args.from c.args.v c.requires (omega arith) in
-    let f = from-above in omega (arith, f.0, f.1, c.requires.able.bans)
+    let f = sender _ _ _ _ _ _ c.requires (omega arith) in omega (arith, f.0, f.1, c.requires.able.bans)
 
 pub barred_at-requires : goal.barred_at-requires
 barred_at-requires c =
-    let from-above : (1 ≤ c.args.from) × (c.args.from < c.args.own.number) × (1 ≤ c.args.v) × (c.args.v ≤ 8) =
-    sender c.args.own c.args.bans.now c.args.self c.args.nogoods.now c.args.from c.args.v c.requires (omega arith) in
-    let f = from-above in (f.2, f.3)
+    let f = sender _ _ _ _ _ _ c.requires (omega arith) in (f.2, f.3)
 
 pub with-now-requires : goal.with-now-requires
-with-now-requires c =
-    let from-above : (1 ≤ c.args.from) × (c.args.from < c.args.own.number) × (1 ≤ c.args.v) × (c.args.v ≤ 8) =
-    sender c.args.own c.args.bans.now c.args.self c.args.nogoods.now c.args.from c.args.v c.requires (omega arith) in
-    let in-range : (1 ≤ c.args.from) × (c.args.from ≤ 16) =
-    let f = from-above in (f.0, omega (arith, f.1, c.requires.able.fits.last)) in
-    in-range
+with-now-requires c = in-range _ _ _ _ _ _ c.requires (omega arith)
 
 pub bars-requires : goal.bars-requires
 bars-requires c =
@@ -70,10 +57,6 @@ bars-requires c =
 
 pub returns : goal.returns
 returns c =
-    let from-above : (1 ≤ c.args.from) × (c.args.from < c.args.own.number) × (1 ≤ c.args.v) × (c.args.v ≤ 8) =
-    sender c.args.own c.args.bans.now c.args.self c.args.nogoods.now c.args.from c.args.v c.requires (omega arith) in
-    let in-range : (1 ≤ c.args.from) × (c.args.from ≤ 16) =
-    let f = from-above in (f.0, omega (arith, f.1, c.requires.able.fits.last)) in
     let taken : (stored : ℕ)
     → nogoods_of stored c.args.nogoods.now
     ≡ (λ w. keeping c.args.from c.args.v (nogoods_of c.args.self.stored c.args.nogoods.now w))
@@ -105,7 +88,7 @@ returns c =
           let dropped : nogoods_of (bit_and c.args.self.stored u.sparing.result) c.args.nogoods.now
           ≡ (λ w. keeping c.args.from c.args.v (nogoods_of c.args.self.stored c.args.nogoods.now w)) =
           let self = c.args.self in
-          let r = in-range in
+          let r = in-range _ _ _ _ _ _ c.requires (omega arith) in
           let t = both (not (eqb c.digit-old.result 0)) (not (eqb c.digit-old.result c.args.v)) u.if-old-v.true in
           kept-other c.args.own (assignment self.view) self.stored _ c.args.from c.args.v
           (fits-sound c.args.own self c.args.nogoods.now c.requires.places c.requires.agent).coherent (omega arith) r.0 r.1
@@ -115,7 +98,7 @@ returns c =
           let kept : nogoods_of c.args.self.stored c.args.nogoods.now
           ≡ (λ w. keeping c.args.from c.args.v (nogoods_of c.args.self.stored c.args.nogoods.now w)) =
           let self = c.args.self in
-          let r = in-range in
+          let r = in-range _ _ _ _ _ _ c.requires (omega arith) in
           let coherent = (fits-sound c.args.own self c.args.nogoods.now c.requires.places c.requires.agent).coherent in
           eq_test c.digit-old.result 0
           (λ z.

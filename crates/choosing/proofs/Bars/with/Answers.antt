@@ -6,49 +6,40 @@ use native.Mathlib.Omega.{arith}
 use Rattle.packed.proofs.Fields.{Exchange, exchange, masked}
 use Rattle.choosing.proofs.Bytes.{changed-low, changed-high}
 use Rattle.choosing.proofs.Bars.with.Goals as goal
+use Rattle.choosing.proofs.Bars.with.Goals.{Else-k-le8, Then-k-le8}
+
+low : (c : Then-k-le8)
+    → Exchange 8 (8 * (c.args.k - 1)) c.args.self.low c.args.byte
+    (c.args.self.low / 2 ^ (8 * (c.args.k - 1)) % 256)
+low c =
+    exchange _ _ _ _ _ (omega arith) (omega arith) (omega arith) refl
+
+high : (c : Else-k-le8)
+    → Exchange 8 (8 * (c.args.k - 9)) c.args.self.high c.args.byte
+    (c.args.self.high / 2 ^ (8 * (c.args.k - 9)) % 256)
+high c =
+    exchange _ _ _ _ _ (omega arith) (omega arith) (omega arith) refl
 
 pub overflow_sub-b : goal.overflow_sub-b
-overflow_sub-b c =
-    let low : Exchange 8 (8 * (c.args.k - 1)) c.args.self.low c.args.byte
-    (c.args.self.low / 2 ^ (8 * (c.args.k - 1)) % 256) =
-    exchange _ _ _ _ _ (omega arith) (omega arith) (omega arith) refl in
-    rw (masked 8 (8 * (c.args.k - 1)) c.args.self.low (omega arith)) low.taken
+overflow_sub-b c = rw (masked 8 (8 * (c.args.k - 1)) c.args.self.low (omega arith)) (low (goal.at.overflow_sub-b c).Then-k-le8).taken
 
 pub overflow_add-b : goal.overflow_add-b
-overflow_add-b c =
-    let low : Exchange 8 (8 * (c.args.k - 1)) c.args.self.low c.args.byte
-    (c.args.self.low / 2 ^ (8 * (c.args.k - 1)) % 256) =
-    exchange _ _ _ _ _ (omega arith) (omega arith) (omega arith) refl in
-    record { fits = rw (masked 8 (8 * (c.args.k - 1)) c.args.self.low (omega arith)) low.holds }
+overflow_add-b c = record { fits = rw (masked 8 (8 * (c.args.k - 1)) c.args.self.low (omega arith)) (low (goal.at.overflow_add-b c).Then-k-le8).holds }
 
 pub overflow_sub-b-else-k-le8 : goal.overflow_sub-b-else-k-le8
-overflow_sub-b-else-k-le8 c =
-    let high : Exchange 8 (8 * (c.args.k - 9)) c.args.self.high c.args.byte
-    (c.args.self.high / 2 ^ (8 * (c.args.k - 9)) % 256) =
-    exchange _ _ _ _ _ (omega arith) (omega arith) (omega arith) refl in
-    rw (masked 8 (8 * (c.args.k - 9)) c.args.self.high (omega arith)) high.taken
+overflow_sub-b-else-k-le8 c = rw (masked 8 (8 * (c.args.k - 9)) c.args.self.high (omega arith)) (high (goal.at.overflow_sub-b-else-k-le8 c).Else-k-le8).taken
 
 pub overflow_add-b-else-k-le8 : goal.overflow_add-b-else-k-le8
-overflow_add-b-else-k-le8 c =
-    let high : Exchange 8 (8 * (c.args.k - 9)) c.args.self.high c.args.byte
-    (c.args.self.high / 2 ^ (8 * (c.args.k - 9)) % 256) =
-    exchange _ _ _ _ _ (omega arith) (omega arith) (omega arith) refl in
-    record { fits = rw (masked 8 (8 * (c.args.k - 9)) c.args.self.high (omega arith)) high.holds }
+overflow_add-b-else-k-le8 c = record { fits = rw (masked 8 (8 * (c.args.k - 9)) c.args.self.high (omega arith)) (high (goal.at.overflow_add-b-else-k-le8 c).Else-k-le8).holds }
 
 pub returns-then-k-le8 : goal.returns-then-k-le8
 returns-then-k-le8 c =
-    let low : Exchange 8 (8 * (c.args.k - 1)) c.args.self.low c.args.byte
-    (c.args.self.low / 2 ^ (8 * (c.args.k - 1)) % 256) =
-    exchange _ _ _ _ _ (omega arith) (omega arith) (omega arith) refl in
     λ j l h.
-    rw (masked 8 (8 * (c.args.k - 1)) c.args.self.low (omega arith), low.is)
+    rw (masked 8 (8 * (c.args.k - 1)) c.args.self.low (omega arith), (low (goal.at.returns-then-k-le8 c).Then-k-le8).is)
     (changed-low c.args.self c.args.k c.args.byte (omega arith) (omega arith) (omega arith) j l)
 
 pub returns-else-k-le8 : goal.returns-else-k-le8
 returns-else-k-le8 c =
-    let high : Exchange 8 (8 * (c.args.k - 9)) c.args.self.high c.args.byte
-    (c.args.self.high / 2 ^ (8 * (c.args.k - 9)) % 256) =
-    exchange _ _ _ _ _ (omega arith) (omega arith) (omega arith) refl in
     λ j l h.
-    rw (masked 8 (8 * (c.args.k - 9)) c.args.self.high (omega arith), high.is)
+    rw (masked 8 (8 * (c.args.k - 9)) c.args.self.high (omega arith), (high (goal.at.returns-else-k-le8 c).Else-k-le8).is)
     (changed-high c.args.self c.args.k c.args.byte (omega arith) (omega arith) j l)

@@ -4,7 +4,7 @@ use mathlib.Core.Path.{◌≡◌, sym, ap, ◌∙◌}
 use mathlib.Core.Bool.{Bool, true, false, not, cond, false≢true}
 use mathlib.Core.List.{List}
 use native.Mathlib.Omega.{arith}
-use lib.Dec.{eqb, ltb}
+use lib.Dec.{eqb}
 use borrow.Author.Tests.{eqb-true, eq-eqb, not-true}
 use Rattle.base.proofs.Tests.{both, eq_test}
 use Rattle.packed.specs.Packed.{assignment}
@@ -44,7 +44,7 @@ pub has-requires : goal.has-requires
 has-requires c = let b = ends _ _ (c.loop-s.invariant.0.1 _ (known-true _ c.first_digit-to.ensures.1)) in (b.from_low, omega (arith, b.from-high))
 
 pub loop-s-smaller-then-s-ne0 : goal.loop-s-smaller-then-s-ne0
-loop-s-smaller-then-s-ne0 c = omega (arith, naming-fewer c.loop-s.s.rest c.with_digit.result c.first_digit-to.result c.first_digit-to.ensures.2 c.first_digit-to.ensures.3 c.first_digit-to.ensures.1 c.with_digit.ensures, mark-few (ltb 8 c.digit-held.result))
+loop-s-smaller-then-s-ne0 c = omega (arith, naming-fewer c.loop-s.s.rest c.with_digit.result c.first_digit-to.result c.first_digit-to.ensures.2 c.first_digit-to.ensures.3 c.first_digit-to.ensures.1 c.with_digit.ensures, mark-few)
 
 pub loop-s-preserved-then-s-ne0 : goal.loop-s-preserved-then-s-ne0
 loop-s-preserved-then-s-ne0 c =
