@@ -1,6 +1,6 @@
 -- What `dock` prints of a sheet, as bytes in ASCII: "`sheet refused` and the number. Otherwise it prints `verdict` and the word, `rounds` and the
 -- count, and for `plan` a line for each scanner".
-use Rattle.std.specs.Prelude.{ℕ, suc, ◌+◌, ◌≡◌, true, false, List, [], ◌∷◌, ◌++◌, eqb, length, take}
+use Rattle.std.specs.Prelude.{ℕ, suc, ◌≡◌, true, false, List, [], ◌∷◌, ◌++◌, eqb, length, take}
 use Rattle.base.specs.Finite.{gather}
 use Rattle.problem.specs.Sheet.{longest_sheet}
 use Rattle.protocol.specs.Network.{Network, start_sheet}

@@ -1,6 +1,6 @@
 -- Gaps as places: the place of a pair of slots tells its gap, and the bytes of two places tell which gaps lie between.
 -- The bytes are 15, tested by computation.
-use Prim.Native.Nat.{ℕ, suc, pred, ◌-◌, ◌≤◌, ◌<◌}
+use Prim.Native.Nat.{ℕ, suc, pred, ◌≤◌, ◌<◌}
 use mathlib.Core.Path.{◌≡◌, refl, sym, ◌∙◌}
 use mathlib.Core.Bool.{Bool, true, ◌&&◌}
 use native.Mathlib.Omega.{arith}
