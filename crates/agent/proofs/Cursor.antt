@@ -2,8 +2,9 @@
 -- The first agent of a set is its lowest; a Back is what its whole nogood stands for.
 use Prim.Native.Nat.{ℕ, zero, suc, ◌+◌, ◌≤◌, ◌<◌}
 use mathlib.Core.Bool.{Bool, true, false, ◌&&◌, false≢true}
-use mathlib.Core.Option.{some}
-use mathlib.Core.Path.{◌≡◌, sym, ap, ap₂, ◌∙◌}
+use mathlib.Core.Option.{Option, some}
+use Rattle.std.specs.Prelude.{Option as Option', Some, None, IsSome}
+use mathlib.Core.Path.{◌≡◌, refl, sym, ap, ap₂, ◌∙◌}
 use mathlib.Core.Logic.{◌≢◌}
 use mathlib.Core.List.{List, [], ◌∷◌, ◌++◌, map}
 use native.Mathlib.Omega.{arith}
@@ -20,7 +21,8 @@ use Rattle.problem.specs.Problem.{max_agents}
 use Rattle.agent_rules.specs.Message.{Assignment, known, Message as Message', Info as Info', Back as Back', AddLink as AddLink', Post as Post'}
 use Rattle.agent_rules.specs.Choosing.{refusing}
 use Rattle.agent_rules.specs.Shape.{max_named, EachIn}
-use Rattle.packed.specs.Packed.{assignment, members, number_of}
+use Rattle.packed.specs.Packed.{assignment, members, option_of, number_of}
+use Rattle.choosing.proofs.Named.{highest-named}
 use Rattle.agent.specs.Abstract.{unpacked, message_of, post_of}
 use Rattle.agent.specs.Posting.{post_if, posts_to, links_to, news_to, back_of, backs_from, posts_left, none_left, tail_of, Sendable, Ready}
 use Rattle.agent.specs.declared.Carried.{Carried}
@@ -89,11 +91,19 @@ unfolding backs_from
 backs-over i count backs e l =
     ap (λ (k : ℕ). map back_of (drop k (take count backs))) (e ∙ sym (length-take-le count backs l)) ∙ ap (map back_of) (drop-length (take count backs))
 
-pub back_read : (x k v y : ℕ) (p : Carried) → k ≡ number_of (highest max_named (λ k. known (assignment x k))) → v ≡ assignment x k
+-- somebody gets it
+pub back-named : (x : ℕ) (k : Option' ℕ) → Sendable x → option_of k ≡ highest max_named (λ k. known (assignment x k)) → IsSome k
+unfolding number_of
+back-named x None s e =
+    let none_named : number_of (highest max_named (λ k. known (assignment x k))) ≡ 0 = rw (← e) in
+    absurd (omega (arith, (highest-named x s.some (omega (arith, s.short))).0, none_named))
+back-named x (Some k) s e = refl
+
+pub back_read : (x k v y : ℕ) (p : Carried) → some k ≡ highest max_named (λ k. known (assignment x k)) → v ≡ assignment x k
     → unpacked p ≡ y → assignment y ≡ at (assignment x) k 0 → post_of record { to = k; message = Back v p } ≡ back_of x
-unfolding post_of message_of back_of refusing
+unfolding post_of message_of back_of refusing number_of
 back_read x k v y p top value packed rest =
-    ap₂ (λ (l : Assignment) (u : ℕ). post k (Back' l u)) (ap assignment packed ∙ rest) value ∙ ap (λ (j : ℕ). refusing j (assignment x)) top
+    ap₂ (λ (l : Assignment) (u : ℕ). post k (Back' l u)) (ap assignment packed ∙ rest) value ∙ ap (λ (o : Option ℕ). refusing (number_of o) (assignment x)) top
 
 -- ---- the posts left
 
@@ -108,13 +118,13 @@ unfolding tail_of
 after_is l p ps e = rw e
 
 abbrev with_links : Posts → ℕ → Posts
-with_links p set = record { links = set; told = p.told; value = p.value; next = p.next; count = p.count }
+with_links p set = record p { links = set }
 
 abbrev with_next : Posts → ℕ → Posts
-with_next p next = record { links = p.links; told = p.told; value = p.value; next = next; count = p.count }
+with_next p next = record p { next = next }
 
 abbrev with_told : Posts → ℕ → Posts
-with_told p set = record { links = p.links; told = set; value = p.value; next = p.next; count = p.count }
+with_told p set = record p { told = set }
 
 module _ (p : Posts) (backs : List ℕ) (r : Ready p backs) where
   long : p.count ≤ length backs

@@ -1,8 +1,9 @@
 -- A walk along a left side: what it has found so far, where it is left early, and what it comes to.
 -- Whoever was passed matches, and is in the set and in the view where it was not listened to; the rest is as it was.
 use Prim.Native.Nat.{ℕ, pred, ◌-◌, ◌≤◌}
+use Rattle.std.specs.Prelude.{Some, None}
 use mathlib.Core.Path.{◌≡◌, refl, sym, ap, ◌∙◌}
-use mathlib.Core.Bool.{Bool, true, false, not, ◌&&◌, ◌||◌, cond, false≢true, and-false}
+use mathlib.Core.Bool.{Bool, true, false, not, ◌&&◌, ◌||◌, cond, and-false}
 use mathlib.Core.List.{List}
 use native.Mathlib.Omega.{arith}
 use lib.Dec.{eqb}
@@ -36,7 +37,6 @@ module _ (s : State) (lhs : Assignment) where
   pub record Hearing (words : List ℕ) (rest : Assignment) (h : Heard) : Type 0 where
     pub left : (k : ℕ) → known (rest k) ≡ true → rest k ≡ lhs k
     pub passed : (k : ℕ) → known (rest k) ≡ false → matches (listener s) lhs k ≡ true
-    pub holds : h.holds ≡ true
     pub links : (k : ℕ) → members h.links k ≡ newly rest k
     pub view : (k : ℕ) → assignment h.view k ≡ cond (newly rest k) (lhs k) (assignment s.view k)
     pub barring : Barring (bans_in words) (assignment h.view) h.bars
@@ -44,13 +44,12 @@ module _ (s : State) (lhs : Assignment) where
   -- ---- it begins
 
   pub hear-begins : (words : List ℕ) → Barring (bans_in words) (assignment s.view) s.bars
-      → Hearing words lhs record { holds = true; links = 0; view = s.view; bars = s.bars }
+      → Hearing words lhs record { links = 0; view = s.view; bars = s.bars }
   unfolding matches newly unheard
   hear-begins words barring =
       record {
         left = λ k e. refl;
         passed = λ k e. rw e;
-        holds = refl;
         links = λ k. no-members k ∙ test (known (lhs k)) (λ t. rw t) (λ t. rw t);
         view = λ k. test (known (lhs k)) (λ t. rw t) (λ t. rw t);
         barring = barring;
@@ -98,7 +97,6 @@ module _ (s : State) (lhs : Assignment) where
         record {
           left = left-then;
           passed = passed_then (rw (named, l) (eq-eqb (lhs k) (assignment s.view k) (sym (w.left k here) ∙ sym e)));
-          holds = w.holds;
           links = λ j. w.links j ∙ sym (same j);
           view = λ j. w.view j ∙ ap (λ (b : Bool). cond b (lhs j) (assignment s.view j)) (sym (same j));
           barring = w.barring;
@@ -116,14 +114,13 @@ module _ (s : State) (lhs : Assignment) where
       pub hear-new : (links view : ℕ) (b : Bars) → members s.listens k ≡ false → members links ≡ at (members h.links) k true
           → assignment view ≡ at (assignment h.view) k (rest k)
           → ((j : ℕ) → 1 ≤ j → j ≤ 16 → byte_of b j ≡ at (byte_of h.bars) k (barred_at (get_or words (k - 1) 0) (rest k)) j)
-          → Hearing words (at rest k 0) record { holds = h.holds; links = links; view = view; bars = b }
+          → Hearing words (at rest k 0) record { links = links; view = view; bars = b }
       unfolding matches unheard agent_of max_domain
       hear-new links view b fresh more wider changed =
           let is-new : unheard (listener s) lhs k ≡ true = rw (named, fresh) in
           record {
             left = left-then;
             passed = passed_then (rw (named, fresh));
-            holds = w.holds;
             links = λ j.
                 eq_test j k
                 (λ q. rw (q, more, at_same (members h.links) k true) (sym (here-then ∙ is-new)))
@@ -140,47 +137,38 @@ module _ (s : State) (lhs : Assignment) where
 
   -- ---- it ends
 
-  pub hear-ends : (own : Own) (words : List ℕ) (h : Heard) → Hearing words nobody h → Hears own (bans_in words) s lhs h
+  pub hear-ends : (own : Own) (words : List ℕ) (h : Heard) → Hearing words nobody h → Hears own (bans_in words) s lhs (Some h)
   unfolding nobody known newly
-  hear-ends own words h w =
-      record {
-        holds = w.holds ∙ sym (to-all_to (above (self_of own)) (matches (listener s) lhs) (λ k lo hi. w.passed k refl));
-        links = λ e. w.links;
-        view = λ e. w.view;
-        barring = λ e. w.barring;
-      }
+  hear-ends own words h w = (
+    to-all_to (above (self_of own)) (matches (listener s) lhs) (λ k lo hi. w.passed k refl),
+    record { links = w.links; view = w.view; barring = w.barring },
+  )
 
   pub hear-fails : (own : Own) (bans : Bans) (k : ℕ) → ViewFits own lhs → 1 ≤ k → k ≤ 16 → known (lhs k) ≡ true → members s.listens k ≡ true
-      → (assignment s.view k ≡ lhs k → ⊥) → (links view : ℕ) (b : Bars)
-      → Hears own bans s lhs record { holds = false; links = links; view = view; bars = b }
+      → (assignment s.view k ≡ lhs k → ⊥) → Hears own bans s lhs None
   unfolding matches above self_of agent_of assigned max_named
-  hear-fails own bans k fits lo hi e l n links view b =
+  hear-fails own bans k fits lo hi e l n =
       let near : k ≤ pred own.number = omega (arith, (fits k lo hi e).0) in
-      record {
-        holds =
-            test (all_to (pred own.number) (matches (listener s) lhs))
-            (λ t.
-            absurd (n (sym (eqb-true (lhs k) (assignment s.view k)
-            (rw (e, l) at (all_to-at (pred own.number) (matches (listener s) lhs) t k lo near))))))
-            (λ t. sym t);
-        links = λ f. absurd (false≢true f);
-        view = λ f. absurd (false≢true f);
-        barring = λ f. absurd (false≢true f);
-      }
+      test (all_to (pred own.number) (matches (listener s) lhs))
+      (λ t.
+      absurd (n (sym (eqb-true (lhs k) (assignment s.view k)
+      (rw (e, l) at (all_to-at (pred own.number) (matches (listener s) lhs) t k lo near))))))
+      (λ t. t)
 
   -- the view has all of it
   pub hear-within : (own : Own) (words : List ℕ) → Barring (bans_in words) (assignment s.view) s.bars → Listening s
       → ((k : ℕ) → known (lhs k) ≡ true → (1 ≤ k) × (k ≤ 16))
       → all_to max_named (λ k. not (known (lhs k)) || eqb (lhs k) (assignment s.view k)) ≡ true
-      → Hears own (bans_in words) s lhs record { holds = true; links = 0; view = s.view; bars = s.bars }
+      → Hears own (bans_in words) s lhs (Some record { links = 0; view = s.view; bars = s.bars })
   unfolding matches unheard agent_of assigned max_named
-  hear-within own words barring listening range all =
-      record {
-        holds = sym (to-all_to (above (self_of own)) (matches (listener s) lhs) (λ k lo hi. test (known (lhs k)) (λ t. in-view k t) (λ t. rw t)));
-        links = λ e k. no-members k ∙ sym (none-new k);
-        view = λ e k. rw (none-new k);
-        barring = λ e. barring;
-      }
+  hear-within own words barring listening range all = (
+    to-all_to (above (self_of own)) (matches (listener s) lhs) (λ k lo hi. test (known (lhs k)) (λ t. in-view k t) (λ t. rw t)),
+    record {
+      links = λ k. no-members k ∙ sym (none-new k);
+      view = λ k. rw (none-new k);
+      barring = barring;
+    },
+  )
     where
       same : (k : ℕ) → known (lhs k) ≡ true → eqb (lhs k) (assignment s.view k) ≡ true
       same k t =

@@ -1,6 +1,7 @@
 -- On an Info the code drops exactly the nogoods that disagree with the changed view, and chooses where the rule does.
 -- The nogoods agreed with the view before, so they can disagree only at the sender.
 use Prim.Native.Nat.{ℕ, zero, suc, pred, ◌-◌, ◌^◌, ◌<◌, ◌≤◌}
+use Rattle.std.specs.Prelude.{None}
 use mathlib.Core.Path.{◌≡◌, refl, sym, ap, ap₂, ◌∙◌, fun_ext}
 use mathlib.Core.Logic.{◌≢◌}
 use mathlib.Core.Bool.{Bool, true, false, not, ◌||◌, false≢true}
@@ -17,7 +18,7 @@ use Rattle.base.proofs.Search.{at_same, at_other, all_to-at, to-all_to}
 use Rattle.problem.specs.Problem.{max_domain}
 use Rattle.agent_rules.specs.Message.{Assignment, known, Info as Info'}
 use Rattle.agent_rules.specs.Agent.{Self, Nogoods, above, agrees}
-use Rattle.agent_rules.specs.Choosing.{no_refuser, after}
+use Rattle.agent_rules.specs.Choosing.{after}
 use Rattle.agent_rules.specs.Receiving.{agreeing, updated, conflicts, on_info}
 use Rattle.agent_rules.specs.Shape.{max_named, any_value}
 use Rattle.packed.specs.Packed.{assignment, members}
@@ -26,10 +27,11 @@ use Rattle.choosing.specs.Choosing.{nogoods_of, Agreed, Coherent}
 use Rattle.choosing.specs.declared.Bars.{Bars}
 use Rattle.choosing.specs.declared.Own.{Own}
 use Rattle.agent.specs.Abstract.{assigned, none_counted, counts_of, agent_of}
-use Rattle.agent.specs.Parts.{agent_in, Sound, keeping, Handed, taken_as, Takes}
+use Rattle.agent.specs.Parts.{agent_in, Sound, keeping, Handed, done_as, Addresses, Takes}
 use Rattle.agent.specs.declared.State.{State}
+use Rattle.agent.specs.declared.Todo.{Todo}
+use Rattle.agent.specs.declared.Todo.TheVariants.{Choose, Tell}
 use Rattle.choosing.proofs.Barrings.{first-barring, seen as seen_bytes, barred-at-bits}
-use Rattle.agent.proofs.Telling.{no-refuser}
 use Rattle.agent.proofs.ToSet.{none_in, links-none, news-none}
 use Rattle.agent.proofs.Fits.{member-range, fits-sound}
 use Rattle.choosing.proofs.Records.{nogoods-beyond}
@@ -103,7 +105,7 @@ module _ (own : Own) (words : List ℕ) (s : State) (nogoods : List ℕ) (from v
       (seen-now : assignment view ≡ at (assignment s.view) from v)
       (changed : (j : ℕ) → 1 ≤ j → j ≤ 16 → byte_of b j ≡ at (byte_of s.bars) from (barred_at (get_or words (from - 1) 0) v) j) where
     abbrev now : State
-    now = record { value = s.value; last = s.last; stored = stored; listens = s.listens; informs = s.informs; view = view; bars = b }
+    now = record s { stored = stored; view = view; bars = b }
 
     coherent : Coherent own (at (assignment s.view) from v) (nogoods_of stored nogoods)
     unfolding max_domain
@@ -136,26 +138,31 @@ module _ (own : Own) (words : List ℕ) (s : State) (nogoods : List ℕ) (from v
         ∙ fun_ext λ w. sym (kept-all (self_of own) (assignment s.view) few from v sender.0 near own s.stored nogoods sound.coherent mask w))
 
     -- the own value is barred, or not
-    taken : (chooses : Bool) → chooses ≡ conflicts (self_of own) (bans_in words) (at (agent_in s nogoods).view from v) (agent_in s nogoods).value
-        → taken_as (self_of own) (bans_in words) record { state = now; chooses = chooses; links = 0; refuser = 0; told = 0 } nogoods
-        ≡ on_info (self_of own) (bans_in words) (agent_in s nogoods) from v
-    unfolding taken_as on_info after no_refuser
-    taken true q = rw (← q, on_info, ← is-updated, links-none)
-    taken false q = rw (← q, on_info, ← is-updated, news-none s.value)
-
-    pub takes-info : (chooses : Bool) → chooses ≡ is_some (lowest max_named 1 (λ k. bit (byte_of b k) (pred s.value)))
-        → Takes own (bans_in words) record { state = now; chooses = chooses; links = 0; refuser = 0; told = 0 } nogoods
-        (on_info (self_of own) (bans_in words) (agent_in s nogoods) from v)
+    conflict : (chooses : Bool) → chooses ≡ is_some (lowest max_named 1 (λ k. bit (byte_of b k) (pred s.value)))
+        → chooses ≡ conflicts (self_of own) (bans_in words) (at (agent_in s nogoods).view from v) (agent_in s nogoods).value
     unfolding conflicts agent_of assigned max_domain
-    takes-info chooses e =
+    conflict chooses e =
+        e ∙ ap is_some (first-barring own (bans_in words) (at (assignment s.view) from v) b barring h.able.fits coherent.viewed s.value valued.0 valued.1)
+
+    takes : (todo : Todo) → Addresses own todo
+        → done_as (self_of own) (bans_in words) now todo nogoods ≡ on_info (self_of own) (bans_in words) (agent_in s nogoods) from v
+        → Takes own (bans_in words) now todo nogoods (on_info (self_of own) (bans_in words) (agent_in s nogoods) from v)
+    takes todo addresses e =
         record {
-          taken =
-              taken chooses
-              (e ∙ ap is_some (first-barring own (bans_in words) (at (assignment s.view) from v) b barring h.able.fits coherent.viewed s.value
-              valued.0 valued.1));
+          taken = e;
           sound = record { places = h.places; coherent = rw seen-now coherent; downward = sound.downward };
           barring = rw seen-now barring;
-          links = none_in _;
-          refuser = no-refuser own;
-          told = none_in _;
+          addresses = addresses;
         }
+
+    -- it chooses where the own value is barred, and is done where it isn't
+    abbrev barred : Bool
+    barred = is_some (lowest max_named 1 (λ k. bit (byte_of b k) (pred s.value)))
+
+    pub takes-barred : barred ≡ true → Takes own (bans_in words) now (Choose 0 None) nogoods (on_info (self_of own) (bans_in words) (agent_in s nogoods) from v)
+    unfolding on_info after
+    takes-barred e = takes (Choose 0 None) (none_in _, tt) (rw (← conflict true (sym e), on_info, ← is-updated, links-none))
+
+    pub takes-free : barred ≡ false → Takes own (bans_in words) now (Tell 0) nogoods (on_info (self_of own) (bans_in words) (agent_in s nogoods) from v)
+    unfolding on_info after
+    takes-free e = takes (Tell 0) (none_in _) (rw (← conflict false (sym e), on_info, ← is-updated, news-none s.value))

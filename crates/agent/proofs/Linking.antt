@@ -1,7 +1,7 @@
 -- A record that informs one agent more means the agent that does, and leaves an Info to that agent to do.
 use Prim.Native.Nat.{ℕ}
 use mathlib.Core.Path.{◌≡◌}
-use mathlib.Core.Bool.{true, false}
+use mathlib.Core.Bool.{true}
 use mathlib.Core.List.{List}
 use Rattle.base.specs.Finite.{at}
 use Rattle.base.proofs.Search.{at_other}
@@ -14,22 +14,19 @@ use Rattle.choosing.specs.declared.Own.{Own}
 use Rattle.agent.specs.Abstract.{agent_of}
 use Rattle.agent.specs.Parts.{agent_in, Handed, Takes}
 use Rattle.agent.specs.declared.State.{State}
+use Rattle.agent.specs.declared.Todo.TheVariants.{Tell}
 use Rattle.agent.proofs.Fits.{fits-sound}
 use Rattle.agent.proofs.Steps.{takes-answer}
 
-abbrev with_informs : State → ℕ → State
-with_informs s m =
-    record { value = s.value; last = s.last; stored = s.stored; listens = s.listens; informs = m; view = s.view; bars = s.bars }
-
 pub takes-link : (own : Own) (bans : List ℕ) (s : State) (nogoods : List ℕ) (m told from : ℕ) → Handed own bans s nogoods from AddLink'
     → members m ≡ at (members s.informs) from true → members told ≡ at (members 0) from true
-    → Takes own (bans_in bans) record { state = with_informs s m; chooses = false; links = 0; refuser = 0; told = told } nogoods
+    → Takes own (bans_in bans) (record s { informs = m }) (Tell told) nogoods
     (on_add_link (agent_in s nogoods) from)
 unfolding on_add_link informing agent_of self_of answer
 takes-link own bans s nogoods m told from h e f =
     let sound = fits-sound own s nogoods h.places h.agent in
     rw (← e)
-    (takes-answer own (bans_in bans) (with_informs s m) nogoods told from h.message.0 h.message.1 f
+    (takes-answer own (bans_in bans) (record s { informs = m }) nogoods told from h.message.0 h.message.1 f
     (record {
       places = sound.places;
       coherent = sound.coherent;

@@ -2,7 +2,6 @@
 -- Whoever is refused was known in the view, so each turn one agent more is unknown.
 use Prim.Native.Nat.{ℕ, zero, suc, pred, ◌<◌, ◌≤◌}
 use mathlib.Core.Path.{◌≡◌, refl, sym, ap, ◌∙◌}
-use mathlib.Core.Logic.{◌≢◌}
 use mathlib.Core.Bool.{Bool, true, false, cond}
 use mathlib.Core.Option.{Option, none, some}
 use mathlib.Core.List.{List, [], ◌∷◌, ◌++◌, append-nil, append_assoc}
@@ -17,13 +16,11 @@ use Rattle.agent_rules.specs.Agent.{Self, Bans, Nogoods, Agent, Step, with_last,
 use Rattle.agent_rules.specs.Choosing.{Choice, choice, infos, chosen, took, union, failed, refusing, drop_if, without, forget, after, settle}
 use Rattle.agent_rules.specs.Receiving.{keep_if}
 use Rattle.agent_rules.specs.Shape.{max_named}
-use Rattle.packed.specs.Packed.{number_of}
 use Rattle.choosing.specs.Barring.{self_of, OwnFits}
 use Rattle.choosing.specs.Choosing.{Coherent}
 use Rattle.choosing.specs.declared.Own.{Own}
 use Rattle.agent.specs.Parts.{keeping}
 use Rattle.packed.proofs.Known.{known-true}
-use Rattle.choosing.proofs.Named.{number-none, number-some}
 use Rattle.choosing.proofs.Unions.{union-agreed}
 
 -- ---- one turn, once it is known what choosing comes to
@@ -131,26 +128,21 @@ module _ (own : Own) (fits : OwnFits own) (view : Assignment) (nogoods : Nogoods
       let n : known (view k) ≡ true = rw (← g) e in
       (n, (c.viewed k l h n).0)
 
-  module _ (k : ℕ) (top : k ≡ number_of (highest max_named (λ j. known (union own.domain nogoods j)))) where
-    whom-is : k ≡ number_of (whom (self_of own) nogoods)
+  module _ (o : Option ℕ) (top : o ≡ highest max_named (λ j. known (union own.domain nogoods j))) where
+    pub whom-is : whom (self_of own) nogoods ≡ o
     unfolding max_named above self_of
     whom-is =
-        top ∙ ap number_of
-        (highest-to (pred own.number) 16 (λ j. known (union own.domain nogoods j)) (omega (arith, fits.last))
+        sym
+        (top
+        ∙ highest-to (pred own.number) 16 (λ j. known (union own.domain nogoods j)) (omega (arith, fits.last))
         (λ j l u. test (known (union own.domain nogoods j)) (λ t. absurd (omega (arith, (named-above j (omega arith) u t).1))) (λ t. t)))
 
-    pub refuses-nobody : k ≡ 0 → whom (self_of own) nogoods ≡ none
-    refuses-nobody z = number-none _ k whom-is (λ j f. (highest-some (above (self_of own)) _ j f).1) z
-
-    module _ (one : k ≢ 0) where
-      pub refuses-one : whom (self_of own) nogoods ≡ some k
-      refuses-one = number-some _ k whom-is one
-
-      -- the refused agent
-      pub refused-known : (1 ≤ k) × (k < own.number) × (known (view k) ≡ true) × (known (union own.domain nogoods k) ≡ true)
-      unfolding above self_of
-      refused-known =
-          let f = highest-some (above (self_of own)) (λ j. known (union own.domain nogoods j)) k refuses-one in
-          let u : k ≤ pred own.number = f.2 in
-          let g = named-above k f.1 (omega (arith, fits.last)) f.0 in
-          (f.1, g.1, g.0, f.0)
+  -- the refused agent
+  pub refused-known : (k : ℕ) → whom (self_of own) nogoods ≡ some k
+      → (1 ≤ k) × (k < own.number) × (known (view k) ≡ true) × (known (union own.domain nogoods k) ≡ true)
+  unfolding above self_of
+  refused-known k one =
+      let f = highest-some (above (self_of own)) (λ j. known (union own.domain nogoods j)) k one in
+      let u : k ≤ pred own.number = f.2 in
+      let g = named-above k f.1 (omega (arith, fits.last)) f.0 in
+      (f.1, g.1, g.0, f.0)

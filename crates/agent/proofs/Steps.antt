@@ -9,20 +9,18 @@ use lib.ListN.{length}
 use Rattle.base.specs.Finite.{at}
 use Rattle.problem.specs.Problem.{max_agents}
 use Rattle.agent_rules.specs.Message.{Post as Post'}
-use Rattle.agent_rules.specs.Agent.{Self, Bans}
-use Rattle.agent_rules.specs.Choosing.{after, check_view}
+use Rattle.agent_rules.specs.Agent.{Bans}
 use Rattle.agent_rules.specs.Receiving.{quiet, answer}
 use Rattle.packed.specs.Packed.{assignment, members}
 use Rattle.choosing.specs.Barring.{OwnFits, Barring}
 use Rattle.choosing.specs.declared.Own.{Own}
 use Rattle.agent.specs.Abstract.{assigned, agent_of}
-use Rattle.agent.specs.Posting.{links_to, news_to, backs_from, posts_left, step_of}
+use Rattle.agent.specs.Posting.{news_to, backs_from, posts_left, step_of}
 use Rattle.agent.specs.Entries.{Below, StepsAs}
-use Rattle.agent.specs.Parts.{agent_in, step_with, Sound, taken_as, Takes}
+use Rattle.agent.specs.Parts.{agent_in, step_with, Sound, Takes}
 use Rattle.agent.specs.declared.State.{State}
-use Rattle.agent.specs.declared.Taken.{Taken}
+use Rattle.agent.specs.declared.Todo.TheVariants.{Tell}
 use Rattle.agent.proofs.Sending.{steps-as}
-use Rattle.agent.proofs.Telling.{no-refuser}
 use Rattle.agent.proofs.ToSet.{none_in, one_in, links-none, news-one}
 
 pub steps-quiet : (own : Own) (bans : Bans) (s : State) (nogoods backs : List ℕ) (told : ℕ) → OwnFits own → length backs ≡ 11 → Below own told
@@ -53,35 +51,20 @@ steps-quiet own bans s nogoods backs told fits long below barring =
 -- the same, left to do
 pub takes-quiet : (own : Own) (bans : Bans) (s : State) (nogoods : List ℕ) (told : ℕ) (ps : List Post') → Sound own s nogoods
     → Barring bans (assignment s.view) s.bars → Below own told → news_to s.value told ≡ ps
-    → Takes own bans record { state = s; chooses = false; links = 0; refuser = 0; told = told } nogoods (quiet (agent_in s nogoods) ps)
-unfolding taken_as
+    → Takes own bans s (Tell told) nogoods (quiet (agent_in s nogoods) ps)
 takes-quiet own bans s nogoods told ps sound barring below e =
     record {
       taken = ap (λ (l : List Post'). quiet (agent_in s nogoods) l) e;
       sound = sound;
       barring = barring;
-      links = none_in _;
-      refuser = no-refuser own;
-      told = below;
+      addresses = below;
     }
 
 -- the own value, told to one agent below
 pub takes-answer : (own : Own) (bans : Bans) (s : State) (nogoods : List ℕ) (told from : ℕ) → own.number < from → from ≤ max_agents
     → members told ≡ at (members 0) from true → Sound own s nogoods → Barring bans (assignment s.view) s.bars
-    → Takes own bans record { state = s; chooses = false; links = 0; refuser = 0; told = told } nogoods
+    → Takes own bans s (Tell told) nogoods
     (quiet (agent_in s nogoods) (answer (agent_in s nogoods) from))
 unfolding answer agent_of max_agents
 takes-answer own bans s nogoods told from l h e sound barring =
     takes-quiet own bans s nogoods told _ sound barring (one_in _ told from e (l, h)) (news-one s.value told from (omega arith) h e)
-
--- ---- what is left to do, done
-
-pub chooses-step : (s : Self) (bans : Bans) (t : Taken) (nogoods : List ℕ) → t.chooses ≡ true
-    → taken_as s bans t nogoods ≡ after (links_to t.links) (check_view s bans t.refuser (agent_in t.state nogoods))
-unfolding taken_as
-chooses-step s bans t nogoods e = rw (e, taken_as)
-
-pub quiet_step : (s : Self) (bans : Bans) (t : Taken) (nogoods : List ℕ) → t.chooses ≡ false
-    → taken_as s bans t nogoods ≡ quiet (agent_in t.state nogoods) (news_to t.state.value t.told)
-unfolding taken_as
-quiet_step s bans t nogoods e = rw (e, taken_as)

@@ -1,5 +1,6 @@
 -- A Back taken in: answered where it does not hold, stored where it does, and then the agent has to choose behind its link requests.
 use Prim.Native.Nat.{ℕ, zero, suc, ◌*◌, ◌-◌, ◌%◌, ◌^◌, ◌≤◌}
+use Rattle.std.specs.Prelude.{Some, None}
 use mathlib.Core.Path.{◌≡◌, refl, sym, ◌∙◌, fun_ext}
 use mathlib.Core.Logic.{◌≢◌}
 use mathlib.Core.Bool.{Bool, true, false, not, ◌||◌, and-true}
@@ -8,11 +9,11 @@ use native.Mathlib.Omega.{arith}
 use lib.Bits.{bit_or}
 use lib.ListN.{set, length-set}
 use borrow.Author.Tests.{eq-eqb, ne_eqb}
-use Rattle.base.specs.Finite.{at, from_one}
+use Rattle.base.specs.Finite.{at, from_one, all_to}
 use Rattle.base.proofs.Bits.{bit-or}
 use Rattle.base.proofs.Tests.{test, both, within-true}
 use Rattle.agent_rules.specs.Message.{Assignment, known, Back as Back'}
-use Rattle.agent_rules.specs.Agent.{Nogoods}
+use Rattle.agent_rules.specs.Agent.{Nogoods, above}
 use Rattle.agent_rules.specs.Receiving.{matches, holds, unheard, accepting, outdated, on_back}
 use Rattle.agent_rules.specs.Shape.{any_value}
 use Rattle.problem.specs.Problem.{max_agents, max_domain}
@@ -22,8 +23,9 @@ use Rattle.choosing.specs.Choosing.{nogoods_of}
 use Rattle.choosing.specs.declared.Own.{Own}
 use Rattle.agent.specs.Abstract.{assigned, none_counted, counts_of, agent_of}
 use Rattle.agent.specs.Entries.{Above}
-use Rattle.agent.specs.Parts.{agent_in, Sound, Listening, Hears, Handed, taken_as, Takes}
+use Rattle.agent.specs.Parts.{agent_in, Sound, Listening, Hears, Handed, Takes}
 use Rattle.agent.specs.declared.State.{State}
+use Rattle.agent.specs.declared.Todo.TheVariants.{Choose, Tell}
 use Rattle.agent.specs.declared.receiving.Heard.{Heard}
 use Rattle.agent.proofs.ToSet.{none_in, news-none, links-asked}
 use Rattle.agent.proofs.Fits.{fits-sound}
@@ -67,7 +69,7 @@ module _ (own : Own) (words : List ℕ) (s : State) (nogoods : List ℕ) (from x
   -- ---- where it does not hold
 
   pub takes-other : v ≢ s.value
-      → Takes own (bans_in words) record { state = s; chooses = false; links = 0; refuser = 0; told = 0 } nogoods
+      → Takes own (bans_in words) s (Tell 0) nogoods
       (on_back (self_of own) (bans_in words) (agent_in s nogoods) from lhs v)
   unfolding on_back holds outdated agent_of
   takes-other n =
@@ -76,31 +78,29 @@ module _ (own : Own) (words : List ℕ) (s : State) (nogoods : List ℕ) (from x
       (takes-quiet own (bans_in words) s nogoods 0 [] sound h.barring (none_in _) (news-none s.value))
 
   -- as the code has it
-  module _ (r : Heard) (hears : Hears own (bans_in words) s lhs r) (own_value : v ≡ s.value) where
-    held : holds (self_of own) (agent_in s nogoods) lhs v ≡ r.holds
+  module _ (own_value : v ≡ s.value) where
+    held : (b : Bool) → all_to (above (self_of own)) (matches (agent_in s []) lhs) ≡ b → holds (self_of own) (agent_in s nogoods) lhs v ≡ b
     unfolding holds matches agent_of
-    held = rw (eq-eqb v s.value own_value) (sym hears.holds)
+    held b e = rw (eq-eqb v s.value own_value) e
 
-    pub takes-outdated : (told : ℕ) → r.holds ≡ false → members told ≡ at (members 0) from true
-        → Takes own (bans_in words) record { state = s; chooses = false; links = 0; refuser = 0; told = told } nogoods
+    pub takes-outdated : (told : ℕ) → Hears own (bans_in words) s lhs None → members told ≡ at (members 0) from true
+        → Takes own (bans_in words) s (Tell told) nogoods
         (on_back (self_of own) (bans_in words) (agent_in s nogoods) from lhs v)
     unfolding on_back outdated agent_of self_of
-    takes-outdated told q m =
-        rw (held ∙ q, on_back, eq-eqb v s.value own_value)
+    takes-outdated told hears m =
+        rw (held false hears, on_back, eq-eqb v s.value own_value)
         (takes-answer own (bans_in words) s nogoods told from h.message.0 h.message.1 m sound h.barring)
 
     -- ---- where it holds
 
-    module _ (q : r.holds ≡ true) where
+    module _ (r : Heard) (hears : Hears own (bans_in words) s lhs (Some r)) where
       -- the agent, its view and its reason stored
       abbrev now : State
       now =
-          record {
+          record s {
             value = 0;
-            last = s.last;
             stored = bit_or s.stored (1 * 2 ^ (v - 1) % 2 ^ 8);
             listens = bit_or s.listens r.links;
-            informs = s.informs;
             view = r.view;
             bars = r.bars;
           }
@@ -112,7 +112,7 @@ module _ (own : Own) (words : List ℕ) (s : State) (nogoods : List ℕ) (from x
       unfolding unheard agent_of
       listens-now k =
           members-or s.listens r.links k
-          ∙ rw (hears.links q k)
+          ∙ rw (hears.1.links k)
           (test (members s.listens k) (λ t. rw t) (λ t. rw t (and-true (known (lhs k)))))
 
       nogoods-now : nogoods_of (bit_or s.stored (1 * 2 ^ (v - 1) % 2 ^ 8)) words-now ≡ (accepting (agent_in s nogoods) lhs v).nogoods
@@ -134,29 +134,29 @@ module _ (own : Own) (words : List ℕ) (s : State) (nogoods : List ℕ) (from x
             nogoods = n;
             counts = counts_of none_counted none_counted;
           })
-          (fun_ext λ k. listens-now k) (fun_ext λ k. hears.view q k) nogoods-now
+          (fun_ext λ k. listens-now k) (fun_ext λ k. hears.1.view k) nogoods-now
 
       view-now : assignment r.view ≡ (accepting (agent_in s nogoods) lhs v).view
       unfolding accepting unheard agent_of assigned
-      view-now = fun_ext λ k. hears.view q k
+      view-now = fun_ext λ k. hears.1.view k
 
       above-all : Above own r.links
       unfolding unheard agent_of
       above-all k lo hi e =
-          (upward k lo hi (both (known (lhs k)) (not (members s.listens k)) (sym (hears.links q k) ∙ e)).0).0
+          (upward k lo hi (both (known (lhs k)) (not (members s.listens k)) (sym (hears.1.links k) ∙ e)).0).0
 
-      pub takes-held : Takes own (bans_in words) record { state = now; chooses = true; links = r.links; refuser = from; told = 0 } words-now
+      pub takes-held : Takes own (bans_in words) now (Choose r.links (Some from)) words-now
           (on_back (self_of own) (bans_in words) (agent_in s nogoods) from lhs v)
-      unfolding taken_as on_back self_of unheard agent_of
+      unfolding on_back self_of unheard agent_of
       takes-held =
-          let e : holds (self_of own) (agent_in s nogoods) lhs v ≡ true = held ∙ q in
+          let e : holds (self_of own) (agent_in s nogoods) lhs v ≡ true = held true hears.0 in
           record {
             taken =
                 rw (
                   e,
                   on_back,
                   is-accepting,
-                  links-asked (self_of own) (agent_in s nogoods) lhs r.links h.able.fits.first h.able.fits.last above-all (λ k lo hi. hears.links q k),
+                  links-asked (self_of own) (agent_in s nogoods) lhs r.links h.able.fits.first h.able.fits.last above-all (λ k lo hi. hears.1.links k),
                 );
             sound =
                 record {
@@ -164,8 +164,6 @@ module _ (own : Own) (words : List ℕ) (s : State) (nogoods : List ℕ) (from x
                   coherent = rw (view-now, nogoods-now) (coherent-accepting own (agent_in s nogoods) from lhs v h.agent h.message e);
                   downward = sound.downward;
                 };
-            barring = hears.barring q;
-            links = above-all;
-            refuser = λ n. (h.message.0, h.message.1);
-            told = none_in _;
+            barring = hears.1.barring;
+            addresses = (above-all, (h.message.0, h.message.1));
           }

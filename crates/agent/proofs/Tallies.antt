@@ -1,6 +1,6 @@
 -- How many messages of each sort a step takes in and sends, as the code has them: one, and the agents of two sets with the Backs between two places.
 -- A set is gone through bit by bit.
-use Prim.Native.Nat.{ℕ, zero, suc, ◌+◌, ◌*◌, ◌-◌, ◌/◌, ◌%◌, ◌^◌, ◌≤◌, ◌<◌}
+use Prim.Native.Nat.{ℕ, zero, suc, ◌+◌, ◌*◌, ◌-◌, ◌/◌, ◌%◌, ◌^◌, ◌≤◌, ◌<◌, min}
 use mathlib.Core.Path.{◌≡◌, refl, sym, ap, ◌∙◌}
 use mathlib.Core.List.{List, [], ◌∷◌, ◌++◌, map}
 use native.Mathlib.Nat.{div-one}
@@ -27,7 +27,7 @@ use Rattle.agent_rules.specs.Message.{
 use Rattle.agent_rules.specs.Counts.{Sort, Infos, Backs, AddLinks, of_sort, number, message_in, messages_in, top, raised}
 use Rattle.agent_rules.specs.Choosing.{refusing}
 use Rattle.agent_rules.specs.Shape.{max_named, EachIn}
-use Rattle.agent_rules.proofs.Counts.{raised-none, number_append, messages-append}
+use Rattle.agent_rules.proofs.Counts.{Raised, exact, full, raises, raised-none, number_append, messages-append}
 use Rattle.packed.specs.Packed.{members}
 use Rattle.agent.specs.Abstract.{count_of}
 use Rattle.agent.specs.Posting.{post_if, posts_to, links_to, news_to, back_of, backs_from, posts_left, Ready}
@@ -107,6 +107,15 @@ tally p backs small narrow r x =
     ) (sum p x)
 
 -- ---- counts raised
+
+-- as the code raises one
+pub as-raised : (c k r : ℕ) → r ≡ min (c + k) 18446744073709551615 → r ≡ raised c k
+unfolding top
+as-raised c k r e = go (raises c k)
+  where
+    go : Raised c k → r ≡ raised c k
+    go (exact u f) = omega (arith, e, u, f)
+    go (full u f) = omega (arith, e, u, f)
 
 -- numbers of 64 bits
 abbrev pub Small : Counts → Type 0

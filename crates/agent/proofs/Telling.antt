@@ -1,6 +1,7 @@
 -- Whom the news of a value goes to, as the code finds it: those informed or nobody, and the agent whose refusal is being worked.
 -- No agent has the number 0, so where no refusal is being worked nobody is added.
-use Prim.Native.Nat.{ℕ, ◌≤◌}
+use Rattle.std.specs.Prelude.{Option as Option', Some, None}
+use Prim.Native.Nat.{ℕ, ◌≤◌, ◌<◌}
 use mathlib.Core.Path.{◌≡◌, refl, sym, ◌∙◌}
 use mathlib.Core.Logic.{◌≢◌, ◌⊎◌, inl, inr, ⊎_elim}
 use mathlib.Core.Bool.{Bool, true, false, not, ◌&&◌, ◌||◌, and-true, and-false, or-true, or-false}
@@ -20,16 +21,12 @@ use Rattle.choosing.specs.Barring.{self_of}
 use Rattle.choosing.specs.declared.Own.{Own}
 use Rattle.agent.specs.Abstract.{agent_of}
 use Rattle.agent.specs.Entries.{Below}
-use Rattle.agent.specs.Parts.{listener, Refuser}
+use Rattle.agent.specs.Parts.{listener, refuser_of, Refuser}
 use Rattle.agent.specs.declared.State.{State}
 
-pub no-refuser : (own : Own) → Refuser own 0
-unfolding no_refuser
-no-refuser own n = absurd (n refl)
-
-pub refuser-range : (own : Own) (refuser : ℕ) → Refuser own refuser → refuser ≤ 16
-unfolding no_refuser max_agents
-refuser-range own refuser below = eq_test refuser 0 (λ z. omega arith) (λ n. omega (arith, (below n).1))
+pub refuser-range : (own : Own) (k : ℕ) → Refuser own (Some k) → (1 ≤ k) × (k ≤ 16)
+unfolding max_agents
+refuser-range own k below = (omega (arith, below.0), omega (arith, below.1))
 
 -- at the start no value was taken before, and no refusal is being worked
 pub all_told : (s : Self) (listens informs : ℕ → Bool) (k : ℕ) → 1 ≤ k → informs k ≡ tells s (fresh listens informs) no_refuser 1 k
@@ -38,10 +35,10 @@ all_told s listens informs k l =
     let n : eqb k 0 ≡ false = ne_eqb k 0 (λ z. omega arith) in
     test (eqb s.rule quiet_rule) (λ t. rw (t, n, or-false (informs k && true)) (sym (and-true (informs k)))) (λ t. rw t)
 
-module _ (own : Own) (s : State) (refuser v : ℕ) where
+module _ (own : Own) (s : State) (refuser : Option' ℕ) (v : ℕ) where
   -- the set that has exactly those told
   abbrev Tells : ℕ → Type 0
-  Tells told = (k : ℕ) → 1 ≤ k → members told k ≡ tells (self_of own) (listener s) refuser v k
+  Tells told = (k : ℕ) → 1 ≤ k → members told k ≡ tells (self_of own) (listener s) (refuser_of refuser) v k
 
   -- ---- rule 1
 
@@ -58,28 +55,37 @@ module _ (own : Own) (s : State) (refuser v : ℕ) where
   heard told (inr (q, e)) k = rw (e, eq-eqb v s.last q, and-false, no-members k)
 
   -- the refuser in any case
-  with-refuser : (told all : ℕ) → ((refuser ≢ 0) × (members all ≡ at (members told) refuser true)) ⊎ ((refuser ≡ 0) × (all ≡ told)) → (k : ℕ) → 1 ≤ k
-      → members all k ≡ members told k || eqb k refuser
-  with-refuser told all (inl (n, e)) k l =
-      eq_test k refuser
-      (λ q. rw (e, q, at_same (members told) refuser true, eq-eqb refuser refuser refl, or-true))
-      (λ m. rw (e, at_other (members told) refuser true k m, ne_eqb k refuser m, or-false))
-  with-refuser told all (inr (z, e)) k l = rw (e, ne_eqb k refuser (λ q. omega arith), or-false)
+  abbrev pub With : Option' ℕ → ℕ → ℕ → Type 0
+  With None told all = all ≡ told
+  With (Some r) told all = members all ≡ at (members told) r true
 
-  pub tells-quietly : own.rule ≡ 2 → (told all : ℕ) → ((v ≢ s.last) × (told ≡ s.informs)) ⊎ ((v ≡ s.last) × (told ≡ 0))
-      → ((refuser ≢ 0) × (members all ≡ at (members told) refuser true)) ⊎ ((refuser ≡ 0) × (all ≡ told)) → Tells all
+  with-refuser : (o : Option' ℕ) (told all : ℕ) → With o told all → (k : ℕ) → 1 ≤ k → members all k ≡ members told k || eqb k (refuser_of o)
+  unfolding no_refuser
+  with-refuser None told all e k l = rw (e, ne_eqb k 0 (λ q. omega arith), or-false)
+  with-refuser (Some r) told all e k l =
+      eq_test k r
+      (λ q. rw (e, q, at_same (members told) r true, eq-eqb r r refl, or-true))
+      (λ m. rw (e, at_other (members told) r true k m, ne_eqb k r m, or-false))
+
+  pub tells-quietly : own.rule ≡ 2 → (told all : ℕ) → ((v ≢ s.last) × (told ≡ s.informs)) ⊎ ((v ≡ s.last) × (told ≡ 0)) → With refuser told all
+      → Tells all
   unfolding tells quiet_rule self_of agent_of
-  tells-quietly q told all h w k l = rw (eq-eqb own.rule 2 q, with-refuser told all w k l, heard told h k)
+  tells-quietly q told all h w k l = rw (eq-eqb own.rule 2 q, with-refuser refuser told all w k l, heard told h k)
 
   -- ---- all of them are below
 
+  refuser-below : (o : Option' ℕ) → Refuser own o → (k : ℕ) → 1 ≤ k → k ≡ refuser_of o → (own.number < k) × (k ≤ max_agents)
+  unfolding no_refuser
+  refuser-below None below k lo e = absurd (omega (arith, e))
+  refuser-below (Some r) below k lo e = rw e below
+
   pub tells-below : (told : ℕ) → Below own s.informs → Refuser own refuser → Tells told → Below own told
-  unfolding tells self_of agent_of no_refuser
+  unfolding tells self_of agent_of
   tells-below told down below e k lo hi t =
       test (eqb own.rule quiet_rule)
       (λ q.
       ⊎_elim
       (λ i. down k lo hi (both (members s.informs k) (not (eqb v s.last)) i).0)
-      (λ r. let n : k ≡ refuser = eqb-true k refuser r in rw n (below (λ z. omega arith)))
-      (or_cases (members s.informs k && not (eqb v s.last)) (eqb k refuser) (rw q at (sym (e k lo) ∙ t))))
+      (λ r. refuser-below refuser below k lo (eqb-true k (refuser_of refuser) r))
+      (or_cases (members s.informs k && not (eqb v s.last)) (eqb k (refuser_of refuser)) (rw q at (sym (e k lo) ∙ t))))
       (λ q. down k lo hi (rw q at (sym (e k lo) ∙ t)))

@@ -1,10 +1,10 @@
 -- The invariant of the loop of backing up: it holds at the start, a turn that refuses keeps it, and the turns that end give the step.
 -- The Backs, and then settling from here, is settling from the start; Backs and known agents are few enough that turns are left.
-use Prim.Native.Nat.{ℕ, zero, suc, ◌+◌, ◌-◌, ◌^◌, ◌<◌, ◌≤◌}
-use mathlib.Core.Path.{◌≡◌, refl, sym, ap, ap₂, ◌∙◌, fun_ext, subst}
-use mathlib.Core.Logic.{◌≢◌}
+use Prim.Native.Nat.{ℕ, suc, ◌+◌, ◌-◌, ◌^◌, ◌<◌, ◌≤◌}
+use Rattle.std.specs.Prelude.{Option as Option', Some, None}
+use mathlib.Core.Path.{◌≡◌, refl, sym, ap, ap₂, ◌∙◌, fun_ext}
 use mathlib.Core.Bool.{Bool, true, false, false≢true}
-use mathlib.Core.Option.{Option, none, some}
+use mathlib.Core.Option.{none, some}
 use mathlib.Core.List.{List, [], ◌++◌, append-nil}
 use native.Mathlib.Nat.{not-suc-le-zero}
 use native.Mathlib.Omega.{arith}
@@ -18,42 +18,41 @@ use Rattle.agent_rules.specs.Message.{Assignment, known, Post as Post'}
 use Rattle.agent_rules.specs.Agent.{Bans, Nogoods, Agent as Agent', with_last}
 use Rattle.agent_rules.specs.Choosing.{choice, tells, chosen, union, refusing, forget, after, settle, check_view}
 use Rattle.agent_rules.specs.Shape.{max_named}
-use Rattle.agent_rules.proofs.Assignments.{known-zero}
-use Rattle.packed.specs.Packed.{assignment, members, number_of, mask_from}
+use Rattle.packed.specs.Packed.{assignment, members, option_of, number_of, mask_from}
 use Rattle.choosing.specs.Barring.{self_of, OwnFits, byte_of, Barring}
-use Rattle.choosing.specs.Choosing.{nogoods_of, value_of, Chose}
+use Rattle.choosing.specs.Choosing.{nogoods_of, Chose}
 use Rattle.choosing.specs.declared.Bars.{Bars}
 use Rattle.choosing.specs.declared.Own.{Own}
 use Rattle.agent.specs.Abstract.{assigned, none_counted, counts_of, agent_of}
 use Rattle.agent.specs.Posting.{links_to, news_to, back_of, backs_from, posts_left, step_of}
 use Rattle.agent.specs.Entries.{Above, Below, StepsAs}
-use Rattle.agent.specs.Parts.{agent_in, step_with, Sound, Refuser, ended, keeping, listener}
+use Rattle.agent.specs.Parts.{agent_in, step_with, Sound, refuser_of, Refuser, has_taken, has_failed, keeping, listener}
 use Rattle.agent.specs.declared.State.{State}
-use Rattle.packed.proofs.Known.{known_from, known-true}
+use Rattle.packed.proofs.Known.{known-true}
 use Rattle.choosing.proofs.Barrings.{seen, unknown-bits}
 use Rattle.agent.proofs.Coherence.{coherent-keeping}
 use Rattle.choosing.proofs.Spared.{spares}
 use Rattle.agent.proofs.Views.{kept-other}
-use Rattle.agent.proofs.Settling.{named_to, named-le, named-forget, named-above, whom, refuses-nobody, refuses-one, refused-known, after-after, turn-took, turn-failed, turn-back, without-keeping}
+use Rattle.agent.proofs.Settling.{named_to, named-le, named-forget, named-above, whom, whom-is, refused-known, after-after, turn-took, turn-failed, turn-back, without-keeping}
 use Rattle.agent.proofs.Sending.{Refuses, Addressed, refuses, backs-more, steps-as}
 use Rattle.agent.proofs.Telling.{tells-below}
 use Rattle.agent.proofs.ToSet.{none_in, news-none, news-infos}
 
 -- what bans and view bar, and what is left to do
-pub record Here (own : Own) (bans : Bans) (refuser : ℕ) (a₀ : Agent') (s : State) (nogoods : List ℕ) (backs : List ℕ) (count : ℕ) : Type 0 where
+pub record Here (own : Own) (bans : Bans) (refuser : Option' ℕ) (a₀ : Agent') (s : State) (nogoods : List ℕ) (backs : List ℕ) (count : ℕ) : Type 0 where
   pub barring : Barring bans (assignment s.view) s.bars
-  pub goes_on : check_view (self_of own) bans refuser a₀
-      ≡ after (backs_from 0 count backs) (settle (own.number - count) (self_of own) bans refuser (agent_in s nogoods))
+  pub goes_on : check_view (self_of own) bans (refuser_of refuser) a₀
+      ≡ after (backs_from 0 count backs) (settle (own.number - count) (self_of own) bans (refuser_of refuser) (agent_in s nogoods))
 
 -- the agents that are known and the Backs sent are together no more than the agents above, so there are turns left
-pub record Turning (own : Own) (refuser : ℕ) (s₀ : State) (nogoods₀ : List ℕ) (s : State) (nogoods : List ℕ) (backs : List ℕ) (count : ℕ) : Type 0 where
+pub record Turning (own : Own) (refuser : Option' ℕ) (s₀ : State) (nogoods₀ : List ℕ) (s : State) (nogoods : List ℕ) (backs : List ℕ) (count : ℕ) : Type 0 where
   pub sound : Sound own s nogoods
   pub left : count + named_to (own.number - 1) (assignment s.view) ≤ own.number - 1
   pub places : length backs ≡ 11
   pub sent : (i : ℕ) → i < count → Refuses own (get_or backs i 0)
   pub here : (bans : Bans) → Barring bans (assignment s₀.view) s₀.bars → Here own bans refuser (agent_in s₀ nogoods₀) s nogoods backs count
 
-pub turn-begin : (own : Own) (refuser : ℕ) (s : State) (nogoods backs : List ℕ) → Sound own s nogoods → length backs ≡ 11
+pub turn-begin : (own : Own) (refuser : Option' ℕ) (s : State) (nogoods backs : List ℕ) → Sound own s nogoods → length backs ≡ 11
     → Turning own refuser s nogoods s nogoods backs 0
 unfolding check_view self_of after backs_from
 turn-begin own refuser s nogoods backs sound long =
@@ -66,26 +65,10 @@ turn-begin own refuser s nogoods backs sound long =
       here = λ bans barring. record { barring = barring; goes_on = rw n };
     }
 
-abbrev with_value : State → ℕ → ℕ → State
-with_value s v last = record { value = v; last = last; stored = s.stored; listens = s.listens; informs = s.informs; view = s.view; bars = s.bars }
-
-abbrev with_stored : State → ℕ → State
-with_stored s stored =
-    record { value = s.value; last = s.last; stored = stored; listens = s.listens; informs = s.informs; view = s.view; bars = s.bars }
-
-value_none : value_of 0 ≡ none
-unfolding value_of
-value_none = refl
-
-value-some : (v : ℕ) → v ≢ 0 → value_of v ≡ some v
-unfolding value_of
-value-some zero h = absurd (h refl)
-value-some (suc v) h = refl
-
 -- a turn: what choosing came to
-module _ (own : Own) (fits : OwnFits own) (refuser : ℕ) (s₀ : State) (nogoods₀ : List ℕ) (s : State) (nogoods backs : List ℕ) (count : ℕ)
-    (t : Turning own refuser s₀ nogoods₀ s nogoods backs count) (v stored : ℕ) (new : List ℕ)
-    (c : Chose own (assignment s.view) s.bars (nogoods_of s.stored nogoods) v (nogoods_of stored new)) where
+module _ (own : Own) (fits : OwnFits own) (refuser : Option' ℕ) (s₀ : State) (nogoods₀ : List ℕ) (s : State) (nogoods backs : List ℕ) (count : ℕ)
+    (t : Turning own refuser s₀ nogoods₀ s nogoods backs count) (o : Option' ℕ) (stored : ℕ) (new : List ℕ)
+    (c : Chose own (assignment s.view) s.bars (nogoods_of s.stored nogoods) o (nogoods_of stored new)) where
   -- there are turns left
   times : own.number - count ≡ suc (own.number - count - 1)
   times = omega (arith, t.left, fits.first)
@@ -93,10 +76,10 @@ module _ (own : Own) (fits : OwnFits own) (refuser : ℕ) (s₀ : State) (nogood
   few : count ≤ 11
   few = omega (arith, t.left, fits.last)
 
-  chooses : (bans : Bans) → Barring bans (assignment s.view) s.bars
-      → choice (self_of own) bans (agent_in s nogoods) ≡ record { value = value_of v; nogoods = nogoods_of stored new }
+  chooses : (bans : Bans) → Barring bans (assignment s.view) s.bars → (v : Option' ℕ) → o ≡ v
+      → choice (self_of own) bans (agent_in s nogoods) ≡ record { value = option_of v; nogoods = nogoods_of stored new }
   unfolding choice agent_of assigned nogoods_of self_of
-  chooses bans barring = c.choice bans barring
+  chooses bans barring v e = rw e at (c.choice bans barring)
 
   -- ---- the turns that end
 
@@ -104,18 +87,15 @@ module _ (own : Own) (fits : OwnFits own) (refuser : ℕ) (s₀ : State) (nogood
     here : Here own bans refuser (agent_in s₀ nogoods₀) s nogoods backs count
     here = t.here bans barring
 
-    goes : after (links_to links) (check_view (self_of own) bans refuser (agent_in s₀ nogoods₀))
-        ≡ after (links_to links ++ backs_from 0 count backs) (settle (suc (own.number - count - 1)) (self_of own) bans refuser (agent_in s nogoods))
+    goes : after (links_to links) (check_view (self_of own) bans (refuser_of refuser) (agent_in s₀ nogoods₀))
+        ≡ after (links_to links ++ backs_from 0 count backs) (settle (suc (own.number - count - 1)) (self_of own) bans (refuser_of refuser) (agent_in s nogoods))
     goes =
         ap (after (links_to links)) (rw times at here.goes_on)
-        ∙ after-after (links_to links) (backs_from 0 count backs) (settle (suc (own.number - count - 1)) (self_of own) bans refuser (agent_in s nogoods))
-
-    addressed : (told : ℕ) → Below own told → Addressed own record { links = links; told = told; value = v; next = 0; count = count } backs
-    addressed told down = record { links = up; told = down; next = refl; few = few; places = t.places; wholes = t.sent }
+        ∙ after-after (links_to links) (backs_from 0 count backs) (settle (suc (own.number - count - 1)) (self_of own) bans (refuser_of refuser) (agent_in s nogoods))
 
     -- what is sent, where choosing comes to an end
-    ends : (told last : ℕ) (verdict : Bool) (sent : List Post') → Below own told → news_to v told ≡ sent
-        → after (links_to links) (check_view (self_of own) bans refuser (agent_in s₀ nogoods₀))
+    ends : (v told last : ℕ) (verdict : Bool) (sent : List Post') → Below own told → news_to v told ≡ sent
+        → after (links_to links) (check_view (self_of own) bans (refuser_of refuser) (agent_in s₀ nogoods₀))
         ≡ record {
           agent = with_last (chosen (agent_in s nogoods) v (nogoods_of stored new)) last;
           sent = links_to links ++ backs_from 0 count backs ++ sent;
@@ -124,17 +104,19 @@ module _ (own : Own) (fits : OwnFits own) (refuser : ℕ) (s₀ : State) (nogood
         → StepsAs own bans
         (step_with
         record {
-          state = with_value (with_stored s stored) v last;
+          state = record s { value = v; last = last; stored = stored };
           links = links;
           told = told;
           count = count;
           verdict = verdict;
         }
         new backs)
-        (after (links_to links) (check_view (self_of own) bans refuser (agent_in s₀ nogoods₀)))
+        (after (links_to links) (check_view (self_of own) bans (refuser_of refuser) (agent_in s₀ nogoods₀)))
     unfolding step_of posts_left agent_of assigned chosen nogoods_of
-    ends told last verdict sent down e is =
-        steps-as own bans _ _ fits (addressed told down)
+    ends v told last verdict sent down e is =
+        let addressed : Addressed own record { links = links; told = told; value = v; next = 0; count = count } backs =
+        record { links = up; told = down; next = refl; few = few; places = t.places; wholes = t.sent } in
+        steps-as own bans _ _ fits addressed
         (ap (λ (l : List Post'). record {
           agent = with_last (chosen (agent_in s nogoods) v (nogoods_of stored new)) last;
           sent = links_to links ++ backs_from 0 count backs ++ l;
@@ -142,56 +124,47 @@ module _ (own : Own) (fits : OwnFits own) (refuser : ℕ) (s₀ : State) (nogood
         }) e ∙ sym is)
         here.barring
 
-    pub took-step : v ≢ 0 → Refuser own refuser → (told : ℕ)
-        → ((k : ℕ) → 1 ≤ k → members told k ≡ tells (self_of own) (listener (with_stored s stored)) refuser v k)
-        → StepsAs own bans (step_with (ended (with_stored s stored) v told links count) new backs)
-        (after (links_to links) (check_view (self_of own) bans refuser (agent_in s₀ nogoods₀)))
+    pub took-step : (v : ℕ) → o ≡ Some v → Refuser own refuser → (told : ℕ)
+        → ((k : ℕ) → 1 ≤ k → members told k ≡ tells (self_of own) (listener (record s { stored = stored })) (refuser_of refuser) v k)
+        → StepsAs own bans (step_with (has_taken (record s { stored = stored }) v told links count) new backs)
+        (after (links_to links) (check_view (self_of own) bans (refuser_of refuser) (agent_in s₀ nogoods₀)))
     unfolding tells agent_of self_of
-    took-step h below told e =
-        let k : known v ≡ true = known_from v (omega (arith, h)) in
-        let down : Below own told = tells-below own (with_stored s stored) refuser v told t.sound.downward below e in
-        rw k
-        (ends told v false _ down (news-infos (self_of own) (agent_in s nogoods) refuser v told fits.last e down)
+    took-step v q below told e =
+        let down : Below own told = tells-below own (record s { stored = stored }) refuser v told t.sound.downward below e in
+        ends v told v false _ down (news-infos (self_of own) (agent_in s nogoods) (refuser_of refuser) v told fits.last e down)
         (goes
-        ∙ turn-took (own.number - count - 1) (self_of own) bans refuser (agent_in s nogoods) (links_to links ++ backs_from 0 count backs) (nogoods_of stored new)
-        v (rw (value-some v h) at (chooses bans here.barring))))
+        ∙ turn-took (own.number - count - 1) (self_of own) bans (refuser_of refuser) (agent_in s nogoods) (links_to links ++ backs_from 0 count backs) (nogoods_of stored new)
+        v (chooses bans here.barring (Some v) q))
 
-    pub failed-step : v ≡ 0 → whom (self_of own) (nogoods_of stored new) ≡ none
-        → StepsAs own bans (step_with (ended (with_stored s stored) 0 0 links count) new backs)
-        (after (links_to links) (check_view (self_of own) bans refuser (agent_in s₀ nogoods₀)))
+    pub failed-step : o ≡ None → whom (self_of own) (nogoods_of stored new) ≡ none
+        → StepsAs own bans (step_with (has_failed (record s { stored = stored }) links count) new backs)
+        (after (links_to links) (check_view (self_of own) bans (refuser_of refuser) (agent_in s₀ nogoods₀)))
     unfolding chosen agent_of
     failed-step z e =
-        subst
-        (λ (w : ℕ).
-        StepsAs own bans (step_with (ended (with_stored s stored) w 0 links count) new backs)
-        (after (links_to links) (check_view (self_of own) bans refuser (agent_in s₀ nogoods₀))))
-        z
-        (rw (ap known z ∙ known-zero)
-        (ends 0 s.last true [] (none_in (λ k. (own.number < k) × (k ≤ max_agents))) (news-none v)
+        ends 0 0 s.last true [] (none_in (λ k. (own.number < k) × (k ≤ max_agents))) (news-none 0)
         (goes
-        ∙ turn-failed (own.number - count - 1) (self_of own) bans refuser (agent_in s nogoods) (links_to links ++ backs_from 0 count backs) (nogoods_of stored new)
-        (chooses bans here.barring ∙ ap (λ (o : Option ℕ). record { value = o; nogoods = nogoods_of stored new }) (ap value_of z ∙ value_none)) e
-        ∙ ap₂ (λ (w : ℕ) (l : List Post'). record {
-          agent = with_last (chosen (agent_in s nogoods) w (nogoods_of stored new)) s.last;
+        ∙ turn-failed (own.number - count - 1) (self_of own) bans (refuser_of refuser) (agent_in s nogoods) (links_to links ++ backs_from 0 count backs) (nogoods_of stored new)
+        (chooses bans here.barring None z) e
+        ∙ ap (λ (l : List Post'). record {
+          agent = with_last (chosen (agent_in s nogoods) 0 (nogoods_of stored new)) s.last;
           sent = l;
           verdict = true;
-        }) (sym z)
-        (sym (append-nil (links_to links ++ backs_from 0 count backs))))))
+        }) (sym (append-nil (links_to links ++ backs_from 0 count backs))))
 
   -- ---- a turn that refuses
 
-  module _ (none_free : v ≡ 0) (whole : ℕ) (joined : assignment whole ≡ union own.domain (nogoods_of stored new)) (k : ℕ)
-      (highest-in : k ≡ number_of (highest max_named (λ j. known (assignment whole j)))) where
-    top : k ≡ number_of (highest max_named (λ j. known (union own.domain (nogoods_of stored new) j)))
-    top = rw joined at highest-in
+  module _ (none_free : o ≡ None) (whole : ℕ) (joined : assignment whole ≡ union own.domain (nogoods_of stored new)) (top : Option' ℕ)
+      (highest-in : option_of top ≡ highest max_named (λ j. known (assignment whole j))) where
+    named : (k : Option' ℕ) → top ≡ k → whom (self_of own) (nogoods_of stored new) ≡ option_of k
+    named k e = rw e at (whom-is own fits (assignment s.view) (nogoods_of stored new) c.coherent (option_of top) (rw joined at highest-in))
 
-    pub nobody : k ≡ 0 → whom (self_of own) (nogoods_of stored new) ≡ none
-    nobody z = refuses-nobody own fits (assignment s.view) (nogoods_of stored new) c.coherent k top z
+    pub nobody : top ≡ None → whom (self_of own) (nogoods_of stored new) ≡ none
+    nobody e = named None e
 
-    module _ (one : k ≢ 0) where
+    module _ (k : ℕ) (one : top ≡ Some k) where
       known-one : (1 ≤ k) × (k < own.number) × (known (assignment s.view k) ≡ true)
           × (known (union own.domain (nogoods_of stored new) k) ≡ true)
-      known-one = refused-known own fits (assignment s.view) (nogoods_of stored new) c.coherent k top one
+      known-one = refused-known own fits (assignment s.view) (nogoods_of stored new) c.coherent k (named (Some k) one)
 
       pub in-range : (1 ≤ k) × (k ≤ 16)
       in-range = let n = known-one in (n.0, omega (arith, n.1, fits.last))
@@ -203,8 +176,10 @@ module _ (own : Own) (fits : OwnFits own) (refuser : ℕ) (s₀ : State) (nogood
       room = omega (arith, t.left, fewer, fits.last)
 
       the-post : back_of whole ≡ refusing k (union own.domain (nogoods_of stored new))
-      unfolding back_of
-      the-post = ap₂ refusing (sym highest-in) joined
+      unfolding back_of number_of
+      the-post =
+          let h : some k ≡ highest max_named (λ j. known (assignment whole j)) = rw one at highest-in in
+          ap₂ refusing (ap number_of (sym h)) joined
 
       -- the whole nogood, as it is sent
       sendable : whole < 2 ^ 64 → Refuses own whole
@@ -221,8 +196,7 @@ module _ (own : Own) (fits : OwnFits own) (refuser : ℕ) (s₀ : State) (nogood
           (seen-now : assignment view ≡ at (assignment s.view) k 0)
           (changed : (j : ℕ) → 1 ≤ j → j ≤ 16 → byte_of b j ≡ at (byte_of s.bars) k 0 j) where
         abbrev next : State
-        next =
-            record { value = s.value; last = s.last; stored = bit_and stored mask; listens = s.listens; informs = s.informs; view = view; bars = b }
+        next = record s { stored = bit_and stored mask; view = view; bars = b }
 
         kept : nogoods_of (bit_and stored mask) new ≡ (λ w. keeping k 0 (nogoods_of stored new w))
         kept =
@@ -255,9 +229,8 @@ module _ (own : Own) (fits : OwnFits own) (refuser : ℕ) (s₀ : State) (nogood
               goes_on =
                   rw (backs-more count backs whole (omega (arith, room, t.places)), the-post, n, forgets)
                   ((rw times at h.goes_on)
-                  ∙ turn-back (own.number - count - 1) (self_of own) bans refuser (agent_in s nogoods) (backs_from 0 count backs) (nogoods_of stored new)
-                  (chooses bans h.barring ∙ ap (λ (o : Option ℕ). record { value = o; nogoods = nogoods_of stored new }) (ap value_of none_free ∙ value_none))
-                  k (refuses-one own fits (assignment s.view) (nogoods_of stored new) c.coherent k top one));
+                  ∙ turn-back (own.number - count - 1) (self_of own) bans (refuser_of refuser) (agent_in s nogoods) (backs_from 0 count backs) (nogoods_of stored new)
+                  (chooses bans h.barring None none_free) k (named (Some k) one));
             }
 
         pub next-turn : whole < 2 ^ 64 → length new ≡ 8 → Turning own refuser s₀ nogoods₀ next new (set backs count whole) (count + 1)

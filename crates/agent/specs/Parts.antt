@@ -1,5 +1,5 @@
 -- What the parts of an agent's code compute or need, where the rules have no name for it. A primed name is the definitions'.
-use Rattle.std.specs.Prelude.{ℕ, ◌≤◌, ◌<◌, ◌≡◌, ◌≢◌, true, false, not, cond, ◌||◌, List, [], eqb, length}
+use Rattle.std.specs.Prelude.{ℕ, ◌≤◌, ◌<◌, ◌≡◌, true, false, not, cond, ◌||◌, List, [], eqb, length, Option as Option', Some, None}
 use Rattle.std.proofs.Math.Option.{Option, none, some}
 use Rattle.base.specs.Finite.{all_to}
 use Rattle.problem.specs.Problem.{max_agents}
@@ -20,7 +20,8 @@ use Rattle.agent.specs.declared.Agent.{Agent}
 use Rattle.agent.specs.declared.Posts.{Posts}
 use Rattle.agent.specs.declared.State.{State}
 use Rattle.agent.specs.declared.Step.{Step}
-use Rattle.agent.specs.declared.Taken.{Taken}
+use Rattle.agent.specs.declared.Todo.{Todo}
+use Rattle.agent.specs.declared.Todo.TheVariants.{Choose, Tell}
 use Rattle.agent.specs.declared.backing.Done.{Done}
 use Rattle.agent.specs.declared.receiving.Heard.{Heard}
 
@@ -79,31 +80,26 @@ pub record Sound (own : Own) (s : State) (nogoods : List ℕ) : Type 0 where
   pub coherent : Coherent own (assignment s.view) (nogoods_of s.stored nogoods)
   pub downward : Below own s.informs
 
--- the agent whose refusal is being worked, if there is one, is below
-abbrev pub Refuser : Own → ℕ → Type 0
-Refuser own refuser = refuser ≢ no_refuser → (own.number < refuser) × (refuser ≤ max_agents)
+-- the agent whose refusal is being worked, as the definitions have it
+abbrev pub refuser_of : Option' ℕ → ℕ
+refuser_of None = no_refuser
+refuser_of (Some k) = k
+
+-- .. if there is one, it is below
+abbrev pub Refuser : Own → Option' ℕ → Type 0
+Refuser own None = Unit {0}
+Refuser own (Some k) = (own.number < k) × (k ≤ max_agents)
 
 -- ---- choosing
 
--- the step that ends with value v, told to the agents of a set; 0 for the verdict
-abbrev pub ended : State → ℕ → ℕ → ℕ → ℕ → Done
-ended s v told links count =
-    record {
-      state =
-          record {
-            value = v;
-            last = cond (known v) v s.last;
-            stored = s.stored;
-            listens = s.listens;
-            informs = s.informs;
-            view = s.view;
-            bars = s.bars;
-          };
-      links = links;
-      told = told;
-      count = count;
-      verdict = not (known v);
-    }
+-- the step that ends with value v, told to the agents of a set
+abbrev pub has_taken : State → ℕ → ℕ → ℕ → ℕ → Done
+has_taken s v told links count =
+    record { state = record s { value = v; last = v }; links = links; told = told; count = count; verdict = false }
+
+-- .. and the one that ends with none, by the verdict
+abbrev pub has_failed : State → ℕ → ℕ → Done
+has_failed s links count = record { state = record s { value = 0 }; links = links; told = 0; count = count; verdict = true }
 
 -- ---- a changed view
 
@@ -121,12 +117,16 @@ listener s = agent_in s []
 abbrev pub Listening : State → Type 0
 Listening s = EachNamed (assignment s.view) (λ k v. members s.listens k ≡ true)
 
+-- what a left side that holds brings an agent
+pub record Brings (bans : Bans) (s : State) (lhs : Assignment) (h : Heard) : Type 0 where
+  pub links : (k : ℕ) → members h.links k ≡ unheard (listener s) lhs k
+  pub view : (k : ℕ) → assignment h.view k ≡ cond (unheard (listener s) lhs k) (lhs k) (assignment s.view k)
+  pub barring : Barring bans (assignment h.view) h.bars
+
 -- what a left side says to an agent
-pub record Hears (own : Own) (bans : Bans) (s : State) (lhs : Assignment) (h : Heard) : Type 0 where
-  pub holds : h.holds ≡ all_to (above (self_of own)) (matches (listener s) lhs)
-  pub links : h.holds ≡ true → (k : ℕ) → members h.links k ≡ unheard (listener s) lhs k
-  pub view : h.holds ≡ true → (k : ℕ) → assignment h.view k ≡ cond (unheard (listener s) lhs k) (lhs k) (assignment s.view k)
-  pub barring : h.holds ≡ true → Barring bans (assignment h.view) h.bars
+abbrev pub Hears : Own → Bans → State → Assignment → Option' Heard → Type 0
+Hears own bans s lhs None = all_to (above (self_of own)) (matches (listener s) lhs) ≡ false
+Hears own bans s lhs (Some h) = (all_to (above (self_of own)) (matches (listener s) lhs) ≡ true) × Brings bans s lhs h
 
 -- ---- a message taken in
 
@@ -138,18 +138,19 @@ pub record Handed (own : Own) (bans : List ℕ) (s : State) (nogoods : List ℕ)
   pub message : MessageFits any_value (self_of own) (agent_in s nogoods) from m
   pub barring : Barring (bans_in bans) (assignment s.view) s.bars
 
-unfoldable pub taken_as : Self → Bans → Taken → List ℕ → Step'
-taken_as s bans t nogoods =
-    elim t.chooses [
-      | true ↦ after (links_to t.links) (check_view s bans t.refuser (agent_in t.state nogoods))
-      | false ↦ quiet (agent_in t.state nogoods) (news_to t.state.value t.told)
-    ]
+-- what is left to do, done
+abbrev pub done_as : Self → Bans → State → Todo → List ℕ → Step'
+done_as s bans a (Choose links refuser) nogoods = after (links_to links) (check_view s bans (refuser_of refuser) (agent_in a nogoods))
+done_as s bans a (Tell told) nogoods = quiet (agent_in a nogoods) (news_to a.value told)
+
+-- whom it speaks of
+abbrev pub Addresses : Own → Todo → Type 0
+Addresses own (Choose links refuser) = Above own links × Refuser own refuser
+Addresses own (Tell told) = Below own told
 
 -- the step that the rules give is what is left to do
-pub record Takes (own : Own) (bans : Bans) (t : Taken) (nogoods : List ℕ) (step : Step') : Type 0 where
-  pub taken : taken_as (self_of own) bans t nogoods ≡ step
-  pub sound : Sound own t.state nogoods
-  pub barring : Barring bans (assignment t.state.view) t.state.bars
-  pub links : Above own t.links
-  pub refuser : Refuser own t.refuser
-  pub told : Below own t.told
+pub record Takes (own : Own) (bans : Bans) (s : State) (todo : Todo) (nogoods : List ℕ) (step : Step') : Type 0 where
+  pub taken : done_as (self_of own) bans s todo nogoods ≡ step
+  pub sound : Sound own s nogoods
+  pub barring : Barring bans (assignment s.view) s.bars
+  pub addresses : Addresses own todo

@@ -8,6 +8,7 @@ use Rattle.agent_rules.specs.Choosing.{refusing}
 use Rattle.agent_rules.specs.Shape.{max_named, EachIn}
 use Rattle.packed.specs.Packed.{assignment, members, number_of}
 use Rattle.agent.specs.Abstract.{agent_of}
+use Rattle.agent.specs.declared.Letters.{Letters}
 use Rattle.agent.specs.declared.Posts.{Posts}
 use Rattle.agent.specs.declared.Step.{Step}
 
@@ -41,6 +42,9 @@ backs_from next count backs = map back_of (drop next (take count backs))
 -- link requests, then Backs, then Infos
 unfoldable pub posts_left : Posts → List ℕ → List Post'
 posts_left p backs = links_to p.links ++ backs_from p.next p.count backs ++ news_to p.value p.told
+
+abbrev pub letters_left : Letters → List Post'
+letters_left l = posts_left l.posts l.backs.now
 
 unfoldable pub none_left : Posts → Bool
 none_left p = eqb p.links 0 && eqb p.told 0 && eqb p.next p.count

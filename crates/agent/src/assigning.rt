@@ -5,7 +5,7 @@ ghost use Rattle.agent.specs.Abstract.{unpacked};
 use crate::{Carried, Lhs};
 
 impl Lhs {
-    // As a message carries it.
+    // As a message carries it. Only a short one can be carried, so it is no `From`, and `unpack` stays its counterpart.
     pub(crate) fn pack(self) -> Carried
         requires { self.digits < 281474976710656 }
         ensures { unpacked result ≡ self.digits }

@@ -17,17 +17,18 @@ mod counting;
 mod posting;
 mod receiving;
 
+use crate::backing::Done;
 use choosing::{Bars, Own};
 
 // A packed partial assignment: digit k - 1 in base 16 is the value of agent k, 0 where it is unknown or not named. A view, or the left side of
 // a nogood.
-#[derive(Clone, Copy)]
+#[derive(Clone, Copy, Debug, PartialEq, Eq)]
 pub struct Lhs {
     pub digits: u64,
 }
 
 // A left side as a message carries it: its twelve digits, four to a word, agents 1 to 4 in `low`.
-#[derive(Clone, Copy)]
+#[derive(Clone, Copy, Debug, PartialEq, Eq)]
 pub struct Carried {
     pub low: u16,
     pub middle: u16,
@@ -35,7 +36,7 @@ pub struct Carried {
 }
 
 // A message is exactly one of three: news, refusal (the refused value and the left side), link request.
-#[derive(Clone, Copy)]
+#[derive(Clone, Copy, Debug, PartialEq, Eq)]
 pub enum Message {
     Info(u8),
     Back(u8, Carried),
@@ -43,7 +44,7 @@ pub enum Message {
 }
 
 // How many messages of each sort. A count stays at the top, the greatest number of 64 bits, when it reaches it.
-#[derive(Clone, Copy)]
+#[derive(Clone, Copy, Debug, PartialEq, Eq)]
 pub struct Counts {
     pub infos: u64,
     pub backs: u64,
@@ -52,8 +53,8 @@ pub struct Counts {
 
 // Bit k - 1 of `listens` and `informs` is agent k. Bit v - 1 of `stored` says whether own value v has a stored reason (nogood): the left side
 // whose digits stand at place v - 1 of `nogoods`. An empty left side is a reason too. `last` is the last value that it took, whether it still
-// holds it or not. The messages that it sent and received are counted.
-#[derive(Clone, Copy)]
+// holds it or not; both are 0 where there is none, as in the rules' record and in an image. The messages that it sent and received are counted.
+#[derive(Clone, Copy, Debug, PartialEq, Eq)]
 pub struct Agent {
     pub value: u8,
     pub last: u8,
@@ -67,7 +68,7 @@ pub struct Agent {
 }
 
 // A message and who gets it.
-#[derive(Clone, Copy)]
+#[derive(Clone, Copy, Debug, PartialEq, Eq)]
 pub struct Post {
     pub to: u8,
     pub message: Message,
@@ -75,7 +76,7 @@ pub struct Post {
 
 // The posts that are left of what a step sends, in order: link requests to the agents of the set `links`, upward; the Backs from place `next` on, up to
 // `count`; an Info of `value` to the agents of the set `told`, upward.
-#[derive(Clone, Copy)]
+#[derive(Clone, Copy, Debug, PartialEq, Eq)]
 pub struct Posts {
     pub links: u16,
     pub told: u16,
@@ -84,9 +85,16 @@ pub struct Posts {
     pub count: u8,
 }
 
+// What is left of what a step sends, with the words of its Backs, to be gone through in order: `for post in step.letters()`.
+#[derive(Clone, Debug, Drop)]
+pub struct Letters<'a> {
+    pub posts: Posts,
+    pub backs: &'a [u64; 11],
+}
+
 // The agent handed back changed, with what it sends, what its view bars now, and whether the verdict "none" fell. A Back stands in `backs` as the whole
 // nogood, packed: it goes to the highest-numbered agent that it names.
-#[derive(Clone, Copy)]
+#[derive(Clone, Copy, Debug, PartialEq, Eq)]
 pub struct Step {
     pub agent: Agent,
     pub posts: Posts,
@@ -107,15 +115,12 @@ struct State {
     pub bars: Bars,
 }
 
-// An agent with a message taken in. Either it has to choose, after link requests to the agents of the set `links`, `refuser` being the agent
-// whose refusal is worked, 0 where none is; or it is done, with an Info of its value to the agents of the set `told`.
+// What an agent has left to do where a message is taken in: to choose, after link requests to the agents of the set `links`, `refuser` being the agent
+// whose refusal is worked, if one is; or to tell its value to the agents of a set.
 #[derive(Clone, Copy)]
-struct Taken {
-    pub state: State,
-    pub chooses: bool,
-    pub links: u16,
-    pub refuser: u8,
-    pub told: u16,
+enum Todo {
+    Choose { links: u16, refuser: Option<u8> },
+    Tell(u16),
 }
 
 impl Agent {
@@ -130,7 +135,7 @@ impl Agent {
             listens: self.listens,
             informs: self.informs,
             view: self.view.digits,
-            bars: bars,
+            bars,
         }
     }
 
@@ -146,7 +151,7 @@ impl Agent {
         let mut backs = [0u64; 11];
         let s = self.apart(bars);
         let received = self.received.handed(m);
-        let t = match m {
+        let (state, todo) = match m {
             Message::Info(v) => s.on_info(own, &nogoods, bans, from, v),
             Message::Back(v, lhs) => s.on_back(
                 own,
@@ -158,37 +163,56 @@ impl Agent {
             ),
             Message::AddLink => s.on_add_link(own, from),
         };
-        let state = t.state;
-        let mut done = state.telling(t.told);
-        if t.chooses {
-            done = state.settle(own, &mut nogoods, &mut backs, t.links, t.refuser);
-        }
-        let end = done.state;
-        let now = end.bars;
+        let done = match todo {
+            Todo::Choose { links, refuser } => state.settle(
+                own,
+                &mut nogoods,
+                &mut backs,
+                links,
+                refuser,
+            ),
+            Todo::Tell(told) => state.telling(told),
+        };
+        let Done {
+            state,
+            links,
+            told,
+            count,
+            verdict,
+        } = done;
+        let State {
+            value,
+            last,
+            stored,
+            listens,
+            informs,
+            view,
+            bars,
+        } = state;
         let posts = Posts {
-            links: done.links,
-            told: done.told,
-            value: end.value,
+            links,
+            told,
+            value,
             next: 0,
-            count: done.count,
+            count,
         };
         let sent = self.sent.posted(posts);
         Step {
             agent: Agent {
-                value: end.value,
-                last: end.last,
-                stored: end.stored,
-                listens: end.listens,
-                informs: end.informs,
-                view: Lhs { digits: end.view },
-                nogoods: nogoods,
-                sent: sent,
-                received: received,
+                value,
+                last,
+                stored,
+                listens,
+                informs,
+                view: Lhs { digits: view },
+                nogoods,
+                sent,
+                received,
             },
-            posts: posts,
-            backs: backs,
-            bars: now,
-            verdict: done.verdict,
+            posts,
+            backs,
+            bars,
+            verdict,
         }
     }
 
@@ -215,8 +239,8 @@ impl Agent {
             value: 1,
             last: 1,
             stored: 0,
-            listens: listens,
-            informs: informs,
+            listens,
+            informs,
             view: Lhs { digits: 0 },
             nogoods: [0; 8],
             sent: none.posted(news),

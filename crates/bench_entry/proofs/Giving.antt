@@ -1,7 +1,7 @@
 -- The numbers of decoding, of the start and of a run: where the sheet is refused, and where it is not.
+use Rattle.std.specs.Prelude.{Ok, Err}
 use Prim.Native.Nat.{ℕ, zero, suc, ◌+◌, ◌*◌, ◌%◌, ◌^◌, ◌≤◌, ◌<◌}
 use mathlib.Core.Path.{◌≡◌, refl, sym, ap, ◌∙◌}
-use mathlib.Core.Logic.{◌≢◌}
 use mathlib.Core.Bool.{true, false}
 use mathlib.Core.List.{List, map}
 use native.Mathlib.Nat.{pow-le-pow_right, pow-suc}
@@ -12,7 +12,6 @@ use Rattle.base.specs.Finite.{from_one}
 use Rattle.base.proofs.Tests.{test}
 use Rattle.base.proofs.Arrays.{get_or-below, get_d_past}
 use Rattle.problem.specs.Sheet.{Decoded, Valid, Invalid, decode}
-use Rattle.problem.proofs.Checks.{fault-some}
 use Rattle.agent_rules.specs.Message.{nobody}
 use Rattle.agent_rules.specs.Agent.{Agent as Agent', unused_agent}
 use Rattle.protocol.specs.Network.{Network as Network', Started, start_sheet}
@@ -21,7 +20,13 @@ use Rattle.packed.specs.Packed.{assignment}
 use Rattle.packed.proofs.Digits.{nobody-assigned}
 use Rattle.agent.specs.declared.Agent.{Agent}
 use Rattle.agent.specs.Abstract.{counts_of, agent_of}
-use Rattle.sheet.specs.Abstract.{Outcome, outcome}
+use Rattle.refusals.specs.Refusals.{refusal_number}
+use Rattle.refusals.specs.declared.Refusal.{Refusal}
+use Rattle.refusals.proofs.Numbers.{refusal-some}
+use Rattle.sheet.specs.declared.Problem.{Problem}
+use Rattle.sheet.specs.Abstract.{problem_of, Outcome, outcome, outcome_of}
+use Rattle.sheet.proofs.Outcomes.{accepted}
+use Rattle.start.specs.Started.{StartsAs}
 use Rattle.network.specs.declared.Network.{Network}
 use Rattle.network.specs.Abstract.{is_channel, row_of, agents_of, network_of}
 use Rattle.clauses.proofs.Numbering.{ends}
@@ -34,34 +39,35 @@ use Rattle.bench_entry.specs.Giving.{word_for, WaitsFor, ending_digit, values_to
 
 -- ---- decoding
 
-fault-on : (d : Decoded) (word : ℕ) → (outcome d).number ≢ 0 → (outcome d).number ≡ word_for d word
-unfolding outcome word_for
-fault-on (Valid p) word n = absurd (n refl)
-fault-on (Invalid f) word n = refl
+module _ (sheet : List ℕ) (word : ℕ) where
+  pub fault-given : (e : Refusal) → outcome_of (Err e) ≡ outcome (decode sheet) → refusal_number e ≡ word_for (decode sheet) word
+  unfolding outcome_of outcome word_for
+  fault-given e o = go (decode sheet) o
+    where
+      go : (d : Decoded) → outcome_of (Err e) ≡ outcome d → refusal_number e ≡ word_for d word
+      go (Valid p) o = absurd (refusal-some e (ap (λ (x : Outcome). x.number) o))
+      go (Invalid f) o = ap (λ (x : Outcome). x.number) o
 
-word_on : (d : Decoded) (word : ℕ) → (outcome d).number ≡ 0 → get_or (outcome d).problem.bans word 0 ≡ word_for d word
-unfolding outcome word_for
-word_on (Valid p) word e = refl
-word_on (Invalid f) word e = absurd (fault-some f e)
+  pub word-given : (p : Problem) → outcome_of (Ok p) ≡ outcome (decode sheet) → get_or p.bans word 0 ≡ word_for (decode sheet) word
+  unfolding word_for problem_of
+  word-given p o = rw (accepted (decode sheet) p o)
 
-module _ (sheet : List ℕ) (o : Outcome) (e : o ≡ outcome (decode sheet)) (word : ℕ) where
-  pub fault-given : o.number ≢ 0 → o.number ≡ word_for (decode sheet) word
-  fault-given n = rw e (fault-on (decode sheet) word (rw e at n))
-
-  pub word-given : o.number ≡ 0 → get_or o.problem.bans word 0 ≡ word_for (decode sheet) word
-  word-given z = rw e (word_on (decode sheet) word (rw e at z))
-
-  pub no-word-given : o.number ≡ 0 → length o.problem.bans ≤ word → 0 ≡ word_for (decode sheet) word
-  no-word-given z h = sym (get_d_past o.problem.bans word 0 h) ∙ word-given z
+  pub no-word-given : (p : Problem) → outcome_of (Ok p) ≡ outcome (decode sheet) → length p.bans ≤ word → 0 ≡ word_for (decode sheet) word
+  no-word-given p o h = sym (get_d_past p.bans word 0 h) ∙ word-given p o
 
 -- ---- the start
 
-module _ (rule : ℕ) (sheet : List ℕ) (o : Network) (sender : ℕ) (accepted : (start_sheet rule sheet).number ≡ 0) (e : network_of o ≡ (start_sheet rule sheet).network) where
+-- a refused start
+pub refused-start : (rule : ℕ) (sheet : List ℕ) (sender : ℕ) (e : Refusal) → StartsAs (start_sheet rule sheet) (Err e)
+    → WaitsFor rule sheet sender (refusal_number e)
+refused-start rule sheet sender e s = record { refused = λ _. s.number; waits = λ z. absurd (refusal-some e (s.number ∙ z)) }
+
+module _ (rule : ℕ) (sheet : List ℕ) (o : Network) (sender : ℕ) (s : StartsAs (start_sheet rule sheet) (Ok o)) where
   held : (j : ℕ) → held_at o.counts (suc sender) j ≡ length ((start_sheet rule sheet).network.channel (suc sender) j)
-  held j = sym (channel-held o (suc sender) j) ∙ ap (λ (w : Network'). length (w.channel (suc sender) j)) e
+  held j = sym (channel-held o (suc sender) j) ∙ ap (λ (w : Network'). length (w.channel (suc sender) j)) s.network
 
   pub row-given : (r : ℕ) → ((j : ℕ) → assignment r j ≡ held_at o.counts (suc sender) j) → WaitsFor rule sheet sender r
-  row-given r h = record { refused = λ n. absurd (n accepted); waits = λ _ j. h j ∙ held j }
+  row-given r h = record { refused = λ n. absurd (n (sym s.number)); waits = λ _ j. h j ∙ held j }
 
 -- a sender's row, less what is no channel's
 pub row-held : (counts : List ℕ) (sender j : ℕ)
@@ -110,16 +116,16 @@ digit-few Jammed = omega arith
 digit-few Open = omega arith
 digit-few Broken = omega arith
 
-pub refused-given : (s : Started) (rounds : ℕ) → s.number ≢ 0 → 8 + s.number ≡ settled_for s rounds
+pub refused-given : (s : Started) (rounds : ℕ) (e : Refusal) → StartsAs s (Err e) → 8 + refusal_number e ≡ settled_for s rounds
 unfolding settled_for
-refused-given s rounds n = rw (ne_eqb s.number 0 n, settled_for)
+refused-given s rounds e q = rw (q.number, ne_eqb s.number 0 (λ z. refusal-some e (q.number ∙ z)), settled_for)
 
-pub run-given : (s : Started) (rounds : ℕ) (r : Network) (a : Answer) (values : ℕ) → s.number ≡ 0 → network_of r ≡ s.network
+pub run-given : (s : Started) (rounds : ℕ) (r : Network) (a : Answer) (values : ℕ) → StartsAs s (Ok r)
     → RunsAs r (run rounds (network_of r)) a → values ≡ values_to 12 (network_of a.network)
     → (values * 1048576 + a.rounds % 1048576) * 16 + ending_digit (ending_of a.ending) ≡ settled_for s rounds
 unfolding settled_for ran_for
-run-given s rounds r a values z e x v =
-    rw (eq-eqb s.number 0 z, settled_for, v, x.network, x.rounds, x.ending, e)
+run-given s rounds r a values q x v =
+    rw (eq-eqb s.number 0 (sym q.number), settled_for, v, x.network, x.rounds, x.ending, q.network)
 
 -- ---- counts
 

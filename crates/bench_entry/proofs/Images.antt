@@ -1,12 +1,12 @@
 -- What is read of an image, one agent more at a time; and one more write of a network into the same buffer.
 use Prim.Native.Nat.{ℕ, suc, ◌+◌, ◌*◌, ◌%◌, ◌<◌}
-use mathlib.Core.Path.{◌≡◌, ap, ◌∙◌}
-use mathlib.Core.Logic.{◌≢◌}
+use Rattle.std.specs.Prelude.{Result, Ok, Err}
+use mathlib.Core.Path.{◌≡◌, refl, sym, ap, ◌∙◌}
 use mathlib.Core.List.{List}
 use mir.Val.{bool_byte}
 use lib.ListN.{length, get_or}
-use borrow.Author.Tests.{eq-eqb, ne_eqb}
-use Rattle.base.specs.Lent.{Written as Written'}
+use borrow.Author.Tests.{ne_eqb}
+use Rattle.base.specs.Lent.{Written as Written', untouched}
 use Rattle.protocol.specs.Network.{Network as Network'}
 use Rattle.packed.proofs.Masks.{byte_of}
 use Rattle.image_format.specs.Image.{byte_for}
@@ -17,9 +17,13 @@ use Rattle.agent.specs.declared.Agent.{Agent}
 use Rattle.agent.specs.Abstract.{agent_of}
 use Rattle.network.specs.declared.Network.{Network}
 use Rattle.network.specs.Abstract.{problem_of, network_of}
-use Rattle.lent.specs.declared.Written.{Written}
+use Rattle.refusals.specs.Refusals.{refusal_number}
+use Rattle.refusals.specs.declared.Refusal.{Refusal}
+use Rattle.refusals.proofs.Numbers.{refusal-some}
+use Rattle.start.specs.Started.{started_number, started_network}
+use Rattle.image_reader.specs.Loaded.{loaded_of}
 use Rattle.lent.specs.Abstract.{written_of}
-use Rattle.bench_entry.specs.Giving.{agent_mixed, read_to, read_for, written_to, length_for, WritesFor, MovesFor}
+use Rattle.bench_entry.specs.Giving.{agent_mixed, read_to, read_for, written_to, length_for, length_given, WritesFor, MovesFor}
 use Rattle.bench_entry.proofs.Giving.{agent-at}
 
 -- ---- reading
@@ -28,53 +32,61 @@ pub none_read : (r : Network) → (r.count * 31 + r.rule) * 31 + bool_byte r.ver
 unfolding read_to network_of problem_of byte_for
 none_read r = rw (byte_of r.verdict)
 
-pub one-read : (r : Network) (k sum : ℕ) (d : Agent) → k < length r.agents → sum ≡ read_to k (network_of r)
-    → agent_mixed sum (agent_of (get_or r.agents k d)) ≡ read_to (suc k) (network_of r)
+pub one-read : (r : Network) (agents : List Agent) (k sum : ℕ) (d : Agent) → r.agents ≡ agents → k < length agents → sum ≡ read_to k (network_of r)
+    → agent_mixed sum (agent_of (get_or agents k d)) ≡ read_to (suc k) (network_of r)
 unfolding read_to
-one-read r k sum d h e = rw (agent-at r k d h, e)
+one-read r agents k sum d q h e = rw (← q, agent-at r k d (rw q h), e)
 
 pub all_read : (l : Loaded) (r : Network) (number sum : ℕ) → number ≡ l.number → network_of r ≡ l.network → sum ≡ read_to 12 (network_of r)
     → sum % 4294967296 * 16 + number ≡ read_for l
 unfolding read_for
 all_read l r number sum n e s = rw (s, n, e)
 
+-- what is loaded, as a network and a number
+pub loaded-network : (r : Result Network Refusal) (l : Loaded) → loaded_of r ≡ l → started_network r ≡ l.network
+unfolding loaded_of
+loaded-network (Ok r) l e = ap (λ (x : Loaded). x.network) e
+loaded-network (Err r) l e = ap (λ (x : Loaded). x.network) e
+
+pub loaded-number : (r : Result Network Refusal) (l : Loaded) → loaded_of r ≡ l → started_number r ≡ l.number
+unfolding loaded_of
+loaded-number (Ok r) l e = ap (λ (x : Loaded). x.number) e
+loaded-number (Err r) l e = ap (λ (x : Loaded). x.number) e
+
 -- ---- writing
 
-pub one_written : (form : Form) (w : Network') (before buffer after : List ℕ) (k : ℕ) (x y : Written) → written_of x buffer ≡ written_to form k w before
+-- what a writer answers comes to this buffer, and to this number
+buffer-of : (x : Result ℕ Refusal) (buffer : List ℕ) → (written_of x buffer).buffer ≡ buffer
+unfolding written_of untouched
+buffer-of (Ok n) buffer = refl
+buffer-of (Err e) buffer = refl
+
+length-is : (x : Result ℕ Refusal) (buffer : List ℕ) → length_given x ≡ length_for (written_of x buffer)
+unfolding written_of untouched length_for
+length-is (Ok n) buffer = refl
+length-is (Err e) buffer = rw (ne_eqb (refusal_number e) 0 (refusal-some e), length_for)
+
+pub none_written : (form : Form) (w : Network') (before : List ℕ) → written_of (Ok 0) before ≡ written_to form 0 w before
+unfolding written_of written_to untouched
+none_written form w before = refl
+
+pub one_written : (form : Form) (w : Network') (before buffer after : List ℕ) (k : ℕ) (x y : Result ℕ Refusal) → written_of x buffer ≡ written_to form k w before
     → written_of y after ≡ store form w buffer → written_of y after ≡ written_to form (suc k) w before
-unfolding written_to written_of
-one_written form w before buffer after k x y e s = s ∙ ap (λ (v : Written'). store form w v.buffer) e
+unfolding written_to
+one_written form w before buffer after k x y e s =
+    s ∙ ap (store form w) (sym (buffer-of x buffer)) ∙ ap (λ (v : Written'). store form w v.buffer) e
 
-refused-by : (x : Written') → x.number ≢ 0 → x.number ≡ length_for x
-unfolding length_for
-refused-by x n = rw (ne_eqb x.number 0 n, length_for)
-
-length-by : (x : Written') → x.number ≡ 0 → x.length ≡ length_for x
-unfolding length_for
-length-by x z = rw (eq-eqb x.number 0 z, length_for)
-
-module _ (form : Form) (w v : Network') (before after : List ℕ) (times : ℕ) (x : Written) (e : written_of x after ≡ written_to form times v before) (n : v ≡ w) where
-  pub write-refused : x.number ≢ 0 → WritesFor form w times before x.number after
-  unfolding written_of
-  write-refused r =
-      rw (← n)
-      (record { answer = refused-by (written_of x after) r ∙ ap length_for e; buffer = ap (λ (y : Written'). y.buffer) e })
-
-  pub write-length : x.number ≡ 0 → WritesFor form w times before x.length after
-  unfolding written_of
-  write-length z =
-      rw (← n)
-      (record { answer = length-by (written_of x after) z ∙ ap length_for e; buffer = ap (λ (y : Written'). y.buffer) e })
+pub writes : (form : Form) (w v : Network') (before after : List ℕ) (times : ℕ) (x : Result ℕ Refusal) → written_of x after ≡ written_to form times v before
+    → v ≡ w → WritesFor form w times before (length_given x) after
+writes form w v before after times x e n =
+    rw (← n)
+    (record {
+      answer = length-is x after ∙ ap length_for e;
+      buffer = sym (buffer-of x after) ∙ ap (λ (y : Written'). y.buffer) e;
+    })
 
 -- ---- moving
 
-module _ (after : List ℕ) (x : Written) (y : Written') (e : written_of x after ≡ y) where
-  pub move-refused : x.number ≢ 0 → MovesFor y x.number after
-  unfolding written_of
-  move-refused r =
-      record { answer = refused-by (written_of x after) r ∙ ap length_for e; buffer = ap (λ (z : Written'). z.buffer) e }
-
-  pub move-length : x.number ≡ 0 → MovesFor y x.length after
-  unfolding written_of
-  move-length z =
-      record { answer = length-by (written_of x after) z ∙ ap length_for e; buffer = ap (λ (z : Written'). z.buffer) e }
+pub moves : (x : Result ℕ Refusal) (after : List ℕ) (y : Written') → written_of x after ≡ y → MovesFor y (length_given x) after
+moves x after y e =
+    record { answer = length-is x after ∙ ap length_for e; buffer = sym (buffer-of x after) ∙ ap (λ (z : Written'). z.buffer) e }

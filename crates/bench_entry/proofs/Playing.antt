@@ -1,6 +1,10 @@
 -- Deliveries through the public entry, one more at a time, and then the values.
 use Prim.Native.Nat.{ℕ, suc, ◌+◌, ◌*◌, ◌%◌}
-use mathlib.Core.Path.{◌≡◌, ap, ◌∙◌}
+use Rattle.std.specs.Prelude.{Result, Ok, Err}
+use Rattle.std.specs.Result.{result_unwrap_or}
+use mathlib.Core.Path.{◌≡◌, refl, ap, ◌∙◌}
+use Rattle.refusals.specs.declared.Refusal.{Refusal}
+use Rattle.network.specs.Asked.{asked_value}
 use mathlib.Core.List.{List}
 use lib.ListN.{get_or}
 use Rattle.protocol.specs.Network.{Network as Network', Started}
@@ -26,6 +30,11 @@ one-played s calls k r o sum number p d =
 
 pub all-played : (s : Started) (calls : List ℕ) (k n : ℕ) (r : Network) (total : ℕ) → Playing s calls k r total → k ≡ n → Playing s calls n r total
 all-played s calls k n r total p e = rw (← e) p
+
+-- the value asked, 0 where it is refused
+pub value-or : (r : Result ℕ Refusal) → result_unwrap_or r 0 ≡ asked_value r
+value-or (Ok v) = refl
+value-or (Err e) = refl
 
 pub one-asked : (w : Network') (k all sum value : ℕ) → sum ≡ asked_to k w all → value ≡ (ask_value w k).value
     → sum % 4294967296 * 31 + value ≡ asked_to (suc k) w all

@@ -1,6 +1,8 @@
 -- What the entries give: numbers made of what the definitions work out, all that is made of it in one number.
-use Rattle.std.specs.Prelude.{ℕ, zero, suc, ◌+◌, ◌*◌, ◌%◌, ◌≡◌, Bool, true, false, List, eqb, ltb, length, get_or}
+use Rattle.std.specs.Prelude.{ℕ, zero, suc, ◌+◌, ◌*◌, ◌%◌, ◌≡◌, Bool, true, false, List, eqb, ltb, length, get_or, Result, Ok, Err}
 use Rattle.problem.specs.Sheet.{fault_number, Decoded, Valid, Invalid}
+use Rattle.refusals.specs.Refusals.{refusal_number}
+use Rattle.refusals.specs.declared.Refusal.{Refusal}
 use Rattle.base.specs.Lent.{Written, untouched}
 use Rattle.agent_rules.specs.Counts.{Sort, Infos, Backs, AddLinks, Counts}
 use Rattle.agent_rules.specs.Agent.{Agent}
@@ -127,6 +129,11 @@ written_to form (suc k) w buffer = store form w (written_to form k w buffer).buf
 -- the length written, or the number that refuses
 unfoldable pub length_for : Written → ℕ
 length_for x = elim (eqb x.number 0) [ true ↦ x.length | false ↦ x.number ]
+
+-- .. as the code answers it
+abbrev pub length_given : Result ℕ Refusal → ℕ
+length_given (Ok n) = n
+length_given (Err e) = refusal_number e
 
 -- the last answer, and the buffer as it is left
 pub record WritesFor (form : Form) (w : Network) (times : ℕ) (before : List ℕ) (r : ℕ) (after : List ℕ) : Type 0 where

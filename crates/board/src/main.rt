@@ -1,7 +1,7 @@
 // Steps a network call by call and draws it: `board [--rule N] SHEET [CALL ..]`, `board --image IMAGE [CALL ..]`.
 #![tactic(auto)]
 
-use board_text::options::{Options, goes_on, no_options, opens, option, put_unopened};
+use board_text::options::{Options, goes_on, no_options, opens, option, put_unopened, rule_of};
 use board_text::{Begun, Stepped, begin, begin_image, call};
 use std::rt::{Env, Files};
 use tool::{LONGEST_ARGUMENT, argument, argument_count, read_file};
@@ -13,58 +13,50 @@ use words::printing::Out;
 fn call_at(rt: &impl Env, s: Stepped, i: usize) -> Stepped {
     let mut word = [0u8; LONGEST_ARGUMENT];
     let n = argument(rt, i, &mut word);
-    let out = s.out;
-    let d = s.dispatcher;
-    call(out, d, &word[..n])
+    call(s.out, s.dispatcher, &word[..n])
 }
 
 // The calls from argument `first` on, as long as what they print can be written.
 fn calls(rt: &impl Env, stepped: Stepped, first: usize) {
     let mut s = stepped;
-    let end = argument_count(rt);
-    let mut i = first;
-    while i < end {
+    for i in first..argument_count(rt) {
         if s.out.failed {
             return;
         }
         s = call_at(rt, s, i);
-        i += 1;
     }
 }
 
 // The start of a sheet by the rule, or the network of an image.
 fn begun(o: Options, bytes: &[u8]) -> Begun {
     if o.image {
-        return begin_image(Out::new(), bytes);
+        begin_image(Out::new(), bytes)
+    } else {
+        begin(Out::new(), rule_of(o), bytes)
     }
-    begin(Out::new(), o.rule, bytes)
 }
 
 // The calls, where the file is not refused.
 fn play(rt: &impl Env, o: Options, bytes: &[u8], first: usize) {
     let b = begun(o, bytes);
-    if b.number != 0 {
-        return;
+    if let Ok(dispatcher) = b.dispatcher {
+        let begun = Stepped {
+            dispatcher,
+            out: b.out,
+        };
+        calls(rt, begun, first);
     }
-    let d = b.dispatcher;
-    let out = b.out;
-    let s = Stepped {
-        dispatcher: d,
-        out: out,
-    };
-    calls(rt, s, first);
 }
 
 // One byte beyond the longest sheet tells that the file is too long; no image is as long.
 fn open_and_play(rt: &(impl Env + Files), o: Options, name: &[u8], first: usize) {
     let mut bytes = [0u8; 33817];
-    let file = read_file(rt, name, &mut bytes);
-    if !file.good {
-        Out::new().put(b"cannot read ").put(name).put(b"\n");
-        return;
+    match read_file(rt, name, &mut bytes) {
+        Some(n) => play(rt, o, &bytes[..n], first),
+        None => {
+            Out::new().put(b"cannot read ").put(name).put(b"\n");
+        }
     }
-    let n = file.length;
-    play(rt, o, &bytes[..n], first);
 }
 
 // ---- the words in front of the calls
@@ -81,23 +73,21 @@ fn follow(rt: &(impl Env + Files), o: Options, i: usize, first: usize) {
     let n = argument(rt, i, &mut word);
     if opens(o) {
         open_and_play(rt, o, &word[..n], first);
-        return;
+    } else {
+        put_unopened(Out::new(), o, &word[..n]);
     }
-    put_unopened(Out::new(), o, &word[..n]);
 }
 
 // The options are read, up to the file, to a word that is not understood or to the end.
 fn main(rt: HostRuntime) {
     let end = argument_count(&rt);
     let mut o = no_options(true);
-    let mut i: usize = 1;
-    while i < end {
+    for i in 1..end {
         o = option_at(&rt, o, i);
         if !goes_on(o) {
             follow(&rt, o, i, i + 1);
             return;
         }
-        i += 1;
     }
     follow(&rt, o, end, end);
 }

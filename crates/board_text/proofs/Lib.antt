@@ -1,4 +1,3 @@
 mod Spelling
-mod Words
-mod Above
+mod Lines
 pub mod Capped

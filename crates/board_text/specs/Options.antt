@@ -1,30 +1,31 @@
 -- What the words of the command line in front of the calls come to, one by one: options, and behind them the file. `--rule N` gives the rule, N 0 to 255;
 -- `--image` says that the file is an image, `--small` that an image is to be written in the second form.
-use Rattle.std.specs.Prelude.{ℕ, Bool, true, false, not, ◌&&◌, ◌||◌, List, [], ◌∷◌, eqb, get_or}
+use Rattle.std.specs.Prelude.{ℕ, Bool, true, false, not, ◌&&◌, ◌||◌, List, [], ◌∷◌, Option, Some, None, is_some, unwrap_or, eqb, get_or}
 use Rattle.base.specs.Same.{same_numbers}
 use Rattle.protocol.specs.Network.{is_rule}
-use Rattle.numerals.specs.declared.Number.{Number}
-use Rattle.numerals.specs.declared.Number.TheVariants.{Of, Nothing}
-use Rattle.numerals.specs.Reading.{number_in}
 use Rattle.board_text.specs.declared.options.Stage.{Stage}
 use Rattle.board_text.specs.declared.options.Stage.TheVariants.{Words, Awaits, File, Wrong}
 use Rattle.board_text.specs.declared.options.Kind.{Kind}
 use Rattle.board_text.specs.declared.options.Kind.TheVariants.{Rule, Image, Small, Unknown, File as FileName}
 use Rattle.board_text.specs.declared.options.Options.{Options}
-use Rattle.board_text.specs.Reading.{is_byte}
+use Rattle.board_text.specs.Reading.{byte_in}
 
--- rule 1 where no option says another; only a program that draws is told of images, and only one that does not draw of their form
+-- only a program that draws is told of images, and only one that does not draw of their form
 unfoldable pub no_options : Bool → Options
-no_options draws = record { draws = draws; rule = 1; ruled = false; image = false; small = false; stage = Words }
+no_options draws = record { draws = draws; rule = None; image = false; small = false; stage = Words }
+
+-- rule 1 where no option says another
+abbrev pub rule_of : Options → ℕ
+rule_of o = unwrap_or o.rule 1
 
 abbrev pub with_stage : Options → Stage → Options
-with_stage o stage = record { draws = o.draws; rule = o.rule; ruled = o.ruled; image = o.image; small = o.small; stage = stage }
+with_stage o stage = record { draws = o.draws; rule = o.rule; image = o.image; small = o.small; stage = stage }
 
 abbrev pub with_image : Options → Options
-with_image o = record { draws = o.draws; rule = o.rule; ruled = o.ruled; image = true; small = o.small; stage = Words }
+with_image o = record { draws = o.draws; rule = o.rule; image = true; small = o.small; stage = Words }
 
 abbrev pub with_small : Options → Options
-with_small o = record { draws = o.draws; rule = o.rule; ruled = o.ruled; image = o.image; small = true; stage = Words }
+with_small o = record { draws = o.draws; rule = o.rule; image = o.image; small = true; stage = Words }
 
 -- the letters of `--rule`
 unfoldable pub rule_option : List ℕ
@@ -54,24 +55,20 @@ kind_of word =
 
 -- the second of `--rule` and `--image` is not understood, nor is a second `--small`
 unfoldable pub with_kind : Options → Kind → Options
-with_kind o Rule = elim (o.ruled || o.image) [ true ↦ with_stage o Wrong | false ↦ with_stage o Awaits ]
-with_kind o Image = elim (o.ruled || o.image || not o.draws) [ true ↦ with_stage o Wrong | false ↦ with_image o ]
+with_kind o Rule = elim (is_some o.rule || o.image) [ true ↦ with_stage o Wrong | false ↦ with_stage o Awaits ]
+with_kind o Image = elim (is_some o.rule || o.image || not o.draws) [ true ↦ with_stage o Wrong | false ↦ with_image o ]
 with_kind o Small = elim (o.small || o.draws) [ true ↦ with_stage o Wrong | false ↦ with_small o ]
 with_kind o Unknown = with_stage o Wrong
 with_kind o FileName = with_stage o File
 
 -- the word behind `--rule`
-unfoldable pub with_rule : Options → Number → Options
-with_rule o (Of n) =
-    elim (is_byte n) [
-      | true ↦ record { draws = o.draws; rule = n; ruled = true; image = o.image; small = o.small; stage = Words }
-      | false ↦ with_stage o Wrong
-    ]
-with_rule o Nothing = with_stage o Wrong
+unfoldable pub with_rule : Options → Option ℕ → Options
+with_rule o (Some n) = record { draws = o.draws; rule = Some n; image = o.image; small = o.small; stage = Words }
+with_rule o None = with_stage o Wrong
 
 unfoldable pub option_at : Stage → Options → List ℕ → Options
 option_at Words o word = with_kind o (kind_of word)
-option_at Awaits o word = with_rule o (number_in word)
+option_at Awaits o word = with_rule o (byte_in word)
 option_at File o word = o
 option_at Wrong o word = o
 
@@ -94,4 +91,4 @@ is_file Wrong = false
 
 -- a file is opened only where every option is understood and the rule is none that the start refuses
 unfoldable pub opens_file : Options → Bool
-opens_file o = is_file o.stage && is_rule o.rule
+opens_file o = is_file o.stage && is_rule (rule_of o)

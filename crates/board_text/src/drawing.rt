@@ -4,15 +4,19 @@ ghost use Rattle.network.specs.Abstract.{is_channel};
 
 use agent::{Agent, Counts, Lhs, Message};
 use clauses::places::{channel_at, place_at};
+use dispatch::Line;
 use network::Network;
-use packed::digit;
+use packed::{Entries, Members, digit};
 use words::printing::Out;
 
 // ---- left sides and sets
 
 // Scanner k of 1 to 16, and its value.
-fn put_pair(o: Out, k: u64, value: u64) -> Out {
-    o.put(b" ").number(k).put(b"=").number(value)
+fn put_pair(o: Out, k: u8, value: u8) -> Out {
+    o.put(b" ")
+        .number(u64::from(k))
+        .put(b"=")
+        .number(u64::from(value))
 }
 
 // The scanners that a left side names, with their values.
@@ -21,21 +25,19 @@ fn put_lhs(o: Out, l: Lhs) -> Out {
         return o.put(b" nothing");
     }
     let mut out = o;
-    for k in 0..16 {
-        let value = (l.digits >> (4 * k)) % 16;
-        if value != 0 {
-            out = put_pair(out, k + 1, value);
-        }
+    for (k, value) in Entries(l.digits) {
+        out = put_pair(out, k, value);
     }
     out
 }
 
 // Scanner k that is listened to, with its value, `?` where it is unknown.
-fn put_seen(o: Out, k: u64, value: u64) -> Out {
+fn put_seen(o: Out, k: u8, value: u8) -> Out {
     if value == 0 {
-        return o.put(b" ").number(k).put(b"=?");
+        o.put(b" ").number(u64::from(k)).put(b"=?")
+    } else {
+        put_pair(o, k, value)
     }
-    put_pair(o, k, value)
 }
 
 // The scanners listened to, with their values.
@@ -44,10 +46,8 @@ fn put_view(o: Out, listens: u16, view: Lhs) -> Out {
         return o;
     }
     let mut out = o.put(b"  view");
-    for k in 0..16 {
-        if (listens >> k) % 2 == 1 {
-            out = put_seen(out, k + 1, (view.digits >> (4 * k)) % 16);
-        }
+    for k in Members(listens) {
+        out = put_seen(out, k, digit(view.digits, k));
     }
     out.put(b"\n")
 }
@@ -57,10 +57,8 @@ fn put_informs(o: Out, informs: u16) -> Out {
         return o;
     }
     let mut out = o.put(b"  informs");
-    for k in 0..16 {
-        if (informs >> k) % 2 == 1 {
-            out = out.put(b" ").number(k + 1);
-        }
+    for k in Members(informs) {
+        out = out.put(b" ").number(u64::from(k));
     }
     out.put(b"\n")
 }
@@ -74,11 +72,9 @@ fn put_reason(o: Out, v: u64, lhs: Lhs) -> Out {
 
 fn put_reasons(o: Out, a: Agent) -> Out {
     let mut out = o;
-    for v in 0..8 {
+    for (v, digits) in a.nogoods.iter().enumerate() {
         if (a.stored >> v) % 2 == 1 {
-            let lhs = Lhs {
-                digits: a.nogoods[v],
-            };
+            let lhs = Lhs { digits: *digits };
             out = put_reason(out, v as u64 + 1, lhs);
         }
     }
@@ -88,9 +84,10 @@ fn put_reasons(o: Out, a: Agent) -> Out {
 // The slot; where the verdict left the scanner without one, the last that it took.
 fn put_slot(o: Out, value: u8, last: u8) -> Out {
     if value == 0 {
-        return o.line(b" slot -, last ", last as u64);
+        o.line(b" slot -, last ", u64::from(last))
+    } else {
+        o.line(b" slot ", u64::from(value))
     }
-    o.line(b" slot ", value as u64)
 }
 
 // How many messages of each sort.
@@ -105,7 +102,7 @@ fn put_sorts(o: Out, c: Counts) -> Out {
 
 // What was sent and received, left out where nothing was.
 fn put_counts(o: Out, sent: Counts, received: Counts) -> Out {
-    if sent.is_zero() & received.is_zero() {
+    if sent.is_zero() && received.is_zero() {
         return o;
     }
     let out = put_sorts(o.put(b"  sent"), sent).put(b", received");
@@ -114,59 +111,48 @@ fn put_counts(o: Out, sent: Counts, received: Counts) -> Out {
 
 // A scanner's block: its slot, then a line each for its view, whom it informs, its reasons and its counts.
 fn put_agent(o: Out, number: u64, a: Agent) -> Out {
-    let view = a.view;
     let slot = put_slot(o.put(b"scanner ").number(number), a.value, a.last);
-    let links = put_informs(put_view(slot, a.listens, view), a.informs);
-    let reasons = put_reasons(links, a);
-    put_counts(reasons, a.sent, a.received)
+    let links = put_informs(put_view(slot, a.listens, a.view), a.informs);
+    put_counts(put_reasons(links, a), a.sent, a.received)
 }
 
 // ---- lines
 
 fn put_message(o: Out, m: Message) -> Out {
     match m {
-        Message::Info(value) => o.put(b"news ").number(value as u64),
+        Message::Info(value) => o.put(b"news ").number(u64::from(value)),
         Message::Back(value, lhs) => {
-            put_lhs(
-                o.put(b"refusal ").number(value as u64).put(b":"),
-                lhs.unpack(),
-            )
+            let said = o.put(b"refusal ").number(u64::from(value)).put(b":");
+            put_lhs(said, lhs.unpack())
         }
         Message::AddLink => o.put(b"link"),
     }
 }
 
 // The message that stands k places behind the head of a line.
-fn put_waiting(o: Out, r: Network, from: u8, to: u8, k: u8) -> Out
-    requires { (is_channel from to ≡ true) × (k < 8) }
+#[tactic(auto, using(clauses::proofs::Numbering::ends))]
+fn put_waiting(o: Out, r: Network, line: Line, k: u8) -> Out
+    requires { (is_channel line.from line.to ≡ true) × (k < 8) }
 {
-    let head = digit(r.heads[from as usize - 1], to);
-    let p = r.places[place_at(channel_at(from, to), head, k)];
-    let m = p.message;
-    if k == 0 {
-        return put_message(o, m);
-    }
-    put_message(o.put(b", "), m)
+    let head = digit(r.heads[line.from as usize - 1], line.to);
+    let place = r.places[place_at(channel_at(line.from, line.to), head, k)];
+    let out = if k == 0 { o } else { o.put(b", ") };
+    put_message(out, place.message)
 }
 
 // A line that holds so many messages, from the head on; an empty one is not drawn.
-fn put_channel(o: Out, r: Network, from: u8, to: u8) -> Out
-    requires { is_channel from to ≡ true }
+#[tactic(auto, using(clauses::proofs::Numbering::ends))]
+fn put_channel(o: Out, r: Network, line: Line) -> Out
+    requires { is_channel line.from line.to ≡ true }
 {
-    let count = digit(r.counts[from as usize - 1], to);
+    let count = digit(r.counts[line.from as usize - 1], line.to);
     if count == 0 {
         return o;
     }
-    let ends = o
-        .put(b"line ")
-        .number(from as u64)
-        .put(b" to ")
-        .number(to as u64);
-    let mut out = ends.put(b": ");
-    for k in 0..8 {
-        if k < count {
-            out = put_waiting(out, r, from, to, k);
-        }
+    let from = o.put(b"line ").number(u64::from(line.from));
+    let mut out = from.put(b" to ").number(u64::from(line.to)).put(b": ");
+    for k in 0..count.min(8) {
+        out = put_waiting(out, r, line, k);
     }
     out.put(b"\n")
 }
@@ -175,41 +161,28 @@ fn put_channel(o: Out, r: Network, from: u8, to: u8) -> Out
 
 fn put_agents(o: Out, r: Network) -> Out {
     let mut out = o;
-    for i in 0..12 {
-        if i < r.count as usize {
-            let a = r.agents[i];
-            out = put_agent(out, i as u64 + 1, a);
-        }
+    for (number, agent) in (1..=u64::from(r.count)).zip(r.agents) {
+        out = put_agent(out, number, agent);
     }
     out
 }
 
-// The lines of one sender.
-fn put_channels_from(o: Out, r: Network, from: u8) -> Out
-    requires { (1 ≤ from) × (from ≤ 12) }
-{
-    let mut out = o;
-    for to in 1..=12 {
-        if from != to {
-            out = put_channel(out, r, from, to);
-        }
-    }
-    out
-}
-
+// By sender, then receiver.
+#[tactic(auto, using(crate::proofs::Lines::channel))]
 fn put_channels(o: Out, r: Network) -> Out {
     let mut out = o;
     for from in 1..=12 {
-        out = put_channels_from(out, r, from);
+        for to in 1..=12 {
+            if from != to {
+                out = put_channel(out, r, Line { from, to });
+            }
+        }
     }
     out
 }
 
 fn put_verdict(o: Out, verdict: bool) -> Out {
-    if verdict {
-        return o.put(b"verdict none\n");
-    }
-    o
+    if verdict { o.put(b"verdict none\n") } else { o }
 }
 
 pub fn put_board(o: Out, r: Network) -> Out {

@@ -1,15 +1,17 @@
 -- The numbers in a line, byte by byte: what is kept so far, with the bytes left, comes to the same.
 -- One byte more is one step of the definition.
-use Prim.Native.Nat.{ℕ, ◌+◌, ◌≤◌, ◌<◌}
-use mathlib.Core.Path.{◌≡◌, refl, ap, ◌∙◌}
+use Prim.Native.Nat.{ℕ, suc, ◌+◌, ◌-◌, ◌≤◌, ◌<◌}
+use mathlib.Core.Path.{◌≡◌, ap, ◌∙◌}
 use mathlib.Core.Bool.{true, false, and-eq-true_iff}
 use mathlib.Core.List.{List, [], ◌∷◌}
 use native.Mathlib.Omega.{arith}
 use native.Mathlib.Numerals.{add-one}
-use lib.Dec.{leb}
-use lib.ListN.{length, get_or, drop}
-use lib.Seq.{drop-cons, drop-length}
-use borrow.Author.Tests.{leb-true, eq-eqb, ne_eqb}
+use lib.Dec.{eqb, leb}
+use lib.ListN.{length, get_or, take, drop, length-drop}
+use lib.Seq.{drop-cons, drop-length, take_all}
+use borrow.Author.Tests.{leb-true}
+use Rattle.std.specs.List.{position_or_len}
+use Rattle.base.proofs.Tests.{test}
 use Rattle.cases.specs.declared.lines.Numbers.{Numbers}
 use Rattle.cases.specs.Lines.{end_from, is_digit, with_digit, value_from, number_begins, numbers_after, with_number, with_numbers}
 
@@ -17,22 +19,28 @@ pub digit-bounds : (b : ℕ) → is_digit b ≡ true → (48 ≤ b) × (b ≤ 57
 unfolding is_digit
 digit-bounds b e = let h = (and-eq-true_iff (leb 48 b) (leb b 57)).0 e in (leb-true 48 b h.0, leb-true b 57 h.1)
 
+-- ---- the end of a line
+
+pub end-is : (at : ℕ) (bytes : List ℕ) → at + position_or_len (λ b. eqb b 10) bytes ≡ end_from at bytes
+unfolding end_from
+end-is at [] = omega arith
+end-is at (b ∷ bytes) =
+    test (eqb b 10)
+    (λ e. rw (e, end_from) (omega arith))
+    (λ e. rw (e, end_from) (rw (← end-is (suc at) bytes) (omega arith)))
+
+-- ---- byte by byte
+
+-- what a slice from a place on has
+pub rest-is : (line : List ℕ) (k : ℕ) → take (length line - k) (drop k line) ≡ drop k line
+rest-is line k = take_all (length line - k) (drop k line) (omega (arith, length-drop k line))
+
 pub none_left : (line : List ℕ) (i : ℕ) → i ≤ length line → length line ≤ i → drop i line ≡ []
 none_left line i h l = let e : i ≡ length line = omega arith in rw e (drop-length line)
 
 module _ (line : List ℕ) (i : ℕ) (h : i < length line) where
   pub next : drop i line ≡ get_or line i 0 ∷ drop (i + 1) line
   next = rw add-one (drop-cons line i 0 h)
-
-  -- ---- the end of a line
-
-  pub line-ends : get_or line i 0 ≡ 10 → end_from i (drop i line) ≡ i
-  unfolding end_from
-  line-ends e = ap (end_from i) next ∙ rw (eq-eqb (get_or line i 0) 10 e, end_from)
-
-  pub line-goes : (get_or line i 0 ≡ 10 → ⊥) → end_from i (drop i line) ≡ end_from (i + 1) (drop (i + 1) line)
-  unfolding end_from
-  line-goes e = ap (end_from i) next ∙ rw (ne_eqb (get_or line i 0) 10 e, end_from) (rw add-one refl)
 
   -- ---- the digits of a number
 

@@ -1,5 +1,6 @@
 // A line of the cases: where it ends, how it begins, and the numbers in it.
-ghost use Rattle.std.specs.Prelude.{◌≡◌, ◌+◌, ◌≤◌, ◌<◌, min, length, drop};
+ghost use Rattle.std.specs.Prelude.{◌≡◌, ◌+◌, ◌≤◌, ◌<◌, min, eqb, length, drop};
+ghost use Rattle.std.specs.List.{position_or_len};
 ghost use Rattle.cases.specs.Lines.{end_from, is_digit, with_digit, value_from, number_begins, with_number, numbers_in, small_of};
 
 // The numbers of a line, in order, at most 16; the places beyond `count` are zero.
@@ -9,19 +10,19 @@ pub struct Numbers {
     pub values: [u64; 16],
 }
 
+// How many bytes stand before the first line feed, or before the end.
+fn line_length(text: &[u8]) -> usize
+    ensures { (result ≡ position_or_len (λ b. eqb b 10) text.now) × (result ≤ length text.now) }
+{
+    text.iter().take_while(|b| **b != b'\n').count()
+}
+
 // The end of the line that begins at `from`: its line feed, or the end of the text.
 pub fn line_end(text: &[u8], from: usize) -> usize
     requires { from ≤ length text.now }
     ensures { (from ≤ result) × (result ≤ length text.now) × (result ≡ end_from from (drop from text.now)) }
 {
-    let mut i = from;
-    while i < text.len() {
-        if text[i] == b'\n' {
-            return i;
-        }
-        i += 1;
-    }
-    i
+    from + line_length(&text[from..])
 }
 
 // Where the line after this one begins, in a text of so many bytes.
@@ -32,13 +33,11 @@ pub fn next_line(end: usize, bytes: usize) -> usize
 }
 
 // '0' to '9'.
+#[tactic(auto, unfolding(crate::specs::Lines::is_digit))]
 pub fn is_digit(b: u8) -> bool
     ensures { result ≡ is_digit b }
 {
-    if b < b'0' {
-        return false;
-    }
-    b <= b'9'
+    b.is_ascii_digit()
 }
 
 // A number with one digit more; the last eleven digits count.
@@ -46,46 +45,41 @@ fn with_digit(value: u64, b: u8) -> u64
     requires { (48 ≤ b) × (b ≤ 57) }
     ensures { result ≡ with_digit value b }
 {
-    value % 10000000000 * 10 + (b - b'0') as u64
+    value % 10000000000 * 10 + u64::from(b - b'0')
 }
 
-// The number that the digits from byte `from` on say.
-fn number_at(line: &[u8], from: usize) -> u64
-    requires { from ≤ length line.now }
-    ensures { result ≡ value_from 0 (drop from line.now) }
+// The number that the digits at the front say.
+fn number_at(bytes: &[u8]) -> u64
+    ensures { result ≡ value_from 0 bytes.now }
 {
     let mut value: u64 = 0;
-    let mut i = from;
-    while i < line.len() {
-        let b = line[i];
-        if !is_digit(b) {
+    for b in bytes {
+        if !is_digit(*b) {
             return value;
         }
-        value = with_digit(value, b);
-        i += 1;
+        value = with_digit(value, *b);
     }
     value
 }
 
 // A digit, and no digit before it.
+#[tactic(auto, unfolding(crate::specs::Lines::number_begins))]
 fn begins(before: u8, b: u8) -> bool
     ensures { result ≡ number_begins before b }
 {
-    is_digit(b) & !is_digit(before)
+    is_digit(b) && !is_digit(before)
 }
 
 // One number more, if there is room.
 fn with_number(n: Numbers, value: u64) -> Numbers
     ensures { result ≡ with_number value n }
 {
-    let k = n.count;
-    if 16 <= k {
-        return n;
+    let mut more = n;
+    if more.count < 16 {
+        more.values[more.count] = value;
+        more.count += 1;
     }
-    let mut o = n;
-    o.count = k + 1;
-    o.values[k] = value;
-    o
+    more
 }
 
 pub fn numbers_in(line: &[u8]) -> Numbers
@@ -96,14 +90,11 @@ pub fn numbers_in(line: &[u8]) -> Numbers
         values: [0u64; 16],
     };
     let mut before = b' ';
-    let mut i: usize = 0;
-    while i < line.len() {
-        let b = line[i];
-        if begins(before, b) {
-            n = with_number(n, number_at(line, i));
+    for (i, b) in line.iter().enumerate() {
+        if begins(before, *b) {
+            n = with_number(n, number_at(&line[i..]));
         }
-        before = b;
-        i += 1;
+        before = *b;
     }
     n
 }

@@ -105,12 +105,9 @@ fn with_hex(s: Sheet, line: &[u8]) -> Sheet
 {
     let mut o = s;
     let mut before = b' ';
-    let mut i: usize = 0;
-    while i < line.len() {
-        let b = line[i];
-        o = with_pair(o, before, b);
-        before = b;
-        i += 1;
+    for b in line {
+        o = with_pair(o, before, *b);
+        before = *b;
     }
     o
 }

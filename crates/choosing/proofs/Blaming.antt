@@ -4,7 +4,8 @@ use Prim.Native.Nat.{ℕ, suc, pred, ◌+◌, ◌/◌, ◌%◌, ◌^◌, ◌≤�
 use mathlib.Core.Path.{◌≡◌, refl, sym, ap, ◌∙◌, fun_ext, subst}
 use mathlib.Core.Logic.{◌≢◌}
 use mathlib.Core.Bool.{Bool, true, false, ◌&&◌, and-false, or-false, false≢true}
-use mathlib.Core.Option.{none, some}
+use mathlib.Core.Option.{Option, none, some}
+use Rattle.std.specs.Prelude.{Option as Option', Some, None, IsSome, unwrap_or}
 use mathlib.Core.List.{List}
 use native.Mathlib.Omega.{arith}
 use lib.Bits.{bit_or}
@@ -20,14 +21,13 @@ use Rattle.agent_rules.specs.Message.{known, nobody}
 use Rattle.agent_rules.specs.Agent.{Nogoods}
 use Rattle.agent_rules.specs.Choosing.{lhs_of, named, blame}
 use Rattle.agent_rules.specs.Shape.{max_named}
-use Rattle.packed.specs.Packed.{assignment, number_of}
+use Rattle.packed.specs.Packed.{assignment, option_of}
 use Rattle.packed.proofs.Digits.{nobody-assigned, or-named}
 use Rattle.choosing.specs.Barring.{self_of, OwnFits, byte_of}
 use Rattle.choosing.specs.Choosing.{nogoods_of, Blames}
 use Rattle.choosing.specs.declared.Bars.{Bars}
 use Rattle.choosing.specs.declared.Own.{Own}
 use Rattle.choosing.proofs.Barrings.{lowest-barring, first-barring}
-use Rattle.choosing.proofs.Named.{number-none, number-some}
 use Rattle.choosing.proofs.Records.{nogood-stored, nogood-none}
 
 -- ---- whom the words stored name
@@ -74,8 +74,8 @@ module _ (b : Bars) (d word rest : ℕ) (s : Sought b d word rest) where
   same-search = ap (lowest max_named 1) (fun_ext s)
 
   pub sought-found : (k : ℕ) → lowest max_named 1 (λ j. known (assignment rest j)) ≡ some k → bit (byte_of b k) d ≡ true
-      → k ≡ number_of (lowest max_named 1 (λ j. bit (byte_of b j) d && known (assignment word j)))
-  unfolding number_of max_named
+      → some k ≡ lowest max_named 1 (λ j. bit (byte_of b j) d && known (assignment word j))
+  unfolding max_named
   sought-found k e h =
       let r = lowest-range 16 1 (λ j. known (assignment rest j)) k e in
       let found =
@@ -89,13 +89,19 @@ module _ (b : Bars) (d word rest : ℕ) (s : Sought b d word rest) where
       s j
       ∙ rw e (eq_test j k (λ q. rw (q, h)) (λ n. rw (at_other (assignment rest) k 0 j n)))
 
-  pub sought-none : rest ≡ 0 → 0 ≡ number_of (lowest max_named 1 (λ j. bit (byte_of b j) d && known (assignment word j)))
-  unfolding number_of known nobody
+  pub sought-none : rest ≡ 0 → none ≡ lowest max_named 1 (λ j. bit (byte_of b j) d && known (assignment word j))
+  unfolding known nobody
   sought-none z =
       let none_left = lowest-empty max_named 1 (λ j. bit (byte_of b j) d && known (assignment rest j)) (λ j l. rw (z, nobody-assigned) (and-false (bit (byte_of b j) d))) in
       rw (same-search, none_left)
 
 -- ---- whom to blame
+
+-- somebody is found
+pub found-some : (o : Option' ℕ) (found : Option ℕ) → option_of o ≡ found → is_some found ≡ true → IsSome o
+unfolding is_some
+found-some None found is h = absurd (false≢true (rw (← is) at h))
+found-some (Some k) found is h = refl
 
 module _ (own : Own) (b : Bars) (nogoods : Nogoods) (w : ℕ) (fits : OwnFits own) (low : 1 ≤ w) (high : w ≤ 8) where
   -- who bars the value and is named already
@@ -144,16 +150,12 @@ module _ (own : Own) (b : Bars) (nogoods : Nogoods) (w : ℕ) (fits : OwnFits ow
         absurd (false≢true (sym e ∙ is_some-passes 16 1 (λ i. bit (byte_of b' i) (pred w)) j r.0 r.1 there))))
 
   -- the words stored are looked at
-  module _ (words : ℕ) (names : (k : ℕ) → known (assignment words k) ≡ named (self_of own) nogoods k) (k : ℕ)
-      (is : k ≡ number_of (lowest max_named 1 (λ j. bit (byte_of b j) (pred w) && known (assignment words j)))) where
+  module _ (words : ℕ) (names : (k : ℕ) → known (assignment words k) ≡ named (self_of own) nogoods k) where
     same-bar : lowest max_named 1 (λ j. bit (byte_of b j) (pred w) && known (assignment words j)) ≡ lowest max_named 1 known-bar
     unfolding known-bar
     same-bar = ap (lowest max_named 1) (fun_ext λ j. rw (names j))
 
-    pub some-blamed : k ≢ 0 → Blames own b nogoods w k
-    some-blamed n = named-blamed k (sym same-bar ∙ number-some _ k is n)
-
-    pub none-blamed : k ≡ 0 → (first : ℕ) → lowest max_named 1 (λ j. bit (byte_of b j) (pred w)) ≡ some first → Blames own b nogoods w first
-    none-blamed z first e =
-        first-blamed first e
-        (sym same-bar ∙ number-none _ k is (λ j f. (lowest-range max_named 1 _ j f).0) z)
+    pub sought-blamed : (o : Option' ℕ) → option_of o ≡ lowest max_named 1 (λ j. bit (byte_of b j) (pred w) && known (assignment words j))
+        → (first : ℕ) → lowest max_named 1 (λ j. bit (byte_of b j) (pred w)) ≡ some first → Blames own b nogoods w (unwrap_or o first)
+    sought-blamed None is first e = first-blamed first e (sym same-bar ∙ sym is)
+    sought-blamed (Some k) is first e = named-blamed k (sym same-bar ∙ sym is)

@@ -1,6 +1,7 @@
 -- Choosing takes the lowest free value, with the reasons of those below it given.
 -- Where the reasons are given, the definition stops at the next value, or has none left.
 use Prim.Native.Nat.{ℕ, suc, ◌+◌, ◌-◌, ◌<◌}
+use Rattle.std.specs.Prelude.{Some, None}
 use mathlib.Core.Path.{◌≡◌, sym, ◌∙◌}
 use mathlib.Core.Bool.{true}
 use mathlib.Core.Option.{none, some}
@@ -16,7 +17,7 @@ use Rattle.agent_rules.specs.Message.{Assignment}
 use Rattle.agent_rules.specs.Agent.{Self, Bans, Nogoods}
 use Rattle.agent_rules.specs.Choosing.{reason, choose}
 use Rattle.choosing.specs.Barring.{self_of, OwnFits, Barring}
-use Rattle.choosing.specs.Choosing.{nogoods_of, left_free, Barred, Reasoned, value_of, Chose}
+use Rattle.choosing.specs.Choosing.{nogoods_of, left_free, Barred, Reasoned, Chose}
 use Rattle.choosing.specs.declared.Bars.{Bars}
 use Rattle.choosing.specs.declared.Own.{Own}
 use Rattle.choosing.proofs.LeftFree.{left-free}
@@ -27,8 +28,8 @@ pub tried-all : (stored d : ℕ) (b : Bars) → lowest d 1 (left_free stored b) 
 tried-all stored d b e v l h = lowest-none d 1 (left_free stored b) e v l (omega arith)
 
 pub chose_none : (own : Own) (view : Assignment) (b : Bars) (old new : Nogoods) → Reasoned own view b own.domain old new
-    → Chose own view b old 0 new
-unfolding choose value_of
+    → Chose own view b old None new
+unfolding choose
 chose_none own view b old new r =
     record { coherent = r.coherent; choice = λ bans barring. sym (rw (sub_self own.domain) at (r.goes_on bans barring)) }
 
@@ -60,8 +61,7 @@ module _ (own : Own) (view : Assignment) (b : Bars) (stored : ℕ) (nogoods : Li
       (r.later (suc z) (omega arith)))
       ∙ free))
 
-  pub chose-some : Chose own view b (nogoods_of stored nogoods) (z + 1) new
-  unfolding value_of
+  pub chose-some : Chose own view b (nogoods_of stored nogoods) (Some (z + 1)) new
   chose-some =
       let d : own.domain - z ≡ suc (own.domain - suc z) = omega arith in
       record {

@@ -10,4 +10,3 @@ pub mod LeftFree
 pub mod Blaming
 pub mod Reasons
 pub mod Choices
-mod Cut

@@ -2,7 +2,7 @@
 use Prim.Native.Nat.{ℕ, suc, pred, ◌+◌, ◌*◌, ◌-◌, ◌/◌, ◌%◌, ◌^◌, ◌≤◌, ◌<◌}
 use mathlib.Core.Path.{◌≡◌, refl, sym, ap, ◌∙◌}
 use mathlib.Core.Bool.{true, false, not, ◌||◌, and-true, false≢true}
-use mathlib.Core.Option.{none}
+use mathlib.Core.Option.{none, some}
 use native.Mathlib.Nat.{lt_of_le_of_lt}
 use native.Mathlib.Omega.{arith}
 use lib.Bits.{bit_and, bit_or, and_le_r}
@@ -16,7 +16,6 @@ use Rattle.base.proofs.Search.{all_to-at, lowest-some, lowest-range}
 use Rattle.base.proofs.Bits.{bit-of-zero, bit-and}
 use Rattle.base.proofs.Peeling.{bit-shr}
 use Rattle.agent_rules.specs.Shape.{max_named}
-use Rattle.packed.specs.Packed.{number_of}
 use Rattle.choosing.specs.Barring.{byte_of}
 use Rattle.choosing.specs.declared.Bars.{Bars}
 use Rattle.base.proofs.Searches.{lowest-is, lowest-shorter, is_some-passes}
@@ -103,8 +102,8 @@ some-marked b d small =
 
 module _ (b : Bars) (d : ℕ) (small : d < 8) where
   pub first-low : 1 ≤ marks b.low d
-      → count_trailing_zeros 64 (marks b.low d) / 8 + 1 ≡ number_of (lowest max_named 1 (λ k. bit (byte_of b k) d))
-  unfolding number_of max_named
+      → some (count_trailing_zeros 64 (marks b.low d) / 8 + 1) ≡ lowest max_named 1 (λ k. bit (byte_of b k) d)
+  unfolding max_named
   first-low l =
       let m = marked b.low d l in
       let k = count_trailing_zeros 64 (marks b.low d) / 8 in
@@ -117,8 +116,8 @@ module _ (b : Bars) (d : ℕ) (small : d < 8) where
   low_clear z j l h = bit-of-low b j d h small ∙ unmarked b.low d z (j - 1) (omega arith)
 
   pub first-high : marks b.low d ≡ 0 → 1 ≤ marks b.high d
-      → count_trailing_zeros 64 (marks b.high d) / 8 + 9 ≡ number_of (lowest max_named 1 (λ k. bit (byte_of b k) d))
-  unfolding number_of max_named
+      → some (count_trailing_zeros 64 (marks b.high d) / 8 + 9) ≡ lowest max_named 1 (λ k. bit (byte_of b k) d)
+  unfolding max_named
   first-high z l =
       let m = marked b.high d l in
       let k = count_trailing_zeros 64 (marks b.high d) / 8 in
@@ -130,8 +129,8 @@ module _ (b : Bars) (d : ℕ) (small : d < 8) where
       (λ t. low_clear z j a (leb-true j 8 t))
       (λ t. let over = leb-false j 8 t in bit-of-high b j d over small ∙ m.clear (j - 9) (omega arith))))
 
-  pub first-none : marks b.low d ≡ 0 → marks b.high d ≡ 0 → 0 ≡ number_of (lowest max_named 1 (λ k. bit (byte_of b k) d))
-  unfolding number_of max_named lowest
+  pub first-none : marks b.low d ≡ 0 → marks b.high d ≡ 0 → none ≡ lowest max_named 1 (λ k. bit (byte_of b k) d)
+  unfolding max_named lowest
   first-none z y =
       let none-set : lowest 16 1 (λ k. bit (byte_of b k) d) ≡ none =
       lowest-shorter 16 0 1 (λ k. bit (byte_of b k) d) (λ k. bit (byte_of b k) d) (omega arith) (λ j a h. refl)

@@ -1,14 +1,12 @@
 -- Packed words: one that is not 0 names somebody, and one that names nobody from some agent on is short.
 use Prim.Native.Nat.{ℕ, zero, suc, ◌*◌, ◌/◌, ◌%◌, ◌^◌, ◌≤◌, ◌<◌}
 use mathlib.Core.Bool.{true, false≢true}
-use mathlib.Core.Path.{◌≡◌, refl, sym, ap, ◌∙◌}
-use mathlib.Core.Logic.{◌≢◌}
-use mathlib.Core.Option.{Option, none, some}
+use mathlib.Core.Path.{◌≡◌, sym, ap, ◌∙◌}
 use native.Mathlib.Nat.{pow-suc}
 use native.Mathlib.Omega.{arith}
 use lib.Dec.{leb}
 use borrow.Author.Tests.{leb-true, leb-false}
-use Rattle.base.specs.Finite.{at, from_one, highest, is_some}
+use Rattle.base.specs.Finite.{at, from_one, highest}
 use Rattle.base.proofs.Tests.{test, eq_test, opt}
 use Rattle.base.proofs.Search.{highest-some, highest-none, at_same, at_other}
 use Rattle.agent_rules.specs.Message.{Assignment, known, nobody}
@@ -17,23 +15,6 @@ use Rattle.packed.specs.Packed.{digit, assignment, number_of}
 use Rattle.packed.proofs.Known.{known-true, known_from}
 use Rattle.packed.proofs.Digits.{digit-zero, digit-suc, digit-above, assignment-above, nobody-assigned}
 use Rattle.packed.proofs.Wordwise.{short}
-
--- ---- a number for one of them, 0 for none
-
-pub number-none : (o : Option ℕ) (k : ℕ) → k ≡ number_of o → ((j : ℕ) → o ≡ some j → 1 ≤ j) → k ≡ 0 → o ≡ none
-unfolding number_of
-number-none none k e f z = refl
-number-none (some j) k e f z = absurd (omega (arith, f j refl))
-
-pub number-some : (o : Option ℕ) (k : ℕ) → k ≡ number_of o → k ≢ 0 → o ≡ some k
-unfolding number_of
-number-some none k e n = absurd (n e)
-number-some (some j) k e n = rw e
-
-pub number-found : (o : Option ℕ) (k : ℕ) → k ≡ number_of o → is_some o ≡ true → o ≡ some k
-unfolding number_of is_some
-number-found none k e h = absurd (false≢true h)
-number-found (some j) k e h = rw e
 
 -- ---- somebody
 
@@ -72,15 +53,6 @@ named-range x (suc k) h e =
     test (leb (suc k) 16)
     (λ t. (omega arith, leb-true (suc k) 16 t))
     (λ t. absurd (omega (arith, known-true (assignment x (suc k)) e, assignment-above x (suc k) h (leb-false (suc k) 16 t))))
-
--- and where the word is short, of twelve
-pub named-short : (x k : ℕ) → x < 281474976710656 → known (assignment x k) ≡ true → k ≤ 12
-unfolding assignment from_one
-named-short x zero h e = omega arith
-named-short x (suc k) h e =
-    test (leb (suc k) 12)
-    (λ t. leb-true (suc k) 12 t)
-    (λ t. absurd (omega (arith, known-true (digit x k) e, digit-above 12 x k h (omega (arith, leb-false (suc k) 12 t)))))
 
 -- ---- nobody from some agent on
 

@@ -1,11 +1,13 @@
 -- The mask of the nogoods that do not name an agent, as the loop builds it.
 use Prim.Native.Nat.{ℕ, suc, pred, ◌+◌, ◌-◌, ◌*◌, ◌<◌, ◌≤◌}
-use mathlib.Core.Path.{◌≡◌, ap}
+use mathlib.Core.Path.{◌≡◌, sym, ap, ◌∙◌}
 use mathlib.Core.Bool.{Bool, not}
-use mathlib.Core.List.{List}
+use mathlib.Core.List.{List, [], ◌∷◌, ◌++◌}
 use native.Mathlib.Omega.{arith}
 use lib.Dec.{eqb}
-use lib.ListN.{get_or}
+use lib.ListN.{length, get_or, take, length-append}
+use lib.Seq.{get_or-append_seam, take-append_seam, take-length}
+use Rattle.std.proofs.lemmas.List.{get_or-take, take-take}
 use mir.Val.{bool_byte}
 use Rattle.agent_rules.specs.Message.{known}
 use Rattle.packed.specs.Packed.{assignment, mask_from}
@@ -16,13 +18,48 @@ use Rattle.packed.proofs.Masks.{byte_of, mask_fits, mask-down}
 abbrev pub spares : List ℕ → ℕ → ℕ → Bool
 spares nogoods k v = not (known (assignment (get_or nogoods (pred v) 0) k))
 
-pub next-mask : (nogoods : List ℕ) (k mask i u : ℕ) → 0 < i → i ≤ 8 → mask ≡ mask_from (spares nogoods k) (suc i) (8 - i)
-    → u ≡ assignment (get_or nogoods (i - 1) 0) k
-    → mask * 2 + bool_byte (eqb u 0) ≡ mask_from (spares nogoods k) (suc (i - 1)) (8 - (i - 1))
-next-mask nogoods k mask i u l h e f =
-    rw (mask-down (spares nogoods k) 8 i l h, e)
-    (ap (λ (n : ℕ). mask_from (spares nogoods k) (suc i) (8 - i) * 2 + n) (rw (← unknown u, f) (byte_of (spares nogoods k (suc (i - 1))))))
+-- from the highest own value down: the values above those left have their bits
+pub record Sparing (nogoods : List ℕ) (k : ℕ) (left : List ℕ) (mask : ℕ) : Type 0 where
+  pub first : take (length left) nogoods ≡ left
+  pub few : length left ≤ 8
+  pub above : mask ≡ mask_from (spares nogoods k) (suc (length left)) (8 - length left)
 
--- there is room for it
-pub next_fits : (nogoods : List ℕ) (k mask i : ℕ) → 0 < i → mask ≡ mask_from (spares nogoods k) (suc i) (8 - i) → mask < 128
-next_fits nogoods k mask i l e = rw e (mask_fits (spares nogoods k) (suc i) (8 - i) 7 (omega arith))
+pub sparing-none : (nogoods : List ℕ) (k : ℕ) → length nogoods ≡ 8 → Sparing nogoods k nogoods 0
+unfolding mask_from
+sparing-none nogoods k long = record { first = take-length nogoods; few = omega (arith, long); above = rw long }
+
+module _ (nogoods : List ℕ) (k : ℕ) (left : List ℕ) (mask : ℕ) (s : Sparing nogoods k left mask) where
+  pub sparing-all : length left ≡ 0 → mask ≡ mask_from (spares nogoods k) 1 8
+  sparing-all z = rw z at s.above
+
+  module _ (left' : List ℕ) (x : ℕ) (last : left ≡ left' ++ x ∷ []) where
+    one-fewer : length left ≡ suc (length left')
+    one-fewer = omega (arith, ap length last, length-append left' (x ∷ []))
+
+    here : get_or nogoods (length left') 0 ≡ x
+    here =
+        sym (get_or-take (length left) nogoods (length left') 0 (omega (arith, one-fewer)))
+        ∙ ap (λ (l : List ℕ). get_or l (length left') 0) (s.first ∙ last)
+        ∙ get_or-append_seam left' x [] 0
+
+    -- there is room for one more
+    pub sparing-room : mask < 128
+    sparing-room = rw s.above (mask_fits (spares nogoods k) (suc (length left)) (8 - length left) 7 (omega (arith, one-fewer)))
+
+    pub sparing-next : (u : ℕ) → u ≡ assignment x k → Sparing nogoods k left' (mask * 2 + bool_byte (eqb u 0))
+    sparing-next u is =
+        let n = length left' in
+        let down : suc n - 1 ≡ n = omega arith in
+        record {
+          first =
+              sym (take-take n (length left) nogoods (omega (arith, one-fewer)))
+              ∙ ap (take n) (s.first ∙ last)
+              ∙ take-append_seam left' (x ∷ []);
+          few = omega (arith, s.few, one-fewer);
+          above =
+              rw (s.above, one-fewer)
+              (sym
+              (rw down at (mask-down (spares nogoods k) 8 (suc n) (omega arith) (omega (arith, s.few, one-fewer)))
+              ∙ ap (λ (b : ℕ). mask_from (spares nogoods k) (suc (suc n)) (8 - suc n) * 2 + b)
+              (sym (rw (← unknown u, is, ← here) (byte_of (spares nogoods k (suc n)))))));
+        }

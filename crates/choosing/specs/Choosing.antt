@@ -1,5 +1,5 @@
 -- What the parts of choosing compute or need, where the rules have no name for it.
-use Rattle.std.specs.Prelude.{ℕ, zero, suc, pred, ◌-◌, ◌≤◌, ◌<◌, ◌≡◌, Bool, true, false, not, ◌||◌, List, get_or}
+use Rattle.std.specs.Prelude.{ℕ, suc, pred, ◌-◌, ◌≤◌, ◌<◌, ◌≡◌, Bool, true, false, not, ◌||◌, List, get_or, Option as Option'}
 use Rattle.std.proofs.Math.Option.{Option, none, some}
 use Rattle.base.specs.Finite.{from_one, is_some, lowest}
 use Rattle.base.specs.Bits.{bit}
@@ -8,7 +8,7 @@ use Rattle.agent_rules.specs.Message.{Assignment}
 use Rattle.agent_rules.specs.Agent.{Bans, Nogoods}
 use Rattle.agent_rules.specs.Choosing.{blame, choose}
 use Rattle.agent_rules.specs.Shape.{max_named, EachNamed}
-use Rattle.packed.specs.Packed.{assignment}
+use Rattle.packed.specs.Packed.{assignment, option_of}
 use Rattle.choosing.specs.Barring.{self_of, ViewFits, byte_of, Barring}
 use Rattle.choosing.specs.declared.Bars.{Bars}
 use Rattle.choosing.specs.declared.Own.{Own}
@@ -55,13 +55,8 @@ pub record Reasoned (own : Own) (view : Assignment) (b : Bars) (m : ℕ) (old ne
   pub goes_on : (bans : Bans) → Barring bans view b
       → choose (own.domain - m) (suc m) (self_of own) bans view new ≡ choose own.domain 1 (self_of own) bans view old
 
--- a value as an option, 0 for none
-unfoldable pub value_of : ℕ → Option ℕ
-value_of zero = none
-value_of (suc v) = some (suc v)
-
--- choosing takes value v and leaves these nogoods
-pub record Chose (own : Own) (view : Assignment) (b : Bars) (old : Nogoods) (v : ℕ) (new : Nogoods) : Type 0 where
+-- choosing takes value v, or none, and leaves these nogoods
+pub record Chose (own : Own) (view : Assignment) (b : Bars) (old : Nogoods) (v : Option' ℕ) (new : Nogoods) : Type 0 where
   pub coherent : Coherent own view new
   pub choice : (bans : Bans) → Barring bans view b
-      → choose own.domain 1 (self_of own) bans view old ≡ record { value = value_of v; nogoods = new }
+      → choose own.domain 1 (self_of own) bans view old ≡ record { value = option_of v; nogoods = new }

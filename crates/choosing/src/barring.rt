@@ -4,11 +4,11 @@ ghost use Rattle.base.specs.Finite.{at, is_some, lowest};
 ghost use Rattle.base.specs.Bits.{bit};
 ghost use Rattle.agent_rules.specs.Message.{known};
 ghost use Rattle.agent_rules.specs.Shape.{max_named};
-ghost use Rattle.packed.specs.Packed.{assignment, number_of};
+ghost use Rattle.packed.specs.Packed.{assignment, option_of};
 ghost use Rattle.choosing.specs.Barring.{Able, ViewFits, bans_in, barred_at, byte_of, Barring};
 
 use crate::{Bars, Own};
-use packed::{digit, first_digit, with_digit};
+use packed::Entries;
 
 // The own values, as a mask, that an agent with this word of bans bars at value v: one byte of it.
 pub fn barred_at(word: u64, v: u8) -> u8
@@ -24,15 +24,15 @@ impl Bars {
         requires { (1 ≤ k) × (k ≤ 16) }
         ensures { (j : ℕ) → 1 ≤ j → j ≤ 16 → byte_of result j ≡ at (byte_of self) k byte j }
     {
-        let mut b = self;
         if k <= 8 {
             let place = 8 * (k - 1);
-            b.low = self.low - (self.low & (255u64 << place)) + ((byte as u64) << place);
+            let low = self.low - (self.low & (255u64 << place)) + ((byte as u64) << place);
+            Bars { low, ..self }
         } else {
             let place = 8 * (k - 9);
-            b.high = self.high - (self.high & (255u64 << place)) + ((byte as u64) << place);
+            let high = self.high - (self.high & (255u64 << place)) + ((byte as u64) << place);
+            Bars { high, ..self }
         }
-        b
     }
 
     // What a view bars.
@@ -42,11 +42,8 @@ impl Bars {
         ensures { Barring (bans_in bans.now) (assignment view) result }
     {
         let mut b = Bars { low: 0, high: 0 };
-        let mut rest = view;
-        while rest != 0 {
-            let k = first_digit(rest);
-            b = b.with(k, barred_at(bans[k as usize - 1], digit(rest, k)));
-            rest = with_digit(rest, k, 0);
+        for (k, v) in Entries(view) {
+            b = b.with(k, barred_at(bans[k as usize - 1], v));
         }
         b
     }
@@ -69,20 +66,20 @@ impl Bars {
         ((two | (two >> 8)) % 256) as u8
     }
 
-    // The lowest-numbered agent that bars own value w, 0 where none does.
-    pub(crate) fn first(self, w: u8) -> u8
+    // The lowest-numbered agent that bars own value w, if one does.
+    pub(crate) fn first(self, w: u8) -> Option<u8>
         requires { (1 ≤ w) × (w ≤ 8) }
-        ensures { result ≡ number_of (lowest max_named 1 (λ k. bit (byte_of self k) (pred w))) }
+        ensures { option_of result ≡ lowest max_named 1 (λ k. bit (byte_of self k) (pred w)) }
     {
         let low = (self.low >> (w - 1)) & 0x0101_0101_0101_0101;
-        if low != 0 {
-            return u64::trailing_zeros(low) as u8 / 8 + 1;
-        }
         let high = (self.high >> (w - 1)) & 0x0101_0101_0101_0101;
-        if high != 0 {
-            return u64::trailing_zeros(high) as u8 / 8 + 9;
+        if low != 0 {
+            Some(low.trailing_zeros() as u8 / 8 + 1)
+        } else if high != 0 {
+            Some(high.trailing_zeros() as u8 / 8 + 9)
+        } else {
+            None
         }
-        0
     }
 
     // Agent k bars own value w.
@@ -91,24 +88,22 @@ impl Bars {
         ensures { result ≡ bit (byte_of self k) (pred w) }
     {
         if k <= 8 {
-            return (self.low >> (8 * (k - 1) + (w - 1))) % 2 == 1;
+            (self.low >> (8 * (k - 1) + (w - 1))) % 2 == 1
+        } else {
+            (self.high >> (8 * (k - 9) + (w - 1))) % 2 == 1
         }
-        (self.high >> (8 * (k - 9) + (w - 1))) % 2 == 1
     }
 
-    // The lowest-numbered agent that bars own value w of those that a word names, 0 where none of them does.
-    pub(crate) fn first_of(self, named: u64, w: u8) -> u8
+    // The lowest-numbered agent that bars own value w of those that a word names, if one of them does.
+    pub(crate) fn first_of(self, named: u64, w: u8) -> Option<u8>
         requires { (1 ≤ w) × (w ≤ 8) }
-        ensures { result ≡ number_of (lowest max_named 1 (λ k. bit (byte_of self k) (pred w) && known (assignment named k))) }
+        ensures { option_of result ≡ lowest max_named 1 (λ k. bit (byte_of self k) (pred w) && known (assignment named k)) }
     {
-        let mut rest = named;
-        while rest != 0 {
-            let k = first_digit(rest);
+        for (k, _) in Entries(named) {
             if self.by(k, w) {
-                return k;
+                return Some(k);
             }
-            rest = with_digit(rest, k, 0);
         }
-        0
+        None
     }
 }

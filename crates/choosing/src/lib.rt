@@ -15,46 +15,28 @@ pub mod barring;
 
 use packed::{digit, with_digit};
 
-// An agent's number and domain (slot count), and the network's rule.
-#[derive(Clone, Copy)]
+// An agent's number and domain (slot count), and the network's rule. The rule is its number, 1 or 2, and no enum: it is put here as a rail's record has it,
+// where it may be any number until the shape is tested, and a type of its own would ask each caller for a choice.
+#[derive(Clone, Copy, Debug, PartialEq, Eq)]
 pub struct Own {
     pub number: u8,
     pub domain: u8,
     pub rule: u8,
 }
 
-impl Own {
-    // The three together.
-    pub fn new(number: u8, domain: u8, rule: u8) -> Own
-        ensures { result ≡ (record { number = number; domain = domain; rule = rule }) }
-    {
-        Own {
-            number: number,
-            domain: domain,
-            rule: rule,
-        }
-    }
-}
-
 // What an agent's view bars, worked out from the view and the bans: bit w - 1 of byte k - 1 says that agent k has a known value that bans own
 // value w. Agents 1 to 8 stand in `low`, 9 to 16 in `high`.
-#[derive(Clone, Copy)]
+#[derive(Clone, Copy, Debug, PartialEq, Eq)]
 pub struct Bars {
     pub low: u64,
     pub high: u64,
 }
 
-// What going through own values comes to: the mask of the own values that have a reason then, and the join of the left sides met.
-#[derive(Clone, Copy)]
-struct Tried {
-    pub stored: u8,
-    pub whole: u64,
-}
-
-// What choosing comes to: the value taken, 0 where none is free, with what going through the values came to.
-#[derive(Clone, Copy)]
+// What choosing comes to: the value taken, if one is free, with what going through the own values comes to, the mask of those that have a reason then and
+// the join of the left sides met.
+#[derive(Clone, Copy, Debug, PartialEq, Eq)]
 pub struct Choice {
-    pub value: u8,
+    pub value: Option<u8>,
     pub stored: u8,
     pub whole: u64,
 }
@@ -64,11 +46,9 @@ pub fn sparing(nogoods: &[u64; 8], k: u8) -> u8
     requires { (1 ≤ k) × (k ≤ 16) }
     ensures { result ≡ mask_from (λ v. not (known (assignment (get_or nogoods.now (pred v) 0) k))) 1 8 }
 {
-    let mut mask: u8 = 0;
-    let mut i: usize = 8;
-    while 0 < i {
-        i -= 1;
-        mask = mask * 2 + (digit(nogoods[i], k) == 0) as u8;
+    let mut mask = 0;
+    for nogood in nogoods.iter().rev() {
+        mask = mask * 2 + (digit(*nogood, k) == 0) as u8;
     }
     mask
 }
@@ -87,15 +67,13 @@ fn naming(nogoods: &[u64; 8], domain: u8, stored: u8) -> u64
     requires { domain ≤ 8 }
     ensures { (k : ℕ) → known (assignment result k) ≡ is_some (lowest domain 1 (λ v. known (lhs_of (nogoods_of stored nogoods.now v) k))) }
 {
-    let mut all: u64 = 0;
+    let mut all = 0;
     let mut rest = stored;
-    let mut i: u8 = 0;
-    while i < domain {
+    for i in 0..domain {
         if rest % 2 == 1 {
-            all = all | nogoods[i as usize];
+            all |= nogoods[i as usize];
         }
-        rest = rest / 2;
-        i += 1;
+        rest /= 2;
     }
     all
 }
@@ -104,23 +82,22 @@ fn naming(nogoods: &[u64; 8], domain: u8, stored: u8) -> u64
 // lowest-numbered of all". The stored reasons are looked at where more than one agent bars it.
 fn blamed(nogoods: &[u64; 8], own: Own, bars: Bars, stored: u8, w: u8) -> u8
     requires own_fits { OwnFits own }
-    requires le_w { (1 ≤ w) × (w ≤ 8) × (is_some (lowest max_named 1 (λ k. bit (byte_of bars k) (pred w))) ≡ true) }
+    requires barred { (1 ≤ w) × (w ≤ 8) × (is_some (lowest max_named 1 (λ k. bit (byte_of bars k) (pred w))) ≡ true) }
     ensures { Blames own bars (nogoods_of stored nogoods.now) w result }
 {
-    let first = bars.first(w);
+    let first = bars.first(w).unwrap();
     if bars.with(first, 0).bars(w) {
-        let k = bars.first_of(naming(nogoods, own.domain, stored), w);
-        if k != 0 {
-            return k;
-        }
+        bars.first_of(naming(nogoods, own.domain, stored), w)
+            .unwrap_or(first)
+    } else {
+        first
     }
-    first
 }
 
 // The own values 1 to `tried` are gone through upward, none of which is free: "A slot with a stored reason is skipped. A slot that is banned against a
 // known slot of the view gets the reason "that scanner has that slot"." The reasons are read as they stand when that value is tried. The left sides met,
-// stored ones and given ones, are joined on the way: after any number of values `whole` is the union of that many. `rest` has the stored ones of those
-// yet to be tried, so the walk asks whether it is at its end only where a reason is lacking.
+// stored ones and given ones, are joined on the way: after any number of values `whole` is the union of that many. Handed back are the mask of the own
+// values that have a reason then, and that join.
 fn give_reasons(
     nogoods: &mut [u64; 8],
     own: Own,
@@ -128,57 +105,50 @@ fn give_reasons(
     bars: Bars,
     stored: u8,
     tried: u8,
-) -> Tried
+) -> (u8, u64)
     requires own_fits { OwnFits own }
-    requires nogoods_len { (length nogoods.old ≡ 8) × (tried ≤ own.domain) × Barred stored bars tried }
+    requires none_free { (length nogoods.old ≡ 8) × (tried ≤ own.domain) × Barred stored bars tried }
     requires coherent { Coherent own (assignment view) (nogoods_of stored nogoods.old) }
-    ensures nogoods_len_2 { (length nogoods.new ≡ 8) × Reasoned own (assignment view) bars tried (nogoods_of stored nogoods.old) (nogoods_of result.stored nogoods.new) }
-    ensures whole_value { assignment result.whole ≡ union tried (nogoods_of result.stored nogoods.new) }
+    ensures reasoned { (length nogoods.new ≡ 8) × Reasoned own (assignment view) bars tried (nogoods_of stored nogoods.old) (nogoods_of result.0 nogoods.new) }
+    ensures joined { assignment result.1 ≡ union tried (nogoods_of result.0 nogoods.new) }
 {
     let mut reasoned = stored;
-    let mut whole: u64 = 0;
-    let mut rest = (stored as u16 % (1u16 << tried)) as u8;
-    let mut i: u8 = 0;
-    loop {
-        let mut lhs: u64 = 0;
-        if rest % 2 == 1 {
-            lhs = nogoods[i as usize];
+    let mut whole = 0;
+    let mut rest = stored;
+    for i in 0..tried {
+        let lhs = if rest % 2 == 1 {
+            nogoods[i as usize]
         } else {
-            if tried <= i {
-                return Tried {
-                    stored: reasoned,
-                    whole: whole,
-                };
-            }
             let k = blamed(nogoods, own, bars, reasoned, i + 1);
-            lhs = with_digit(0, k, digit(view, k));
+            let lhs = with_digit(0, k, digit(view, k));
             nogoods[i as usize] = lhs;
-            reasoned = reasoned | (1u8 << i);
-        }
-        whole = whole | lhs;
-        rest = rest / 2;
-        i += 1;
+            reasoned |= 1u8 << i;
+            lhs
+        };
+        whole |= lhs;
+        rest /= 2;
     }
+    (reasoned, whole)
 }
 
 // "The lowest slot that is still free is taken; those above it are not tried and get no reason." Where none is free, all left sides are joined.
 pub fn choose(nogoods: &mut [u64; 8], own: Own, view: u64, bars: Bars, stored: u8) -> Choice
     requires own_fits { OwnFits own }
-    requires nogoods_len { (length nogoods.old ≡ 8) × Coherent own (assignment view) (nogoods_of stored nogoods.old) }
-    ensures nogoods_len_2 { (length nogoods.new ≡ 8) × Chose own (assignment view) bars (nogoods_of stored nogoods.old) result.value (nogoods_of result.stored nogoods.new) }
-    ensures whole_value { result.value ≡ 0 → assignment result.whole ≡ union own.domain (nogoods_of result.stored nogoods.new) }
+    requires coherent { (length nogoods.old ≡ 8) × Coherent own (assignment view) (nogoods_of stored nogoods.old) }
+    ensures chose { (length nogoods.new ≡ 8) × Chose own (assignment view) bars (nogoods_of stored nogoods.old) result.value (nogoods_of result.stored nogoods.new) }
+    ensures joined { result.value ≡ None → assignment result.whole ≡ union own.domain (nogoods_of result.stored nogoods.new) }
 {
     let mask = free(own, bars, stored);
-    let mut value: u8 = 0;
-    let mut tried = own.domain;
-    if mask != 0 {
-        tried = u8::trailing_zeros(mask) as u8;
-        value = tried + 1;
-    }
-    let t = give_reasons(nogoods, own, view, bars, stored, tried);
+    let (tried, value) = if mask != 0 {
+        let tried = mask.trailing_zeros() as u8;
+        (tried, Some(tried + 1))
+    } else {
+        (own.domain, None)
+    };
+    let (stored, whole) = give_reasons(nogoods, own, view, bars, stored, tried);
     Choice {
-        value: value,
-        stored: t.stored,
-        whole: t.whole,
+        value,
+        stored,
+        whole,
     }
 }

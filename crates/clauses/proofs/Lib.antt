@@ -1,3 +1,4 @@
+mod Each
 pub mod Numbering
 pub mod Columns
 pub mod Pairs

@@ -16,9 +16,6 @@ words_are m = omega (arith, twice-before m)
 pub words-fit : (m : ℕ) → m ≤ 11 → pairs_before m + m ≤ 66
 words-fit m h = omega (arith, twice-before m, mul-le-mul_left m h)
 
-pub square-fits : (m : ℕ) → m ≤ 11 → (m ≤ m * m) × (m * m ≤ 121)
-square-fits m h = (omega (arith, twice-before m), omega (arith, mul-le-mul_left m h))
-
 -- the word of one pair
 pub word-place : (i j before : ℕ) → before ≡ pairs_before (pred j) → 1 ≤ i → i < j → before + j ≤ 67
     → (before + i - 1 ≡ word_at i j) × (before + i - 1 < 66)

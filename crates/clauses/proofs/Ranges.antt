@@ -9,17 +9,13 @@ use lib.Dec.{eqb, ltb, leb}
 use lib.ListN.{length, get_or, get_or-eq_default}
 use borrow.Author.Tests.{lt-ltb, le-leb, lt-leb, ltb-true, ltb-false, leb-true, leb-false}
 use Rattle.base.specs.Finite.{from_one, within, all_to}
-use Rattle.base.proofs.Tests.{test, eq_test, to-within}
+use Rattle.base.proofs.Tests.{test, eq_test, to-within, not_within}
 use Rattle.problem.specs.Problem.{Problem, max_agents, max_domain, domain, count_in_range, domain_in_range, bans_owned, sized, in_range}
 use Rattle.problem.proofs.Range.{Ranged}
 use Rattle.packed.specs.Packed.{assignment}
 use Rattle.packed.proofs.Digits.{assigned-first, assigned-next, digit-above}
 
 -- ---- who owns what
-
-pub within-over : (m k : ℕ) → m < k → within m k ≡ false
-unfolding within
-within-over m k h = rw (lt-leb k m h, and-false)
 
 pub within-at : (m k : ℕ) → 1 ≤ k → within m k ≡ leb k m
 unfolding within
@@ -29,6 +25,9 @@ pub domain-at : (p : Problem) (domains : List ℕ) (k : ℕ) → p.domains ≡ d
 unfolding domain
 domain-at p domains zero e h = absurd (not-suc-le-zero h)
 domain-at p domains (suc k) e h = let d : suc k - 1 ≡ k = omega arith in rw (d, e)
+
+pub domain-next : (p : Problem) (domains : List ℕ) (k : ℕ) → p.domains ≡ domains → domain p (k + 1) ≡ get_or domains k 0
+domain-next p domains k e = let one : k + 1 - 1 ≡ k = omega arith in domain-at p domains (k + 1) e (omega arith) ∙ rw one
 
 -- ---- domains
 
@@ -41,13 +40,9 @@ unfolding domain_in_range
 in-range-zero p i h = rw (lt-leb i p.count h, domain_in_range)
 
 -- n is one of 1 to 12
-pub count_none : (p : Problem) (count : ℕ) → p.count ≡ count → count ≡ 0 → in_range p ≡ false
-unfolding in_range count_in_range within
-count_none p count e f = rw (e, f, and-false)
-
-pub count-over : (p : Problem) (count : ℕ) → p.count ≡ count → 12 < count → in_range p ≡ false
+pub count-out : (p : Problem) (count : ℕ) → p.count ≡ count → (1 ≤ count → count ≤ 12 → ⊥) → in_range p ≡ false
 unfolding in_range count_in_range max_agents
-count-over p count e h = rw (e, within-over 12 count h, and-false)
+count-out p count e n = rw (e, not_within 12 count n, and-false)
 
 pub in-range : (p : Problem) (count : ℕ) → sized p ≡ true → p.count ≡ count → 1 ≤ count → count ≤ 12
     → in_range p ≡ all_to max_agents (domain_in_range p) && bans_owned p

@@ -6,7 +6,9 @@ ghost use Rattle.protocol.specs.Shape.{holds_value, last_fits, listens_upward, i
 ghost use Rattle.packed.specs.Packed.{members};
 ghost use Rattle.agent.specs.Abstract.{assigned, agent_of};
 ghost use Rattle.clauses.specs.Parts.{Domains, heard, set_of, links_in_shape, holds_in_shape, agent_passes};
+ghost use Rattle.clauses.specs.Frames.{AgentFraming};
 
+use crate::frames::Frame;
 use crate::places::words_before;
 use crate::sets::{all_above, all_to};
 use agent::{Agent, Lhs};
@@ -16,17 +18,14 @@ use packed::{at_most, digit, has, names, within};
 fn holds_value(verdict: bool, d: u8, value: u8) -> bool
     ensures { (w : Network') (i : ℕ) → w.verdict ≡ verdict → domain w.problem i ≡ d → (w.agents i).value ≡ value → result ≡ holds_value w i }
 {
-    if value == 0 {
-        return verdict;
-    }
-    value <= d
+    if value == 0 { verdict } else { value <= d }
 }
 
 // The last value that it took is an owned one, and the one that it holds if it holds any. Its domain is d.
 fn last_fits(d: u8, value: u8, last: u8) -> bool
     ensures { (w : Network') (i : ℕ) → domain w.problem i ≡ d → (w.agents i).value ≡ value → (w.agents i).last ≡ last → result ≡ last_fits w i }
 {
-    (0 < last) & (last <= d) & ((value == 0) | (value == last))
+    0 < last && last <= d && (value == 0 || value == last)
 }
 
 fn listens_upward(i: u8, listens: u16) -> bool
@@ -43,28 +42,6 @@ fn informs_downward(count: u8, i: u8, informs: u16) -> bool
     all_above(informs, i) && all_to(informs, count)
 }
 
-// Each agent above j either informs it and is listened to, or has no ban with it.
-fn heard(informs: &[u16; 12], bans: &[u64; 66], j: u8, listens: u16) -> bool
-    requires { (1 ≤ j) × (j ≤ 12) }
-    ensures { (w : Network') → w.problem.bans ≡ bans.now → ((k x : ℕ) → (w.agents k).informs x ≡ set_of informs.now k x) → (w.agents j).listens ≡ members listens → result ≡ heard w j }
-{
-    let words = words_before(j);
-    let mut i = j - 1;
-    while 0 < i {
-        if has(informs[i as usize - 1], j) {
-            if !has(listens, i) {
-                return false;
-            }
-        } else {
-            if bans[words + i as usize - 1] != 0 {
-                return false;
-            }
-        }
-        i -= 1;
-    }
-    true
-}
-
 // A view names only agents listened to, with values they own.
 fn view_listened(domains: u64, listens: u16, view: Lhs) -> bool
     ensures { (w : Network') (i : ℕ) → Domains w.problem domains → (w.agents i).listens ≡ members listens → (w.agents i).view ≡ assigned view → result ≡ view_listened w i }
@@ -76,17 +53,9 @@ fn view_listened(domains: u64, listens: u16, view: Lhs) -> bool
 fn nogoods_fit(d: u8, a: Agent) -> bool
     ensures { (w : Network') (i : ℕ) → domain w.problem i ≡ d → w.agents i ≡ agent_of a → result ≡ nogoods_fit w i }
 {
-    let view = a.view;
-    let mut v: u8 = 8;
-    while 0 < v {
-        v -= 1;
-        if (a.stored >> v) % 2 == 1 {
-            if d <= v {
-                return false;
-            }
-            if !within(a.nogoods[v as usize], view.digits) {
-                return false;
-            }
+    for v in (0..8u8).rev() {
+        if (a.stored >> v) % 2 == 1 && (d <= v || !within(a.nogoods[v as usize], a.view.digits)) {
+            return false;
         }
     }
     true
@@ -96,69 +65,67 @@ fn nogoods_fit(d: u8, a: Agent) -> bool
 fn unused(a: Agent) -> bool
     ensures { result ≡ unused (agent_of a) }
 {
-    let view = a.view;
-    let sent = a.sent;
-    let received = a.received;
-    (a.value == 0)
-        & (a.last == 0)
-        & (a.listens == 0)
-        & (a.informs == 0)
-        & (view.digits == 0)
-        & (a.stored == 0)
-        & (sent.is_zero() & received.is_zero())
+    a.value == 0
+        && a.last == 0
+        && a.listens == 0
+        && a.informs == 0
+        && a.view.digits == 0
+        && a.stored == 0
+        && a.sent.is_zero()
+        && a.received.is_zero()
 }
 
-// What is asked of agent i's links, where `informs` has every agent's set.
-fn links_in_shape(count: u8, informs: &[u16; 12], bans: &[u64; 66], i: u8, listens: u16) -> bool
-    requires { (1 ≤ i) × (i ≤ 12) }
-    ensures { (w : Network') → w.problem.count ≡ count → w.problem.bans ≡ bans.now → ((k x : ℕ) → (w.agents k).informs x ≡ set_of informs.now k x) → (w.agents i).listens ≡ members listens → result ≡ links_in_shape w i }
-{
-    if !listens_upward(i, listens) {
-        return false;
+impl Frame {
+    // Each agent above j either informs it and is listened to, or has no ban with it.
+    fn heard(&self, bans: &[u64; 66], j: u8, listens: u16) -> bool
+        requires { (1 ≤ j) × (j ≤ 12) }
+        ensures { (w : Network') → w.problem.bans ≡ bans.now → ((k x : ℕ) → (w.agents k).informs x ≡ set_of self.now.informs k x) → (w.agents j).listens ≡ members listens → result ≡ heard w j }
+    {
+        let words = words_before(j);
+        for i in (1..j).rev() {
+            let fits = if has(self.informs[i as usize - 1], j) {
+                has(listens, i)
+            } else {
+                bans[words + i as usize - 1] == 0
+            };
+            if !fits {
+                return false;
+            }
+        }
+        true
     }
-    if !informs_downward(count, i, informs[i as usize - 1]) {
-        return false;
-    }
-    heard(informs, bans, i, listens)
-}
 
-// What one agent holds by itself: its value, the last that it took, its view and its nogoods. Its counts may be any.
-fn holds_in_shape(verdict: bool, domains: u64, i: u8, a: Agent) -> bool
-    requires { (1 ≤ i) × (i ≤ 12) }
-    ensures { (w : Network') → w.verdict ≡ verdict → Domains w.problem domains → w.agents i ≡ agent_of a → result ≡ holds_in_shape w i }
-{
-    let d = digit(domains, i);
-    let view = a.view;
-    if !holds_value(verdict, d, a.value) {
-        return false;
+    // What is asked of agent i's links.
+    fn links_in_shape(&self, bans: &[u64; 66], i: u8, listens: u16) -> bool
+        requires { (1 ≤ i) × (i ≤ 12) }
+        ensures { (w : Network') → AgentFraming w self.now → w.problem.bans ≡ bans.now → (w.agents i).listens ≡ members listens → result ≡ links_in_shape w i }
+    {
+        listens_upward(i, listens)
+            && informs_downward(self.count, i, self.informs[i as usize - 1])
+            && self.heard(bans, i, listens)
     }
-    if !last_fits(d, a.value, a.last) {
-        return false;
-    }
-    if !view_listened(domains, a.listens, view) {
-        return false;
-    }
-    nogoods_fit(d, a)
-}
 
-// What is asked of agent i, where `informs` has every agent's set: its links and what it holds, or beyond n, that it is unused.
-pub fn agent_passes(
-    count: u8,
-    verdict: bool,
-    domains: u64,
-    informs: &[u16; 12],
-    bans: &[u64; 66],
-    i: u8,
-    a: Agent,
-) -> bool
-    requires { (1 ≤ i) × (i ≤ 12) }
-    ensures { (w : Network') → w.problem.count ≡ count → w.verdict ≡ verdict → Domains w.problem domains → w.problem.bans ≡ bans.now → ((k x : ℕ) → (w.agents k).informs x ≡ set_of informs.now k x) → w.agents i ≡ agent_of a → result ≡ agent_passes w i }
-{
-    if count < i {
-        return unused(a);
+    // What one agent holds by itself: its value, the last that it took, its view and its nogoods. Its counts may be any.
+    fn holds_in_shape(&self, i: u8, a: Agent) -> bool
+        requires { (1 ≤ i) × (i ≤ 12) }
+        ensures { (w : Network') → AgentFraming w self.now → w.agents i ≡ agent_of a → result ≡ holds_in_shape w i }
+    {
+        let d = digit(self.domains, i);
+        holds_value(self.verdict, d, a.value)
+            && last_fits(d, a.value, a.last)
+            && view_listened(self.domains, a.listens, a.view)
+            && nogoods_fit(d, a)
     }
-    if !links_in_shape(count, informs, bans, i, a.listens) {
-        return false;
+
+    // What is asked of agent i: its links and what it holds, or beyond n, that it is unused.
+    pub fn agent_passes(&self, bans: &[u64; 66], i: u8, a: Agent) -> bool
+        requires { (1 ≤ i) × (i ≤ 12) }
+        ensures { (w : Network') → AgentFraming w self.now → w.problem.bans ≡ bans.now → w.agents i ≡ agent_of a → result ≡ agent_passes w i }
+    {
+        if self.count < i {
+            unused(a)
+        } else {
+            self.links_in_shape(bans, i, a.listens) && self.holds_in_shape(i, a)
+        }
     }
-    holds_in_shape(verdict, domains, i, a)
 }

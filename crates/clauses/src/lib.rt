@@ -3,6 +3,7 @@
 
 pub mod agents;
 pub mod channels;
+pub mod frames;
 pub mod places;
 pub mod range;
 mod sets;

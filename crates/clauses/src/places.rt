@@ -12,10 +12,12 @@ pub fn channel_at(from: u8, to: u8) -> usize
     ensures { (result ≡ channel_at from to) × (result < 132) }
 {
     let row = 11 * (from - 1);
-    if to < from {
-        return (row + to - 1) as usize;
-    }
-    (row + to - 2) as usize
+    let place = if to < from {
+        row + to - 1
+    } else {
+        row + to - 2
+    };
+    place as usize
 }
 
 // The place of a channel's ring that stands so far ahead of its head.
@@ -31,7 +33,7 @@ pub fn lines_of(row: u64, from: u8) -> u64
     requires { (1 ≤ from) × (from ≤ 12) }
     ensures { (j : ℕ) → assignment result j ≡ (elim (is_channel from j) [ true ↦ assignment row j | false ↦ 0 ]) }
 {
-    with_digit(row % 281474976710656, from, 0)
+    with_digit(row % 0x1_0000_0000_0000, from, 0)
 }
 
 // The words of the ban table before those of this agent.

@@ -13,9 +13,7 @@ pub fn domain_digits(domains: &[u8; 12]) -> u64
     ensures { (p : Problem) → p.domains ≡ domains.now → length p.domains ≡ 12 → (k : ℕ) → assignment result k ≡ domain p k % 16 }
 {
     let mut word: u64 = 0;
-    let mut i: usize = 12;
-    while 0 < i {
-        i -= 1;
+    for i in (0..12).rev() {
         word = word * 16 + (domains[i] % 16) as u64;
     }
     word
@@ -40,12 +38,10 @@ fn domain_in_range(count: u8, i: u8, d: u8) -> bool
 fn domains_in_range(count: u8, domains: &[u8; 12]) -> bool
     ensures { (p : Problem) → p.count ≡ count → p.domains ≡ domains.now → result ≡ all_to max_agents (domain_in_range p) }
 {
-    let mut i: u8 = 12;
-    while 0 < i {
-        if !domain_in_range(count, i, domains[i as usize - 1]) {
+    for (k, d) in domains.iter().enumerate() {
+        if !domain_in_range(count, k as u8 + 1, *d) {
             return false;
         }
-        i -= 1;
     }
     true
 }
@@ -55,19 +51,17 @@ fn columns(e: u8) -> u64
     ensures { Columns e result }
 {
     if 8 <= e {
-        return 0xffff_ffff_ffff_ffff;
+        u64::MAX
+    } else {
+        0x0101_0101_0101_0101 * ((1u64 << e) - 1)
     }
-    0x0101_0101_0101_0101 * ((1u64 << e) - 1)
 }
 
 // The bits of a ban word that stand for no owned value of a lower agent with domain d: the bytes behind d.
 fn beyond(d: u8) -> u64
     ensures { Beyond d result }
 {
-    if 8 <= d {
-        return 0;
-    }
-    0xffff_ffff_ffff_ffffu64 << (8 * d)
+    if 8 <= d { 0 } else { u64::MAX << (8 * d) }
 }
 
 // The bits of a ban word that stand for no owned values: none are left exactly if the bans are between owned ones. Of the lower agent those beyond its
@@ -85,10 +79,8 @@ fn bans_of_owned(rows: &[u64; 12], columns: u64, bans: &[u64; 66], j: u8) -> boo
 {
     let words = words_before(j);
     let mut over: u64 = 0;
-    let mut k = j as usize - 1;
-    while 0 < k {
-        k -= 1;
-        over = over | unowned(rows[k], columns, bans[words + k]);
+    for k in (0..j as usize - 1).rev() {
+        over |= unowned(rows[k], columns, bans[words + k]);
     }
     over == 0
 }
@@ -98,10 +90,8 @@ fn all_beyond(domains: &[u8; 12]) -> [u64; 12]
     ensures { (length result ≡ 12) × ((i : ℕ) → i < 12 → Beyond (get_or domains.now i 0) (get_or result i 0)) }
 {
     let mut rows = [0u64; 12];
-    let mut k: usize = 0;
-    while k < 12 {
-        rows[k] = beyond(domains[k]);
-        k += 1;
+    for (k, d) in domains.iter().enumerate() {
+        rows[k] = beyond(*d);
     }
     rows
 }
@@ -110,28 +100,17 @@ fn bans_owned(domains: &[u8; 12], bans: &[u64; 66]) -> bool
     ensures { (p : Problem) → p.domains ≡ domains.now → p.bans ≡ bans.now → result ≡ bans_owned p }
 {
     let rows = all_beyond(domains);
-    let mut j: u8 = 12;
-    while 0 < j {
-        if !bans_of_owned(&rows, columns(domains[j as usize - 1]), bans, j) {
+    for (k, d) in domains.iter().enumerate() {
+        if !bans_of_owned(&rows, columns(*d), bans, k as u8 + 1) {
             return false;
         }
-        j -= 1;
     }
     true
 }
 
 // The whole problem, but for the arrays' lengths, which the types give.
-pub fn in_range<'a>(count: u8, domains: &'a [u8; 12], bans: &'a [u64; 66]) -> bool
+pub fn in_range(count: u8, domains: &[u8; 12], bans: &[u64; 66]) -> bool
     ensures { (p : Problem) → sized p ≡ true → p.count ≡ count → p.domains ≡ domains.now → p.bans ≡ bans.now → result ≡ in_range p }
 {
-    if count == 0 {
-        return false;
-    }
-    if 12 < count {
-        return false;
-    }
-    if !domains_in_range(count, domains) {
-        return false;
-    }
-    bans_owned(domains, bans)
+    0 < count && count <= 12 && domains_in_range(count, domains) && bans_owned(domains, bans)
 }

@@ -7,10 +7,7 @@ ghost use Rattle.packed.specs.Packed.{members};
 pub fn all_to(set: u16, m: u8) -> bool
     ensures { result ≡ each_in (members set) (λ k. leb k m) }
 {
-    if 16 <= m {
-        return true;
-    }
-    set >> m == 0
+    16 <= m || set >> m == 0
 }
 
 // All of the set are above i.

@@ -1,16 +1,17 @@
 -- A search along the lines ahead: what it finds here, or further on; and the turn as two such searches, behind the place and up to it.
-use Prim.Native.Nat.{ℕ, suc, ◌-◌, ◌≤◌, ◌<◌}
+use Prim.Native.Nat.{ℕ, suc, ◌-◌, ◌≤◌}
 use mathlib.Core.Path.{◌≡◌, refl, sym, ap, ap₂, subst, ◌∙◌}
 use mathlib.Core.Logic.{◌≢◌}
 use mathlib.Core.Bool.{true, false, ◌&&◌, and-false}
 use mathlib.Core.Option.{Option, none, some}
+use Rattle.std.specs.Prelude.{None}
 use mathlib.Core.List.{List, [], ◌∷◌, ◌++◌}
 use native.Mathlib.Omega.{arith}
 use lib.Dec.{eqb}
-use borrow.Author.Tests.{eq-eqb, ne_eqb, eqb-true}
+use borrow.Author.Tests.{eq-eqb, ne_eqb}
 use Rattle.base.specs.Lists.{All}
 use Rattle.base.specs.Finite.{gather}
-use Rattle.base.proofs.Tests.{test, eq_test, no-some, both}
+use Rattle.base.proofs.Tests.{test, eq_test, no-some}
 use Rattle.base.proofs.Lists.{All-append, gather-all}
 use Rattle.protocol.specs.Network.{Network}
 use Rattle.protocol.specs.Delivery.{numbers_good}
@@ -20,11 +21,8 @@ use Rattle.dispatch_rules.proofs.Turns.{Once, behind-at, new}
 use Rattle.dispatch_rules.proofs.AllLines.{lines-once}
 use Rattle.engine.proofs.Testing.{Good, good}
 use Rattle.dispatch.specs.Abstract.{line}
-use Rattle.dispatch.specs.Walking.{line_if, ahead, Stands}
-use Rattle.dispatch.proofs.Ahead.{ahead-line, ahead-end, line-none, line-one, before, lines_split}
-
-eqb_swap : (a b : ℕ) → eqb a b ≡ eqb b a
-eqb_swap a b = eq_test a b (λ e. rw e) (λ d. rw (ne_eqb a b d, ne_eqb b a (λ e. d (sym e))))
+use Rattle.dispatch.specs.Walking.{line_if, ahead, ahead_of}
+use Rattle.dispatch.proofs.Ahead.{ahead-line, line-none, line-one, before, lines_split}
 
 -- ---- one step of a search
 
@@ -41,35 +39,35 @@ module _ (w : Network) (p : Line) (n i j : ℕ) (h : j ≤ n) where
   finds d y = here d ∙ rw (y, first_of)
 
   -- the last line is here
-  pub ends : eqb i p.from && eqb j p.to ≡ true → 1 ≤ i → (p.from ≡ p.to → p.from ≡ 0) → deliverable w (line i j) ≡ false
-      → first_of w (up_to p (ahead n i j)) ≡ none
+  pub ends : line i j ≡ p → i ≢ j → deliverable w (line i j) ≡ false → first_of w (up_to p (ahead n i j)) ≡ none
   unfolding first_of up_to is_line
-  ends t lo z y =
-      let e = both (eqb i p.from) (eqb j p.to) t in
-      let a = eqb-true i p.from e.0 in
-      let b = eqb-true j p.to e.1 in
-      here (λ q. absurd (omega (arith, lo, a, z (sym a ∙ q ∙ b)))) ∙ rw (y, first_of, a, b, eq-eqb p.from p.from refl, eq-eqb p.to p.to refl)
+  ends e d y = here d ∙ rw (y, first_of, ← e, eq-eqb i i refl, eq-eqb j j refl)
+
+  elsewhere : (line i j ≡ p → ⊥) → eqb p.from i && eqb p.to j ≡ false
+  elsewhere q =
+      eq_test p.from i
+      (λ a. eq_test p.to j (λ b. absurd (q (ap₂ (λ (x y : ℕ). line x y) (sym a) (sym b)))) (λ b. rw (ne_eqb p.to j b, and-false)))
+      (λ a. rw (ne_eqb p.from i a))
 
   -- it is elsewhere
-  goes_on : eqb i p.from && eqb j p.to ≡ false → deliverable w (line i j) ≡ false
-      → first_of w (up_to p (ahead n i j)) ≡ first_of w (up_to p (ahead n i (suc j)))
+  goes_on : (line i j ≡ p → ⊥) → deliverable w (line i j) ≡ false → first_of w (up_to p (ahead n i j)) ≡ first_of w (up_to p (ahead n i (suc j)))
   unfolding first_of up_to is_line
   goes_on t y =
       eq_test i j
       (λ q. ap (λ (l : List Line). first_of w (up_to p l)) (ahead-line n i j h ∙ ap (λ (l : List Line). l ++ ahead n i (suc j)) (nothing q)))
-      (λ d. here d ∙ rw (y, first_of, eqb_swap p.from i, eqb_swap p.to j, t))
+      (λ d. here d ∙ rw (y, first_of, elsewhere t))
     where
       nothing : i ≡ j → line_if i j ≡ []
       nothing q = rw q (line-none j)
 
-  pub further : (a b : ℕ) → eqb i p.from && eqb j p.to ≡ false → deliverable w (line i j) ≡ false → ahead n i (suc j) ≡ ahead n a b
-      → first_of w (up_to p (ahead n i j)) ≡ first_of w (up_to p (ahead n a b))
-  further a b t y e = goes_on t y ∙ ap (λ (l : List Line). first_of w (up_to p l)) e
+  pub further : (ls : List Line) → (line i j ≡ p → ⊥) → deliverable w (line i j) ≡ false → ahead n i (suc j) ≡ ls
+      → first_of w (up_to p (ahead n i j)) ≡ first_of w (up_to p ls)
+  further ls t y e = goes_on t y ∙ ap (λ (l : List Line). first_of w (up_to p l)) e
 
 -- behind the last line
-pub over : (w : Network) (p : Line) (n i j : ℕ) → Stands n i j → n < j → first_of w (up_to p (ahead n i j)) ≡ none
-unfolding first_of up_to
-over w p n i j s h = rw (ahead-end n i j h (s.over h))
+pub over : (w : Network) (p : Line) (n : ℕ) → first_of w (up_to p (ahead_of n None)) ≡ none
+unfolding first_of up_to ahead_of
+over w p n = refl
 
 -- ---- nowhere to end
 

@@ -1,37 +1,69 @@
--- What a search over the turn finds, by the searches that it is made of: behind the place, then up to it.
+-- What a search over the turn finds, by the searches that it is made of: behind the place, then up to it. A primed name is the definitions'.
 use Prim.Native.Nat.{ℕ, suc, ◌≤◌}
-use mathlib.Core.Path.{◌≡◌, sym, ap, subst, ◌∙◌}
+use mathlib.Core.Path.{◌≡◌, refl, sym, ap, ap₂, subst, ◌∙◌}
 use mathlib.Core.Bool.{Bool, true, false, false≢true, not, ◌&&◌}
-use mathlib.Core.Option.{Option, none, some}
+use mathlib.Core.Option.{Option as Option', none, some}
 use mathlib.Core.List.{List, ◌++◌}
 use native.Mathlib.Omega.{arith}
 use lib.Dec.{eqb}
+use borrow.Author.Tests.{eq-eqb, eqb-true}
+use Rattle.std.specs.Prelude.{Option, Some, None, is_some}
+use Rattle.std.specs.Option.{option_eq}
 use Rattle.base.specs.Finite.{within}
-use Rattle.base.proofs.Tests.{opt}
+use Rattle.base.proofs.Tests.{opt, both}
 use Rattle.protocol.specs.Delivery.{numbers_good, deliver}
-use Rattle.protocol.specs.Run.{Line}
+use Rattle.protocol.specs.Run.{Line as Line'}
 use Rattle.dispatch_rules.specs.Dispatch.{up_to, turn, first_of}
 use Rattle.network.specs.declared.Network.{Network}
 use Rattle.network.specs.Abstract.{problem_of, network_of}
-use Rattle.dispatch.specs.declared.turns.Searched.{Searched}
-use Rattle.dispatch.specs.Abstract.{line}
-use Rattle.dispatch.specs.Walking.{ahead, Stands, SearchedAs}
+use Rattle.dispatch.specs.declared.Line.{Line}
+use Rattle.dispatch.specs.declared.turns.Found.{Found}
+use Rattle.dispatch.specs.Abstract.{line, line_of}
+use Rattle.dispatch.specs.Walking.{ahead, ahead_of, last_line, SearchedAs}
 use Rattle.dispatch.proofs.Searching.{turn-start, turn-parts, first-early, first-late}
 
 -- ---- what a search answers
 
-module _ (r : Network) (o : Option Line) where
-  pub found_as : (l : Line) (s : Searched) → o ≡ some l → s.found ≡ true → line s.from s.to ≡ l
-      → network_of s.network ≡ (deliver (network_of r) l.from l.to).network → SearchedAs r o s
-  found_as l s e a b c = rw e (a, b, c)
+module _ (r : Network) (o : Option' Line') where
+  pub found_as : (l : Line) (w : Network) → o ≡ some (line_of l) → network_of w ≡ (deliver (network_of r) l.from l.to).network
+      → SearchedAs r o (Some (record { line = l; network = w }))
+  found_as l w e a = rw e (refl, a)
 
-  pub none-as : (s : Searched) → o ≡ none → s.found ≡ false → s.network ≡ r → SearchedAs r o s
-  none-as s e a b = rw e (a, b)
+  pub none-as : o ≡ none → SearchedAs r o None
+  none-as e = rw e refl
+
+  -- what is found is some line's
+  pub found_is : {X : Type 0} (f : Found) → SearchedAs r o (Some f) → ((l : Line') → o ≡ some l → X) → X
+  found_is f x k =
+      opt o
+      (λ e. let y : SearchedAs r none (Some f) = subst (λ (p : Option' Line'). SearchedAs r p (Some f)) e x in let z : ◌≡◌ {A = ℕ} 0 1 = cc in absurd (omega arith))
+      k
+
+  pub none-is : SearchedAs r o None → o ≡ none
+  none-is x = opt o (λ e. e) (λ l e. absurd (subst (λ (p : Option' Line'). SearchedAs r p None) e x))
+
+-- ---- the last line
+
+module _ (same : Line → Line → Bool) (by-ends : (a b : Line) → same a b ≡ eqb a.from b.from && eqb a.to b.to) where
+  pub at-last : (last : Option Line) (l : Line) → option_eq same last (Some l) ≡ true → last ≡ Some l
+  at-last None l t = absurd (false≢true t)
+  at-last (Some m) l t =
+      let h = both (eqb m.from l.from) (eqb m.to l.to) (sym (by-ends m l) ∙ t) in
+      ap₂ (λ (x y : ℕ). Some (record { from = x; to = y })) (eqb-true m.from l.from h.0) (eqb-true m.to l.to h.1)
+
+  pub not-last : (last : Option Line) (l : Line) → option_eq same last (Some l) ≡ false → last ≡ Some l → ⊥
+  not-last last l t e =
+      let yes : option_eq same (Some l) (Some l) ≡ true = by-ends l l ∙ rw (eq-eqb l.from l.from refl, eq-eqb l.to l.to refl) in
+      false≢true (sym t ∙ ap (λ (o : Option Line). option_eq same o (Some l)) e ∙ yes)
+
+-- the last line of a walk is elsewhere
+pub elsewhere : (last : Option Line) (l : Line) → 1 ≤ l.from → (last ≡ Some l → ⊥) → line_of l ≡ last_line last → ⊥
+unfolding last_line
+elsewhere None l h n e = let z : l.from ≡ 0 = ap (λ (x : Line'). x.from) e in omega arith
+elsewhere (Some m) l h n e =
+    n (ap₂ (λ (x y : ℕ). Some (record { from = x; to = y })) (ap (λ (x : Line'). x.from) (sym e)) (ap (λ (x : Line'). x.to) (sym e)))
 
 -- ---- the turn
-
-pub at_first : (n : ℕ) → 1 ≤ n → Stands n 1 1
-at_first n h = record { low = omega arith; high = h; first = omega arith; last = omega arith; over = λ q. omega arith }
 
 module _ (r : Network) (i j : ℕ) where
   abbrev n : ℕ
@@ -45,44 +77,46 @@ module _ (r : Network) (i j : ℕ) where
   numbers b e = e
 
   -- the first line in turn
-  abbrev InTurn : Option Line
+  abbrev InTurn : Option' Line'
   InTurn = first_of (network_of r) (turn (network_of r) (line i j))
 
   -- the first of those ahead, up to a last one
-  abbrev Ahead : Line → ℕ → ℕ → Option Line
-  Ahead p a b = first_of (network_of r) (up_to p (ahead n a b))
+  abbrev Ahead : Option Line → Option Line → Option' Line'
+  Ahead last o = first_of (network_of r) (up_to (last_line last) (ahead_of n o))
 
-  pub from_start : (s : Searched) → 1 ≤ n → is_good ≡ false → SearchedAs r (Ahead (line 0 0) 1 1) s → SearchedAs r InTurn s
-  unfolding network_of problem_of
+  abbrev start : Option Line
+  start = Some (record { from = 1; to = 1 })
+
+  pub from_start : (s : Option Found) → 1 ≤ n → is_good ≡ false → SearchedAs r (Ahead None start) s → SearchedAs r InTurn s
+  unfolding network_of problem_of ahead_of last_line
   from_start s h g x =
-      subst (λ (o : Option Line). SearchedAs r o s) (ap (first_of (network_of r)) (sym (turn-start (network_of r) i j h (numbers false g)))) x
+      subst (λ (o : Option' Line'). SearchedAs r o s) (ap (first_of (network_of r)) (sym (turn-start (network_of r) i j h (numbers false g)))) x
 
-  module _ (g : is_good ≡ true) (a b : ℕ) (next : ahead n i (suc j) ≡ ahead n a b) where
-    late : List Line
+  module _ (g : is_good ≡ true) (o : Option Line) (next : ahead n i (suc j) ≡ ahead_of n o) where
+    late : List Line'
     late = up_to (line 0 0) (ahead n i (suc j))
 
-    early : List Line
+    early : List Line'
     early = up_to (line i j) (ahead n 1 1)
 
     parts : InTurn ≡ first_of (network_of r) (late ++ early)
     unfolding network_of problem_of late early
     parts = ap (first_of (network_of r)) (turn-parts (network_of r) i j (numbers true g))
 
-    behind : first_of (network_of r) late ≡ Ahead (line 0 0) a b
-    unfolding late
-    behind = ap (λ (l : List Line). first_of (network_of r) (up_to (line 0 0) l)) next
+    first : first_of (network_of r) late ≡ Ahead None o
+    unfolding late last_line
+    first = ap (λ (l : List Line'). first_of (network_of r) (up_to (line 0 0) l)) next
 
-    pub found-behind : (s : Searched) → s.found ≡ true → SearchedAs r (Ahead (line 0 0) a b) s → SearchedAs r InTurn s
-    found-behind s f x =
-        opt (Ahead (line 0 0) a b)
-        (λ e. let q : SearchedAs r none s = subst (λ (o : Option Line). SearchedAs r o s) e x in absurd (false≢true (sym q.0 ∙ f)))
-        (λ l e. subst (λ (o : Option Line). SearchedAs r o s) (e ∙ sym (parts ∙ first-early (network_of r) late early l (behind ∙ e))) x)
+    pub behind : (s : Option Found) → is_some s ≡ true → SearchedAs r (Ahead None o) s → SearchedAs r InTurn s
+    behind None t x = absurd (false≢true t)
+    behind (Some f) t x =
+        found_is r (Ahead None o) f x
+        (λ l e. subst (λ (p : Option' Line'). SearchedAs r p (Some f)) (e ∙ sym (parts ∙ first-early (network_of r) late early l (first ∙ e))) x)
 
-    pub found_before : (s t : Searched) → s.found ≡ false → SearchedAs r (Ahead (line 0 0) a b) s → SearchedAs r (Ahead (line i j) 1 1) t
-        → SearchedAs r InTurn t
-    unfolding early
-    found_before s t f x y =
-        opt (Ahead (line 0 0) a b)
-        (λ e. subst (λ (o : Option Line). SearchedAs r o t) (sym (parts ∙ first-late (network_of r) late early (behind ∙ e))) y)
-        (λ l e.
-        let q : SearchedAs r (some l) s = subst (λ (o : Option Line). SearchedAs r o s) e x in absurd (false≢true (sym f ∙ q.0)))
+    pub before : (s : Option Found) → is_some s ≡ false → SearchedAs r (Ahead None o) s
+        → (t : Option Found) → SearchedAs r (Ahead (Some (record { from = i; to = j })) start) t → SearchedAs r InTurn t
+    unfolding early last_line ahead_of
+    before None n x t y =
+        let e = none-is r (Ahead None o) x in
+        subst (λ (p : Option' Line'). SearchedAs r p t) (sym (parts ∙ first-late (network_of r) late early (first ∙ e))) y
+    before (Some f) n x t y = absurd (false≢true (sym n))

@@ -1,20 +1,27 @@
 -- What the dispatcher's record means, and what an answer does. A primed name is the definitions'.
-use Rattle.std.specs.Prelude.{ℕ, ◌≡◌, true, false}
-use Rattle.std.proofs.Math.Option.{Option, none, some}
+use Rattle.std.specs.Prelude.{ℕ, ◌≡◌, true, false, Option, MatchOption, Result, Ok, Err}
+use Rattle.refusals.specs.Refusals.{refusal_number}
+use Rattle.refusals.specs.declared.Refusal.{Refusal}
+use Rattle.std.proofs.Math.Option.{Option as Option', none, some}
 use Rattle.protocol.specs.Network.{Network}
 use Rattle.protocol.specs.Shape.{in_shape}
-use Rattle.protocol.specs.Delivery.{BadShape, VerdictStands, EmptyChannel, NoRoom, rejection_number, answer_number}
-use Rattle.protocol.specs.Run.{Line, idle}
-use Rattle.dispatch_rules.specs.Dispatch.{Dispatcher as Dispatcher', Pick}
+use Rattle.protocol.specs.Delivery.{BadShape, VerdictStands, EmptyChannel, NoRoom, rejection_number, answer_number, deliver}
+use Rattle.protocol.specs.Run.{Line as Line', idle}
+use Rattle.dispatch_rules.specs.Dispatch.{deliverable, Dispatcher as Dispatcher', Pick}
+use Rattle.network.specs.declared.Network.{Network as Record}
 use Rattle.network.specs.Abstract.{network_of}
+use Rattle.dispatch.specs.declared.Line.{Line}
 use Rattle.dispatch.specs.declared.Dispatcher.{Dispatcher}
 use Rattle.dispatch.specs.declared.Picked.{Picked}
 
-abbrev pub line : ℕ → ℕ → Line
+abbrev pub line : ℕ → ℕ → Line'
 line i j = record { from = i; to = j }
 
+abbrev pub line_of : Line → Line'
+line_of l = line l.from l.to
+
 unfoldable pub dispatcher_of : Dispatcher → Dispatcher'
-dispatcher_of d = record { network = network_of d.network; picks = d.picks; place = line d.from d.to }
+dispatcher_of d = record { network = network_of d.network; picks = d.picks; place = line_of d.place }
 
 -- "5 comes first, then 7 for a verdict": the number of the first that is met, 0 for neither
 unfoldable pub tested_by : Network → ℕ
@@ -28,14 +35,23 @@ tested_by w =
 unfoldable pub nothing_by : Network → ℕ
 nothing_by w = elim (idle w) [ true ↦ rejection_number EmptyChannel | false ↦ rejection_number NoRoom ]
 
--- 0 and 0 for no line
-unfoldable pub line_of : Option Line → Line
-line_of none = line 0 0
-line_of (some l) = l
+-- a delivery on this line, where it is accepted, leaves this network
+abbrev pub DeliveredAs : Network → Line' → Option Record → Type 0
+DeliveredAs w l o =
+    MatchOption o (deliverable w l ≡ false) (λ r. (deliverable w l ≡ true) × (network_of r ≡ (deliver w l.from l.to).network))
+
+-- number 0 and the line served, or the refusal's number and no line
+abbrev pub answered_number : Result Line Refusal → ℕ
+answered_number (Ok l) = 0
+answered_number (Err e) = refusal_number e
+
+abbrev pub served_of : Result Line Refusal → Option' Line'
+served_of (Ok l) = some (line_of l)
+served_of (Err e) = none
 
 -- a pick on d is answered as the definitions' pick p. A refused one hands back the very state given, unused places and all.
 pub record PicksAs (d : Dispatcher) (p : Pick) (answer : Picked) : Type 0 where
-  pub number : answer.number ≡ answer_number p.answer
-  pub served : line answer.from answer.to ≡ line_of p.served
+  pub number : answered_number answer.answer ≡ answer_number p.answer
+  pub served : served_of answer.answer ≡ p.served
   pub state : dispatcher_of answer.state ≡ p.state
-  pub untouched : (answer.number ≡ 0 → ⊥) → answer.state ≡ d
+  pub untouched : (answered_number answer.answer ≡ 0 → ⊥) → answer.state ≡ d

@@ -1,39 +1,51 @@
--- The walk of a search over the lines of n agents, by sender, then receiver: where it stands, and the lines still ahead.
-use Rattle.std.specs.Prelude.{ℕ, suc, ◌+◌, ◌*◌, ◌-◌, ◌≤◌, ◌<◌, ◌≡◌, true, false, cond, List, [], ◌∷◌, ◌++◌, eqb}
-use Rattle.std.proofs.Math.Option.{Option, none, some}
+-- The walk of a search over the lines of n agents, by sender, then receiver: where it stands, and the lines still ahead. A primed name is the definitions'.
+use Rattle.std.specs.Prelude.{ℕ, suc, ◌+◌, ◌*◌, ◌-◌, ◌≤◌, ◌<◌, ◌≡◌, cond, List, [], ◌∷◌, ◌++◌, eqb, Option, Some, None, IfSome, MatchOption}
+use Rattle.std.proofs.Math.Option.{Option as Option', none, some}
 use Rattle.base.specs.Finite.{gather}
 use Rattle.protocol.specs.Delivery.{deliver}
-use Rattle.protocol.specs.Run.{Line}
+use Rattle.protocol.specs.Run.{Line as Line'}
 use Rattle.dispatch_rules.specs.Dispatch.{lines_from}
 use Rattle.network.specs.declared.Network.{Network}
 use Rattle.network.specs.Abstract.{network_of}
-use Rattle.dispatch.specs.declared.turns.Searched.{Searched}
-use Rattle.dispatch.specs.Abstract.{line}
+use Rattle.dispatch.specs.declared.Line.{Line}
+use Rattle.dispatch.specs.declared.turns.Found.{Found}
+use Rattle.dispatch.specs.Abstract.{line, line_of}
 
 -- the line from i to j, where it is one
-unfoldable pub line_if : ℕ → ℕ → List Line
+unfoldable pub line_if : ℕ → ℕ → List Line'
 line_if i j = cond (eqb i j) [] (line i j ∷ [])
 
 -- the lines of sender i to receiver j and those above it, then the lines of the senders above i
-unfoldable pub ahead : ℕ → ℕ → ℕ → List Line
+unfoldable pub ahead : ℕ → ℕ → ℕ → List Line'
 ahead n i j = gather (suc n - j) j (line_if i) ++ gather (n - i) (suc i) (lines_from n)
 
--- the walk stands at sender i and receiver j; behind the last receiver it is over, and stands at the last sender
-pub record Stands (n i j : ℕ) : Type 0 where
-  pub low : 1 ≤ i
-  pub high : i ≤ n
-  pub first : 1 ≤ j
-  pub last : j ≤ suc n
-  pub over : n < j → n ≤ i
+-- none where the walk is over
+unfoldable pub ahead_of : ℕ → Option Line → List Line'
+ahead_of n None = []
+ahead_of n (Some l) = ahead n l.from l.to
 
--- from i and j it goes on to a and b
-pub record NextOf (n i j a b : ℕ) : Type 0 where
-  pub stands : Stands n a b
-  pub same : ahead n i (suc j) ≡ ahead n a b
-  pub further : 13 * i + j < 13 * a + b
+-- the last line of a walk; no line for one that goes on to the end
+unfoldable pub last_line : Option Line → Line'
+last_line None = line 0 0
+last_line (Some l) = line_of l
 
--- a search on r that finds this line, or none: the line is served; where there is none, the very network given is handed back
-abbrev pub SearchedAs : Network → Option Line → Searched → Type 0
-SearchedAs r none s = (s.found ≡ false) × (s.network ≡ r)
-SearchedAs r (some l) s =
-    (s.found ≡ true) × (line s.from s.to ≡ l) × (network_of s.network ≡ (deliver (network_of r) l.from l.to).network)
+-- the walk stands at a sender and a receiver, which may be one
+pub record Stands (n : ℕ) (l : Line) : Type 0 where
+  pub low : 1 ≤ l.from
+  pub high : l.from ≤ n
+  pub first : 1 ≤ l.to
+  pub last : l.to ≤ n
+
+abbrev pub order : Line → ℕ
+order l = 13 * l.from + l.to
+
+-- behind l it goes on to a later one, or is over
+pub record NextOf (n : ℕ) (l : Line) (o : Option Line) : Type 0 where
+  pub same : ahead n l.from (suc l.to) ≡ ahead_of n o
+  pub stands : IfSome o (Stands n)
+  pub further : IfSome o (λ m. order l < order m)
+
+-- a search on r that finds this line, or none: the line is served
+abbrev pub SearchedAs : Network → Option' Line' → Option Found → Type 0
+SearchedAs r none o = o ≡ None
+SearchedAs r (some l) o = MatchOption o ⊥ (λ f. (line_of f.line ≡ l) × (network_of f.network ≡ (deliver (network_of r) l.from l.to).network))

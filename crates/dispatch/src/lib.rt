@@ -2,151 +2,149 @@
 #![tactic(auto)]
 
 ghost use Rattle.std.specs.Prelude.{◌≡◌};
+ghost use Rattle.refusals.specs.Refusals.{refusal_number};
 ghost use Rattle.agent_rules.specs.Counts.{raised};
 ghost use Rattle.dispatch_rules.specs.Dispatch.{turn, first_of, is_odd, evenly, pick as pick_by, dispatcher};
 ghost use Rattle.network.specs.Abstract.{network_of};
-ghost use Rattle.dispatch.specs.Abstract.{line, dispatcher_of, tested_by, nothing_by, PicksAs};
+ghost use Rattle.engine.specs.Refused.{refused_number};
+ghost use Rattle.dispatch.specs.Abstract.{line_of, dispatcher_of, tested_by, nothing_by, DeliveredAs, PicksAs};
 
 mod turns;
 
 use engine::Ending;
 use network::Network;
-use turns::in_turn;
+use refusals::Refusal;
+use turns::{Found, in_turn};
 
-// The network, the count of picks, and the place: the line that an even pick served last, 0 and 0 at first.
+// A line, by its ends: from one scanner to another. Any two numbers may stand here, as a host may wish or store them; 0 and 0 is no line.
+#[derive(Clone, Copy, PartialEq, Eq)]
+pub struct Line {
+    pub from: u8,
+    pub to: u8,
+}
+
+// 0 and 0.
+pub const NO_LINE: Line = Line { from: 0, to: 0 };
+
+// The network, the count of picks, and the place: the line that an even pick served last, no line at first.
 #[derive(Clone, Copy)]
 pub struct Dispatcher {
     pub network: Network,
     pub picks: u64,
-    pub from: u8,
-    pub to: u8,
+    pub place: Line,
 }
 
-// The number of the rejection, 0 for none; the line served, 0 and 0 where the pick is refused; and the state.
+// The line served, or why the pick is refused; and the state.
 #[derive(Clone, Copy)]
 pub struct Picked {
-    pub number: u8,
-    pub from: u8,
-    pub to: u8,
+    pub answer: Result<Line, Refusal>,
     pub state: Dispatcher,
 }
 
 // The count is zero, and the place is no line.
-pub fn begin(r: Network) -> Dispatcher
-    ensures { dispatcher_of result ≡ dispatcher (network_of r) }
+#[tactic(auto, unfolding(crate::specs::Abstract::dispatcher_of, dispatch_rules::specs::Dispatch::dispatcher))]
+pub fn begin(network: Network) -> Dispatcher
+    ensures { dispatcher_of result ≡ dispatcher (network_of network) }
 {
     Dispatcher {
-        network: r,
+        network,
         picks: 0,
-        from: 0,
-        to: 0,
+        place: NO_LINE,
     }
 }
 
 // The pick behind so many takes the wish: it is odd, and the count is not at its top.
+#[tactic(auto, unfolding(dispatch_rules::specs::Dispatch::is_odd, agent_rules::specs::Counts::top))]
 fn is_odd(picks: u64) -> bool
     ensures { result ≡ is_odd picks }
 {
-    (picks < 18446744073709551615) & (picks % 2 == 0)
+    picks < u64::MAX && picks % 2 == 0
 }
 
 // The count with one pick more. At the top it stays.
+#[tactic(auto, unfolding(agent_rules::specs::Counts::raised, agent_rules::specs::Counts::top))]
 fn one_more(picks: u64) -> u64
     ensures { result ≡ raised picks 1 }
 {
-    if picks == 18446744073709551615 {
-        return 18446744073709551615;
-    }
-    picks + 1
+    picks.saturating_add(1)
 }
 
-// The first of 5 and 7 that a pick meets; 0 where it meets none.
-fn tested(r: Network) -> u8
-    ensures { result ≡ tested_by (network_of r) }
+// The first of 5 and 7 that a pick meets, where it meets one.
+#[tactic(auto, unfolding(crate::specs::Abstract::tested_by, protocol::specs::Delivery::rejection_number, network::specs::Abstract::network_of))]
+fn tested(r: Network) -> Option<Refusal>
+    ensures { refused_number result ≡ tested_by (network_of r) }
 {
-    let good = network::in_shape(r);
-    let over = r.verdict;
-    if !good {
-        return 5;
+    if !r.is_in_shape() {
+        Some(Refusal::BadShape)
+    } else if r.verdict {
+        Some(Refusal::VerdictStands)
+    } else {
+        None
     }
-    if over {
-        return 7;
-    }
-    0
 }
 
 // 8 where nothing waits, 10 where something does: a run that may use no round says so.
-fn none_deliverable(r: Network) -> u8
+fn none_deliverable(r: Network) -> Refusal
     requires { tested_by (network_of r) ≡ 0 }
-    ensures { result ≡ nothing_by (network_of r) }
+    ensures { refusal_number result ≡ nothing_by (network_of r) }
 {
-    let a = run::run(r, 0);
-    let ending = a.ending;
-    match ending {
-        Ending::Plan => 8,
-        _ => 10,
+    match run::run(r, 0).ending {
+        Ending::Plan => Refusal::EmptyChannel,
+        _ => Refusal::NoRoom,
+    }
+}
+
+// The network behind a delivery on this line, where it is accepted.
+fn delivered(r: Network, line: Line) -> Option<Network>
+    ensures { DeliveredAs (network_of r) (line_of line) result }
+{
+    let a = run::deliver(r, line.from, line.to);
+    match a.refusal {
+        None => Some(a.network),
+        Some(_) => None,
     }
 }
 
 // An even pick, past 5 and 7: the first line in turn that can be delivered is served, and is the place from then on.
 fn pick_in_turn(d: Dispatcher) -> Picked
     requires { tested_by (network_of d.network) ≡ 0 }
-    ensures { PicksAs d (evenly (dispatcher_of d) (first_of (network_of d.network) (turn (network_of d.network) (line d.from d.to)))) result }
+    ensures { PicksAs d (evenly (dispatcher_of d) (first_of (network_of d.network) (turn (network_of d.network) (line_of d.place)))) result }
 {
-    let r = d.network;
-    let s = in_turn(r, d.from, d.to);
-    if s.found {
-        let left = s.network;
-        let state = Dispatcher {
-            network: left,
-            picks: one_more(d.picks),
-            from: s.from,
-            to: s.to,
-        };
-        return Picked {
-            number: 0,
-            from: s.from,
-            to: s.to,
-            state: state,
-        };
-    }
-    Picked {
-        number: none_deliverable(r),
-        from: 0,
-        to: 0,
-        state: d,
+    match in_turn(d.network, d.place) {
+        Some(Found { line, network }) => Picked {
+            answer: Ok(line),
+            state: Dispatcher {
+                network,
+                picks: one_more(d.picks),
+                place: line,
+            },
+        },
+        None => Picked {
+            answer: Err(none_deliverable(d.network)),
+            state: d,
+        },
     }
 }
 
 // An odd pick tries the wish, and where it is served leaves the place. A wish that is not met makes an even pick. A refused pick hands back the very state given.
-pub fn pick(d: Dispatcher, from: u8, to: u8) -> Picked
-    ensures { PicksAs d (pick_by (dispatcher_of d) (line from to)) result }
+pub fn pick(d: Dispatcher, wish: Line) -> Picked
+    ensures { PicksAs d (pick_by (dispatcher_of d) (line_of wish)) result }
 {
-    let r = d.network;
-    let number = tested(r);
-    if number != 0 {
+    if let Some(refusal) = tested(d.network) {
         return Picked {
-            number: number,
-            from: 0,
-            to: 0,
+            answer: Err(refusal),
             state: d,
         };
     }
     if is_odd(d.picks) {
-        let a = run::deliver(r, from, to);
-        if a.number == 0 {
-            let left = a.network;
-            let state = Dispatcher {
-                network: left,
-                picks: one_more(d.picks),
-                from: d.from,
-                to: d.to,
-            };
+        if let Some(network) = delivered(d.network, wish) {
             return Picked {
-                number: a.number,
-                from: from,
-                to: to,
-                state: state,
+                answer: Ok(wish),
+                state: Dispatcher {
+                    network,
+                    picks: one_more(d.picks),
+                    ..d
+                },
             };
         }
     }

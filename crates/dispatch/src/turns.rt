@@ -1,117 +1,98 @@
 // Going round the lines: the first in turn that can be delivered.
-ghost use Rattle.std.specs.Prelude.{◌≡◌, not, ◌&&◌, ◌≤◌, eqb};
+ghost use Rattle.std.specs.Prelude.{◌≡◌, ◌≢◌, not, ◌&&◌, ◌≤◌, eqb, IfSome};
 ghost use Rattle.base.specs.Finite.{within};
 ghost use Rattle.dispatch_rules.specs.Dispatch.{up_to, turn, first_of};
 ghost use Rattle.network.specs.Abstract.{network_of};
-ghost use Rattle.dispatch.specs.Abstract.{line};
-ghost use Rattle.dispatch.specs.Walking.{ahead, Stands, NextOf, SearchedAs};
+ghost use Rattle.dispatch.specs.Abstract.{line_of, DeliveredAs};
+ghost use Rattle.dispatch.specs.Walking.{ahead_of, last_line, Stands, NextOf, SearchedAs};
 
+use crate::{Line, delivered};
 use network::Network;
 use packed::digit;
 
-// Where a walk over the lines stands, by sender, then receiver; behind the last receiver where it is over.
+// The line that a search served, and the network behind it.
 #[derive(Clone, Copy)]
-pub struct Cursor {
-    pub from: u8,
-    pub to: u8,
-}
-
-// The line that a search served, and the network behind it; or the network given.
-#[derive(Clone, Copy)]
-pub struct Searched {
-    pub found: bool,
-    pub from: u8,
-    pub to: u8,
+pub struct Found {
+    pub line: Line,
     pub network: Network,
 }
 
-// The numbers are 1 to n, and different.
-fn is_line(n: u8, from: u8, to: u8) -> bool
-    ensures { result ≡ within n from && within n to && not (eqb from to) }
-{
-    (0 < from) & (from <= n) & ((0 < to) & (to <= n)) & (from != to)
+impl Line {
+    // The numbers are 1 to n, and different.
+    #[tactic(auto, unfolding(base::specs::Finite::within))]
+    fn is_line(self, n: u8) -> bool
+        ensures { result ≡ within n self.from && within n self.to && not (eqb self.from self.to) }
+    {
+        0 < self.from && self.from <= n && (0 < self.to && self.to <= n) && self.from != self.to
+    }
+
+    // By sender, then receiver: one receiver further, or one sender further, or over.
+    fn next(self, n: u8) -> Option<Line>
+        requires { Stands n self × (n ≤ 12) }
+        ensures { NextOf n self result }
+    {
+        if self.to < n {
+            Some(Line {
+                to: self.to + 1,
+                ..self
+            })
+        } else if self.from < n {
+            Some(Line {
+                from: self.from + 1,
+                to: 1,
+            })
+        } else {
+            None
+        }
+    }
 }
 
-// One receiver further, or one sender further, or over.
-fn next(n: u8, from: u8, to: u8) -> Cursor
-    requires { (1 ≤ from) × (from ≤ n) × (1 ≤ to) × (to ≤ n) × (n ≤ 12) }
-    ensures { NextOf n from to result.from result.to }
+// The network behind a delivery on this line, where it is accepted. With nothing waiting there it is not tried.
+fn tried(r: Network, line: Line) -> Option<Network>
+    requires { Stands r.count line × (r.count ≤ 12) }
+    ensures { DeliveredAs (network_of r) (line_of line) result }
 {
-    if to < n {
-        return Cursor {
-            from: from,
-            to: to + 1,
-        };
-    }
-    if from < n {
-        return Cursor {
-            from: from + 1,
-            to: 1,
-        };
-    }
-    Cursor {
-        from: from,
-        to: to + 1,
+    if digit(r.counts[line.from as usize - 1], line.to) == 0 {
+        None
+    } else {
+        delivered(r, line)
     }
 }
 
-// The first line that can be delivered, from one on, up to a last one where there is such. A line with nothing waiting is not tried.
-fn first_from(r: Network, at: Cursor, last: Cursor) -> Searched
-    requires stands { Stands r.count at.from at.to }
-    requires count_bound { (r.count ≤ 12) × (last.from ≡ last.to → last.from ≡ 0) }
-    ensures { SearchedAs r (first_of (network_of r) (up_to (line last.from last.to) (ahead r.count at.from at.to))) result }
+// The first line that can be delivered, from one on, up to a last one where there is such.
+fn first_from(r: Network, first: Option<Line>, last: Option<Line>) -> Option<Found>
+    requires stands { IfSome first (λ l. Stands r.count l) }
+    requires apart { IfSome last (λ l. l.from ≢ l.to) }
+    requires count_bound { r.count ≤ 12 }
+    ensures { SearchedAs r (first_of (network_of r) (up_to (last_line last) (ahead_of r.count first))) result }
 {
-    let n = r.count;
-    let mut from = at.from;
-    let mut to = at.to;
-    while to <= n {
-        if digit(r.counts[from as usize - 1], to) != 0 {
-            let a = run::deliver(r, from, to);
-            if a.number == 0 {
-                let left = a.network;
-                return Searched {
-                    found: true,
-                    from: from,
-                    to: to,
-                    network: left,
-                };
-            }
+    let mut next = first;
+    while let Some(line) = next {
+        if let Some(network) = tried(r, line) {
+            return Some(Found { line, network });
         }
-        if (from == last.from) & (to == last.to) {
-            return Searched {
-                found: false,
-                from: 0,
-                to: 0,
-                network: r,
-            };
+        if last == Some(line) {
+            return None;
         }
-        let c = next(n, from, to);
-        from = c.from;
-        to = c.to;
+        next = line.next(r.count);
     }
-    Searched {
-        found: false,
-        from: 0,
-        to: 0,
-        network: r,
-    }
+    None
 }
 
 // The first line in turn that can be delivered: those behind the place, then those up to it; all of them where the place is no line.
-pub fn in_turn(r: Network, from: u8, to: u8) -> Searched
+pub fn in_turn(r: Network, place: Line) -> Option<Found>
     requires { (1 ≤ r.count) × (r.count ≤ 12) }
-    ensures { SearchedAs r (first_of (network_of r) (turn (network_of r) (line from to))) result }
+    ensures { SearchedAs r (first_of (network_of r) (turn (network_of r) (line_of place))) result }
 {
-    let n = r.count;
-    let start = Cursor { from: 1, to: 1 };
-    let nowhere = Cursor { from: 0, to: 0 };
-    if !is_line(n, from, to) {
-        return first_from(r, start, nowhere);
+    let start = Some(Line { from: 1, to: 1 });
+    if place.is_line(r.count) {
+        let behind = first_from(r, place.next(r.count), None);
+        if behind.is_some() {
+            behind
+        } else {
+            first_from(r, start, Some(place))
+        }
+    } else {
+        first_from(r, start, None)
     }
-    let place = Cursor { from: from, to: to };
-    let s = first_from(r, next(n, from, to), nowhere);
-    if s.found {
-        return s;
-    }
-    first_from(r, start, place)
 }

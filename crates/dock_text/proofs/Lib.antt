@@ -1,4 +1,5 @@
 pub mod Cut
-mod Refused
+mod Settled
+mod Plans
 mod Lines
 mod Printed

@@ -4,17 +4,17 @@ use mathlib.Core.List.{List}
 use Prim.Native.Nat.{ℕ, ◌≤◌, min}
 use native.Mathlib.Omega.{arith}
 use lib.ListN.{length, take, length-take}
-use borrow.Author.Tests.{eq-eqb, ne_eqb}
+use borrow.Author.Tests.{ne_eqb}
 use Rattle.io.specs.Counts.{IsPrefixLen}
 use Rattle.protocol.specs.Network.{Network, start_sheet}
 use Rattle.protocol.specs.Run.{Plan, Ran}
 use Rattle.engine.specs.Answers.{ending_of}
 use Rattle.text.specs.Text.{line_of, Appends}
-use Rattle.dock_text.specs.declared.Settlement.{Settlement}
-use Rattle.dock_text.specs.Settling.{program_rule, Settles, settled}
+use Rattle.engine.specs.declared.Answer.{Answer}
+use Rattle.dock_text.specs.Settling.{program_rule, RunOf, settled}
 use Rattle.dock_text.specs.Text.{sheet_refused, answer_text, settled_text, dock_text, Prints}
 use Rattle.dock_text.proofs.Cut.{text-cut}
-use Rattle.dock_text.proofs.Refused.{plan-counted}
+use Rattle.dock_text.proofs.Plans.{plan-counted}
 use Rattle.dock_text.proofs.Lines.{count-is}
 
 prints : (rounds : ℕ) (sheet s old new : List ℕ) (n : ℕ) → Appends old 0 s new n → s ≡ dock_text rounds sheet → Prints rounds sheet new n
@@ -36,23 +36,24 @@ text-refused : (n : ℕ) (r : Ran) → (n ≡ 0 → ⊥) → settled_text n r �
 unfolding settled_text
 text-refused n r h = rw (ne_eqb n 0 h, settled_text)
 
-module _ (rounds : ℕ) (sheet : List ℕ) (s : Settlement) (S : Settles rounds sheet s) (old new : List ℕ) (n : ℕ) where
-  pub prints-refused : (s.number ≡ 0 → ⊥) → Appends old 0 (line_of sheet_refused s.number) new n → Prints rounds sheet new n
+module _ (rounds : ℕ) (sheet : List ℕ) (old new : List ℕ) (n : ℕ) where
+  pub prints-refused : (k : ℕ) → k ≡ (start_sheet program_rule sheet).number → (k ≡ 0 → ⊥) → Appends old 0 (line_of sheet_refused k) new n
+      → Prints rounds sheet new n
   unfolding dock_text
-  prints-refused r A =
+  prints-refused k e r A =
       let R : Ran = settled rounds sheet in
-      prints rounds sheet (line_of sheet_refused s.number) old new n A
-      (sym (ap (λ (k : ℕ). settled_text k R) (sym S.number) ∙ text-refused s.number R r))
+      prints rounds sheet (line_of sheet_refused k) old new n A (sym (ap (λ (k : ℕ). settled_text k R) (sym e) ∙ text-refused k R r))
 
-  pub prints-ran : s.number ≡ 0 → Appends old 0 (answer_text s.ran) new n → Prints rounds sheet new n
+  pub prints-ran : (ran : Answer) → 0 ≡ (start_sheet program_rule sheet).number → RunOf rounds sheet ran → Appends old 0 (answer_text ran) new n
+      → Prints rounds sheet new n
   unfolding answer_text settled_text dock_text
-  prints-ran z A =
-      prints rounds sheet (answer_text s.ran) old new n A
-      (rw (S.ending, S.made, S.network) (sym (rw (← S.number, eq-eqb s.number 0 z, settled_text))))
+  prints-ran ran z S A =
+      prints rounds sheet (answer_text ran) old new n A
+      (rw (S.ending, S.made, S.network) (sym (rw (← z, settled_text))))
 
 -- a plan is of at most twelve agents
-pub counted : (rounds : ℕ) (sheet : List ℕ) (s : Settlement) → Settles rounds sheet s → ending_of s.ran.ending ≡ Plan → s.ran.network.count ≤ 12
+pub counted : (rounds : ℕ) (sheet : List ℕ) (ran : Answer) → RunOf rounds sheet ran → ending_of ran.ending ≡ Plan → ran.network.count ≤ 12
 unfolding settled
-counted rounds sheet s S e =
-    subst (λ (k : ℕ). k ≤ 12) (sym (ap (λ (w : Network). w.problem.count) S.network) ∙ count-is s.ran.network)
+counted rounds sheet ran S e =
+    subst (λ (k : ℕ). k ≤ 12) (sym (ap (λ (w : Network). w.problem.count) S.network) ∙ count-is ran.network)
     (plan-counted rounds (start_sheet program_rule sheet).network (sym S.ending ∙ e))

@@ -12,26 +12,18 @@ ghost use Rattle.dock_text.specs.Text.{slot_line, slot_lines, plan_lines, answer
 
 use engine::{Answer, Ending};
 use network::Network;
+use refusals::Refusal;
 use text::{append, append_line, append_number};
 use words::append_ending;
 
-// What a sheet comes to: the number of its fault, or 0, and the run on its start.
-#[derive(Clone, Copy)]
-pub struct Settlement {
-    pub number: u8,
-    pub ran: Answer,
-}
-
-// The start of a sheet by rule 1, and the run on it with so many rounds.
-pub fn settle(sheet: &[u8], rounds: u64) -> Settlement
+// What a sheet comes to: the start by rule 1 and the run on it with so many rounds, or the refusal of the sheet. A match, since `?` moves the network twice,
+// and a season of small sheets then takes a third longer.
+pub fn settle(sheet: &[u8], rounds: u64) -> Result<Answer, Refusal>
     ensures { Settles rounds sheet.now result }
 {
-    let started = start::start(1, sheet);
-    let network = started.network;
-    let ran = run::run(network, rounds);
-    Settlement {
-        number: started.number,
-        ran: ran,
+    match start::start(1, sheet) {
+        Ok(rail) => Ok(run::run(rail, rounds)),
+        Err(refusal) => Err(refusal),
     }
 }
 
@@ -43,8 +35,8 @@ fn append_slot(out: &mut [u8], at: usize, i: u8, v: u8) -> usize
     ensures { Appends out.old at (slot_line i v) out.new result × (result ≤ at + 55) }
 {
     let a = append(out, at, b"scanner ");
-    let b = append_number(out, a, i as u64);
-    append_line(out, b, b" slot ", v as u64)
+    let b = append_number(out, a, u64::from(i));
+    append_line(out, b, b" slot ", u64::from(v))
 }
 
 // A line for each scanner.
@@ -53,10 +45,8 @@ fn append_slots(out: &mut [u8], at: usize, r: Network) -> usize
     ensures { Appends out.old at (slot_lines (network_of r)) out.new result }
 {
     let mut n = at;
-    let mut i: u8 = 0;
-    while i < r.count {
-        i += 1;
-        n = append_slot(out, n, i, network::value(r, i).value);
+    for i in 1..=r.count {
+        n = append_slot(out, n, i, network::value(r, i).unwrap_or(0));
     }
     n
 }
@@ -67,11 +57,8 @@ fn append_plan(out: &mut [u8], at: usize, e: Ending, r: Network) -> usize
     ensures { Appends out.old at (plan_lines (ending_of e) (network_of r)) out.new result }
 {
     match e {
-        Ending::None => at,
         Ending::Plan => append_slots(out, at, r),
-        Ending::Jammed => at,
-        Ending::Open => at,
-        Ending::Broken => at,
+        _ => at,
     }
 }
 
@@ -80,13 +67,11 @@ fn append_ran(out: &mut [u8], ran: Answer) -> usize
     requires { (1024 ≤ length out.old) × (ending_of ran.ending ≡ Plan → ran.network.count ≤ 12) }
     ensures { Appends out.old 0 (answer_text ran) out.new result }
 {
-    let ending = ran.ending;
-    let network = ran.network;
     let a = append(out, 0, b"verdict ");
-    let b = append_ending(out, a, ending);
+    let b = append_ending(out, a, ran.ending);
     let c = append(out, b, b"\n");
     let d = append_line(out, c, b"rounds ", ran.rounds);
-    append_plan(out, d, ending, network)
+    append_plan(out, d, ran.ending, ran.network)
 }
 
 // The text for a sheet, with so many rounds allowed, and how many bytes it has.
@@ -94,15 +79,14 @@ pub fn text(sheet: &[u8], rounds: u64, out: &mut [u8; 1024]) -> usize
     ensures prints { Prints rounds sheet.now out.new result }
     ensures prefix_len { IsPrefixLen result out.new }
 {
-    let s = settle(sheet, rounds);
-    if s.number != 0 {
-        return append_line(out, 0, b"sheet refused ", s.number as u64);
+    match settle(sheet, rounds) {
+        Ok(ran) => append_ran(out, ran),
+        Err(refusal) => append_line(out, 0, b"sheet refused ", u64::from(refusal.number())),
     }
-    let ran = s.ran;
-    append_ran(out, ran)
 }
 
 // The text of the program, which runs with 100,000 rounds.
+#[tactic(auto, unfolding(crate::specs::Settling::program_rounds))]
 pub fn program_text(sheet: &[u8], out: &mut [u8; 1024]) -> usize
     ensures prints { Prints program_rounds sheet.now out.new result }
     ensures prefix_len { IsPrefixLen result out.new }

@@ -6,12 +6,13 @@ use mathlib.Core.List.{List, []}
 use lib.ListN.{length, set, length-set}
 use Rattle.base.specs.Finite.{at}
 use Rattle.problem.specs.Problem.{pairs_before}
+use Rattle.agent_rules.specs.Message.{Post as Post'}
 use Rattle.packed.specs.Packed.{assignment}
 use Rattle.choosing.specs.declared.Bars.{Bars}
-use Rattle.agent.specs.declared.Posts.{Posts}
 use Rattle.agent.specs.declared.Step.{Step}
 use Rattle.agent.specs.Posting.{posts_left}
 use Rattle.network.specs.declared.Network.{Network}
+use Rattle.network_laws.specs.Held.{held_at, row_fits}
 use Rattle.network_laws.proofs.Changes.{rowed, arrived, arrived-sized, counted-sized, Taken}
 use Rattle.network_laws.proofs.Handing.{Stepped, finds-no-room, delivers}
 use Rattle.engine.specs.Lines.{NextVisit}
@@ -19,27 +20,28 @@ use Rattle.engine.specs.Working.{Worked}
 use Rattle.engine.specs.declared.lines.Visit.{Visit}
 use Rattle.engine.proofs.Barrings.{Barred, BarsOf, bars-stored}
 use Rattle.engine.proofs.Here.{Live, Here}
-use Rattle.engine.proofs.Storing.{Storing, stays-clean}
-use Rattle.engine.proofs.Visiting.{line-channel, line-ends, here, jams, accepts}
+use Rattle.network_laws.proofs.Posting.{Posting}
+use Rattle.engine.proofs.Storing.{stays-clean}
+use Rattle.engine.proofs.Visiting.{line-channel, line-ends, jams, accepts}
 
-module _ {once : Bool} {whole : Worked} {o₀ : Network} {number₀ : ℕ} {o : Network} {n : ℕ} {domains bans : List ℕ} {bars : List Bars} {ready : ℕ}
-    {quota : List ℕ} {missed : Bool} {left made number i rest : ℕ}
-    (h : Here once whole o₀ number₀ o n domains bans bars ready quota missed left made number i rest)
-    (v : Visit) (nv : NextVisit quota n i rest v) (found : v.over ≡ false) (g : o.verdict ≡ false) where
+module _ {once : Bool} {whole : Worked} {o : Network} {n : ℕ} {domains bans : List ℕ} {bars : List Bars} {ready : ℕ}
+    {quota : List ℕ} {missed : Bool} {left made : ℕ} {stuck : Bool} {i rest : ℕ}
+    (h : Here once whole o n domains bans bars ready quota missed left made stuck i rest)
+    (v : Visit) (nv : NextVisit quota n i rest v) (g : o.verdict ≡ false) where
   abbrev L : Live o n domains bans bars ready
-  L = here h v nv found
+  L = h.live
 
   module _ (bars' : List Bars) (ready' : ℕ) (wide : length bars' ≡ 12) (barred : Barred bans o.agents bars' ready') {x : ℕ} {step : Step}
-      (s : Stepped o v.from v.to x step) {p : Network} {posts : Posts} {now : ℕ} {room : Bool}
-      (st : Storing o v.to step step.backs p posts now room) where
+      (s : Stepped o v.from v.to x step) {p : Network} {unsent : List Post'} {now : ℕ}
+      (st : Posting o v.to (posts_left step.posts step.backs) unsent p now) where
     -- no room
-    pub stored-jams : room ≡ false → {rest' : ℕ} → assignment rest' ≡ at (assignment v.rest) v.to 0
-        → Here once whole o₀ number₀ p n domains bans bars' ready' quota true left made number v.from rest'
+    pub stored-jams : row_fits (held_at o.counts v.to) (posts_left step.posts step.backs) ≡ false → {rest' : ℕ} → assignment rest' ≡ at (assignment v.rest) v.to 0
+        → Here once whole p n domains bans bars' ready' quota true left made stuck v.from rest'
     stored-jams f {rest'} cut =
-        let k = st.posting.kept in
-        jams h v nv found g p bars' ready' rest' (finds-no-room s (st.stops f)) st.posting.network st.posting.sized
+        let k = st.kept in
+        jams h v nv g p bars' ready' rest' (finds-no-room s f) st.network st.sized
         (record {
-          shape = rw st.posting.network L.shape;
+          shape = rw st.network L.shape;
           count = L.count ∙ sym k.count;
           clean = rw k.counts L.clean;
           owned = L.owned ∙ sym k.domains;
@@ -50,22 +52,22 @@ module _ {once : Bool} {whole : Worked} {o₀ : Network} {number₀ : ℕ} {o : 
         cut
 
     -- all have found room
-    pub stored-goes : posts_left posts step.backs ≡ [] → {heads counts : ℕ} → Taken (rowed p v.to now) v.from v.to heads counts
+    pub stored-goes : unsent ≡ [] → {heads counts : ℕ} → Taken (rowed p v.to now) v.from v.to heads counts
         → (a : ℕ) → a ≡ pairs_before (pred v.to) → BarsOf bans v.to a step.agent step.bars
-        → Here once whole o₀ number₀ (arrived (rowed p v.to now) v.from v.to heads counts step.agent step.verdict) n domains bans
-        (set bars' (v.to - 1) step.bars) ready' quota missed left made 0 v.from v.rest
+        → Here once whole (arrived (rowed p v.to now) v.from v.to heads counts step.agent step.verdict) n domains bans
+        (set bars' (v.to - 1) step.bars) ready' quota missed left made false v.from v.rest
     stored-goes none {heads} {counts} t a e b =
-        let P = st.posting in
+        let P = st in
         let k = P.kept in
-        let E = line-ends h v nv found in
-        accepts h v nv found g (arrived (rowed p v.to now) v.from v.to heads counts step.agent step.verdict)
+        let E = line-ends h v nv in
+        accepts h v nv g (arrived (rowed p v.to now) v.from v.to heads counts step.agent step.verdict)
         (set bars' (v.to - 1) step.bars) ready' _ (delivers s P none t)
         (arrived-sized (rowed p v.to now) v.from v.to heads counts step.agent step.verdict (counted-sized p _ P.sized (rw length-set P.sized.counts)))
         (λ shape.
         record {
           shape = shape;
           count = L.count ∙ sym k.count;
-          clean = stays-clean p v.from v.to now heads counts P.sized (rw k.counts L.clean) (line-channel h v nv found) (rw k.counts P.outside) t.count;
+          clean = stays-clean p v.from v.to now heads counts P.sized (rw k.counts L.clean) (line-channel h v nv) (rw k.counts P.outside) t.count;
           owned = L.owned ∙ sym k.domains;
           table = L.table ∙ sym k.bans;
           beside = rw length-set wide;

@@ -1,52 +1,71 @@
--- The number that the work ends with: the one that the tests before it have met, else 10 where its last round has delivered nothing, else 0.
--- A single delivery is a round of its own.
+-- The number of a round, by how many it delivered: 10 where it delivered nothing, else 0; and the word. A single delivery is a round of its own.
 use Prim.Native.Nat.{ℕ, zero, suc, ◌+◌}
-use mathlib.Core.Bool.{not}
-use mathlib.Core.Path.{◌≡◌, refl, sym}
+use mathlib.Core.Bool.{Bool, true, false, not, cond, ◌&&◌}
+use mathlib.Core.Path.{◌≡◌, refl}
 use mathlib.Core.Logic.{◌≢◌}
 use native.Mathlib.Omega.{arith}
 use lib.Dec.{eqb}
 use borrow.Author.Tests.{ne_eqb}
 use Rattle.protocol.specs.Network.{Network}
 use Rattle.protocol.specs.Delivery.{rejection_number, answer_number, Delivery}
-use Rattle.protocol.specs.Run.{counts}
+use Rattle.protocol.specs.Run.{None, Plan, Jammed, Open, counts}
+use Rattle.engine.specs.Working.{ends_by}
 use Rattle.shape_laws.proofs.RunFaults.{Tried, turned, taken}
 
--- of a round, by how many it delivered
 unfoldable pub round_number : ℕ → ℕ
 round_number zero = 10
 round_number (suc d) = 0
 
--- of the work, by the number met before it, 0 for none
-unfoldable pub number_at : ℕ → ℕ → ℕ
-number_at zero d = round_number d
-number_at (suc k) d = suc k
-
-pub stuck-number : (d : ℕ) → not (eqb (round_number d) 0) ≡ eqb d 0
-unfolding round_number
-stuck-number zero = refl
-stuck-number (suc d) = sym (ne_eqb (suc d) 0 (λ e. absurd (omega arith)))
-
-round-not-five : (d : ℕ) → round_number d ≢ 5
+pub round-not-five : (d : ℕ) → round_number d ≢ 5
 unfolding round_number
 round-not-five zero e = omega arith
 round-not-five (suc d) e = omega arith
 
--- what was met stays
-pub met-number : (k d : ℕ) → k ≢ 0 → number_at k d ≡ k
-unfolding number_at
-met-number zero d n = absurd (n refl)
-met-number (suc k) d n = refl
+-- as the code has it, which knows whether nothing was delivered
+pub stuck-number : (d : ℕ) (b : Bool) → b ≡ eqb d 0 → cond b 10 0 ≡ round_number d
+unfolding round_number
+stuck-number zero b e = rw e
+stuck-number (suc d) b e = rw (e, ne_eqb (suc d) 0 (λ e. absurd (omega arith)))
 
-pub none-met : (k d : ℕ) → number_at k d ≡ 0 → k ≡ 0
-unfolding number_at
-none-met zero d e = refl
-none-met (suc k) d e = e
+-- ---- the word
 
-pub five-met : (k d : ℕ) → number_at k d ≡ 5 → k ≡ 5
-unfolding number_at
-five-met zero d e = absurd (round-not-five d e)
-five-met (suc k) d e = e
+-- of a run, by whether its last round was stuck
+pub word_is : (verdict idle jammed : Bool)
+    → ends_by false verdict idle (cond jammed 10 0) ≡ cond verdict None (cond idle Plan (cond jammed Jammed Open))
+unfolding ends_by rejection_number
+word_is true _ true = refl
+word_is true _ false = refl
+word_is false true true = refl
+word_is false true false = refl
+word_is false false true = refl
+word_is false false false = refl
+
+-- a single delivery on a network in shape ends as no round, whatever it is refused with
+pub word-once : (verdict idle : Bool) (number : ℕ) → number ≢ 5 → ends_by true verdict idle number ≡ ends_by false verdict idle 0
+unfolding ends_by rejection_number
+word-once verdict idle number n = rw (ne_eqb number 5 n, ends_by)
+
+-- ---- what a stop answers, as the code tests it: a stuck delivery is refused with 10, a stuck run is jammed
+
+pub told-ten : {once stuck : Bool} → once ≡ true → stuck ≡ true → ◌≡◌ {A = ℕ} 10 (cond (once && stuck) 10 0)
+told-ten e f = rw (e, f) refl
+
+pub told-goes : (once : Bool) {stuck : Bool} → stuck ≡ false → ◌≡◌ {A = ℕ} 0 (cond (once && stuck) 10 0)
+told-goes true f = rw f refl
+told-goes false f = refl
+
+pub told-run : {once : Bool} (stuck : Bool) → once ≡ false → ◌≡◌ {A = ℕ} 0 (cond (once && stuck) 10 0)
+told-run stuck e = rw e refl
+
+pub told-not-five : (b : Bool) {k : ℕ} → k ≡ cond b 10 0 → k ≢ 5
+told-not-five true e f = omega arith
+told-not-five false e f = omega arith
+
+pub jams-run : {once : Bool} (stuck : Bool) → once ≡ false → stuck ≡ not once && stuck
+jams-run stuck e = rw e refl
+
+pub jams-never : {once : Bool} (stuck : Bool) → once ≡ true → not once ≡ not once && stuck
+jams-never stuck e = rw e refl
 
 -- a single delivery that finds a message
 pub one_number : (w : Network) (i j : ℕ) (d : Delivery) → Tried w i j d → round_number (0 + counts d.answer) ≡ answer_number d.answer

@@ -1,15 +1,15 @@
 -- The visits still ahead: each step of the code takes the first of them or leaves them as they are.
-use Prim.Native.Nat.{ℕ, zero, suc, ◌+◌, ◌-◌, ◌*◌, ◌≤◌, ◌<◌}
+use Prim.Native.Nat.{ℕ, zero, suc, ◌+◌, ◌-◌, ◌≤◌, ◌<◌}
 use mathlib.Core.Bool.{false}
 use mathlib.Core.Path.{◌≡◌, refl, sym, ap, ◌∙◌}
 use mathlib.Core.Option.{some}
 use mathlib.Core.List.{List, [], ◌∷◌, ◌++◌, append_assoc}
 use native.Mathlib.Omega.{arith}
 use native.Mathlib.Numerals.{add-one}
-use lib.ListN.{length, get_or, replicate, length-append, length-replicate}
-use Rattle.base.specs.Finite.{at, from_one, lowest, gather}
+use lib.ListN.{length, get_or, replicate, length-append}
+use Rattle.base.specs.Finite.{at, lowest, gather}
 use Rattle.base.proofs.Tests.{test, eq_test, no-some}
-use Rattle.base.proofs.Lists.{All, All-append, gather-all, gather-length}
+use Rattle.base.proofs.Lists.{All, All-append, gather-all}
 use Rattle.base.proofs.Search.{lowest-range, lowest-before, at_same, at_other}
 use Rattle.base.proofs.Gathers.{gather-same, gather_none}
 use Rattle.agent_rules.specs.Message.{known, nobody}
@@ -17,7 +17,7 @@ use Rattle.agent_rules.specs.Shape.{max_named}
 use Rattle.agent_rules.proofs.Assignments.{unknown-zero}
 use Rattle.packed.specs.Packed.{assignment}
 use Rattle.packed.proofs.Known.{known-true}
-use Rattle.packed.proofs.Digits.{digit-assigned, nobody-assigned}
+use Rattle.packed.proofs.Digits.{nobody-assigned}
 use Rattle.protocol.specs.Run.{Line, is_line}
 use Rattle.shape_laws.proofs.Lines.{other_from, other-to}
 use Rattle.shape_laws.proofs.RunFaults.{replicate-all}
@@ -87,10 +87,10 @@ module _ (quota : List ℕ) (n : ℕ) where
       ∙ ap (λ (f : ℕ → ℕ). line i r ∷ (row f i ++ rows quota (n - i) (i + 1))) (sym d)
 
   -- the next sender
-  pub ahead-down : (i rest k rest' : ℕ) → rest ≡ 0 → i < n → k ≡ i → rest' ≡ get_or quota k 0 → ahead quota n i rest ≡ ahead quota n (i + 1) rest'
-  ahead-down i rest k rest' z h d e =
-      let same : i + 1 - 1 ≡ k = omega arith in
-      rw (row-empty rest i z, gather-next (n - i) (i + 1) (n - (i + 1)) (λ x. row (row_of quota x) x) (omega arith))
+  pub ahead-down : (i rest : ℕ) → i < n → rest ≡ get_or quota i 0 → ahead quota n i 0 ≡ ahead quota n (i + 1) rest
+  ahead-down i rest h e =
+      let same : i + 1 - 1 ≡ i = omega arith in
+      rw (row-empty 0 i refl, gather-next (n - i) (i + 1) (n - (i + 1)) (λ x. row (row_of quota x) x) (omega arith))
       (ap (λ (f : ℕ → ℕ). row f (i + 1) ++ rows quota (n - (i + 1)) (i + 1 + 1))
       (row_is quota (i + 1) (omega arith) ∙ ap (λ (x : ℕ). assignment (get_or quota x 0)) same ∙ ap assignment (sym e)))
 
@@ -125,35 +125,28 @@ module _ (quota : List ℕ) (n : ℕ) where
       let b = length-append (replicate (assignment rest r) (line i r)) (ahead quota n i rest') in
       omega arith
 
--- ---- how many there are at the most
+-- the first of these is the first of those
+pub found-later : {quota : List ℕ} {n i rest i' rest' : ℕ} {v : Visit} → ahead quota n i rest ≡ ahead quota n i' rest' → NextVisit quota n i' rest' v
+    → NextVisit quota n i rest v
+found-later e f = record { high = f.high; some = e ∙ f.some; least = f.least }
 
-pub visit-less : (quota : List ℕ) (n left : ℕ) {i rest : ℕ} {v : Visit} → NextVisit quota n i rest v → v.over ≡ false
-    → left * 4000 + length (ahead quota n v.from v.rest) < left * 4000 + length (ahead quota n i rest)
-visit-less quota n left h e = let a = ap length (h.some e) in omega arith
+-- ---- fewer are left
 
-pub none-less : (quota : List ℕ) (n left : ℕ) {i rest : ℕ} {v : Visit} → NextVisit quota n i rest v → v.over ≡ false
-    → left * 4000 + length (ahead quota n n 0) < left * 4000 + length (ahead quota n i rest)
-none-less quota n left h e =
-    let a = ap length (h.some e) in
+pub visit-less : (quota : List ℕ) (n : ℕ) {i rest : ℕ} {v : Visit} → NextVisit quota n i rest v
+    → length (ahead quota n v.from v.rest) < length (ahead quota n i rest)
+visit-less quota n h = let a = ap length h.some in omega arith
+
+pub none-less : (quota : List ℕ) (n : ℕ) {i rest : ℕ} {v : Visit} → NextVisit quota n i rest v
+    → length (ahead quota n n 0) < length (ahead quota n i rest)
+none-less quota n h =
+    let a = ap length h.some in
     let z = ap length (ahead_none quota n n 0 refl (omega arith)) in
     omega arith
 
-pub passed-less : (quota : List ℕ) (n left : ℕ) {i rest : ℕ} {v : Visit} → NextVisit quota n i rest v → v.over ≡ false → 1 ≤ v.to → v.to ≤ 16
+pub passed-less : (quota : List ℕ) (n : ℕ) {i rest : ℕ} {v : Visit} → NextVisit quota n i rest v → 1 ≤ v.to → v.to ≤ 16
     → (rest' : ℕ) → assignment rest' ≡ at (assignment v.rest) v.to 0
-    → left * 4000 + length (ahead quota n v.from rest') < left * 4000 + length (ahead quota n i rest)
-passed-less quota n left {v = v} h e l u rest' d =
-    let a = visit-less quota n left h e in
-    let b = passed-fewer quota n v.from v.rest v.to rest' l u (h.least e) d in
-    omega arith
-
-row-short : (x i : ℕ) → length (row (assignment x) i) ≤ 240
-unfolding max_named
-row-short x i = gather-length 15 16 1 (cell (assignment x) i) (λ j _ _. rw (length-replicate (assignment x j) (line i j)) (omega (arith, digit-assigned x j)))
-
-pub round-less : (quota : List ℕ) (n left rest w : ℕ) → 1 ≤ left → n ≤ 12 → (left - 1) * 4000 + length (ahead quota n 0 rest) < left * 4000 + w
-unfolding row_of
-round-less quota n left rest w l h =
-    let a = row-short rest 0 in
-    let b = gather-length 240 (n - 0) 1 (λ x. row (row_of quota x) x) (λ x _ _. row-short (from_one 0 (λ k. get_or quota k 0) x) x) in
-    let c = length-append (row (assignment rest) 0) (rows quota (n - 0) (0 + 1)) in
+    → length (ahead quota n v.from rest') < length (ahead quota n i rest)
+passed-less quota n {v = v} h l u rest' d =
+    let a = visit-less quota n h in
+    let b = passed-fewer quota n v.from v.rest v.to rest' l u h.least d in
     omega arith

@@ -1,6 +1,6 @@
 -- A sender's row of counts, less the digits that are no channel's, is what it holds for each receiver; nothing waits where it is 0.
 use Prim.Native.Nat.{ℕ, zero, suc, ◌+◌, ◌-◌, ◌^◌, ◌≤◌, ◌<◌}
-use mathlib.Core.Bool.{Bool, true, false, not}
+use mathlib.Core.Bool.{Bool, true, false}
 use mathlib.Core.Path.{◌≡◌, refl, sym, ap, ◌∙◌}
 use mathlib.Core.Logic.{◌≢◌}
 use mathlib.Core.List.{List}
@@ -9,7 +9,7 @@ use lib.Dec.{eqb, leb}
 use lib.ListN.{length, get_or, set, length-set}
 use borrow.Author.Tests.{eqb-true, eq-eqb, leb-true, leb-false}
 use Rattle.base.specs.Finite.{from_one, all_to}
-use Rattle.base.proofs.Tests.{test, eq_test, not-not}
+use Rattle.base.proofs.Tests.{test, eq_test}
 use Rattle.base.proofs.Arrays.{get_d_past}
 use Rattle.base.proofs.Peeling.{same_test}
 use Rattle.base.proofs.Search.{all_to-at, to-all_to}
@@ -91,7 +91,7 @@ all-cleaned counts rows m c h i j =
 -- ---- what waits
 
 -- a word names nobody exactly if it is 0
-pub word_none : (r : ℕ) → r < 2 ^ 64 → eqb r 0 ≡ all_to max_named (λ k. eqb (assignment r k) 0)
+word_none : (r : ℕ) → r < 2 ^ 64 → eqb r 0 ≡ all_to max_named (λ k. eqb (assignment r k) 0)
 unfolding max_named nobody digit assignment from_one
 word_none r h =
     same_test _ _
@@ -115,6 +115,6 @@ module _ (counts : List ℕ) (clean : Clean counts) (i : ℕ) (lo : 1 ≤ i) whe
       (λ t. eq-eqb _ 0 (held-few counts i j (leb-false j 12 t))))))
       (λ a. to-all_to 12 _ (λ j l u. rw (← digit-is j) (all_to-at 16 _ a j l (omega arith))))
 
-  -- where its word holds something or not
-  pub row-holds : (b : Bool) → b ≡ not (all_to max_named (λ k. eqb (assignment (get_or counts (i - 1) 0) k) 0)) → idle_row counts i ≡ not b
-  row-holds b e = this-row ∙ sym (ap not e ∙ not-not _)
+  -- where its word is 0
+  pub row_idle : get_or counts (i - 1) 0 < 2 ^ 64 → idle_row counts i ≡ eqb (get_or counts (i - 1) 0) 0
+  row_idle h = this-row ∙ sym (word_none (get_or counts (i - 1) 0) h)

@@ -1,9 +1,10 @@
--- The engine's loop as it begins: nothing ahead where the shape is broken, where a delivery is rejected by its numbers, a verdict or an empty line, and
--- before a run's first round; one line ahead where a delivery has found a message.
+-- The work as it begins: it ends at once where the shape is broken or a delivery is refused by its numbers, a verdict or an empty line; nothing is ahead before
+-- a run's first round, and one line where a delivery has found a message.
 use Prim.Native.Nat.{ℕ, zero, suc, ◌+◌, ◌-◌, ◌≤◌}
 use mathlib.Core.Bool.{Bool, true, false, not, ◌&&◌, false≢true}
 use mathlib.Core.Path.{◌≡◌, refl, sym, ap, ◌∙◌}
 use mathlib.Core.Logic.{◌≢◌}
+use Rattle.std.specs.Prelude.{Some}
 use mathlib.Core.List.{List, [], ◌∷◌}
 use native.Mathlib.Omega.{arith}
 use lib.Dec.{eqb}
@@ -34,7 +35,7 @@ use Rattle.protocol.specs.Delivery.{
   deliver_head,
   deliver,
 }
-use Rattle.protocol.specs.Run.{stopped, passed_over, tally, sweep, one_if, is_line, is_stuck}
+use Rattle.protocol.specs.Run.{idle, stopped as stopped', passed_over, tally, sweep, one_if, is_line, is_stuck}
 use Rattle.shape_laws.proofs.ShapeClauses.{shaped}
 use Rattle.shape_laws.proofs.RunFaults.{Tried, tried}
 use Rattle.base.proofs.Counting.{count_if}
@@ -44,11 +45,21 @@ use Rattle.network_laws.specs.Held.{held_at, Clean}
 use Rattle.network_laws.proofs.Changes.{FullArrays, counted, counted-sized, counted-channel, channel-held}
 use Rattle.network_laws.proofs.Rejecting.{bad-shape, bad-numbers, stands, tries as finds}
 use Rattle.engine.specs.Lines.{line, cell, row, ahead}
-use Rattle.engine.specs.Working.{tested_by, Worked, stopped_with, delivered_as, ran_as, work_by}
+use Rattle.engine.specs.Working.{ends_by, tested_by, Worked, stopped_with, delivered_as, ran_as, work_by}
+use Rattle.refusals.proofs.Numbers.{refusal-some}
+use Rattle.refusals.specs.Refusals.{refusal_number}
+use Rattle.refusals.specs.declared.Refusal.{Refusal}
+use Rattle.refusals.specs.declared.Refusal.TheVariants.{
+  BadShape as Shapeless,
+}
+use Rattle.engine.specs.declared.Ending.{Ending}
+use Rattle.engine.specs.declared.Ending.TheVariants.{Broken}
+use Rattle.engine.specs.Answers.{ending_of, WorksAs}
 use Rattle.engine.proofs.Ahead.{ahead_none}
 use Rattle.engine.proofs.Resuming.{onward, further, tries}
-use Rattle.engine.proofs.Testing.{Good, Tested, is-bad, is-over, is-empty, is_found, tests}
-use Rattle.engine.proofs.After.{round_number, number_at, met-number, one_number}
+use Rattle.engine.proofs.Testing.{never-five, Good, Tested, is-bad, is-over, is-empty, is_found, tests}
+use Rattle.engine.proofs.After.{round_number, one_number, word-once}
+use Rattle.engine.proofs.Visits.{Waits, idle-by}
 use Rattle.engine.proofs.Here.{sweep_of, stopped_as, single, rounds, Live, Here, Settled}
 
 -- rows that hold what the counts hold, and nothing else
@@ -56,16 +67,11 @@ pub record Rows (counts rows : List ℕ) : Type 0 where
   pub width : length rows ≡ 12
   pub held : (i j : ℕ) → row_of rows i j ≡ held_at counts i j
 
--- how the work on r begins
-pub data Began (once : Bool) (i j : ℕ) (r o : Network) (n number from rest : ℕ) : Type 0 where
-  broken : in_shape (network_of r) ≡ false → o ≡ r → n ≡ 0 → number ≡ 5 → from ≡ 0 → rest ≡ 0 → Began once i j r o n number from rest
-  running : in_shape (network_of r) ≡ true → once ≡ false → (rows : List ℕ) → Rows r.counts rows → o ≡ counted r rows → n ≡ r.count
-      → number ≡ 0 → from ≡ r.count → rest ≡ 0 → Began once i j r o n number from rest
-  refused : in_shape (network_of r) ≡ true → once ≡ true → (rows : List ℕ) → Rows r.counts rows → o ≡ counted r rows → n ≡ r.count
-      → number ≡ tested_by r.count r.verdict rows i j → number ≢ 0 → from ≡ r.count → rest ≡ 0 → Began once i j r o n number from rest
-  found : in_shape (network_of r) ≡ true → once ≡ true → (rows : List ℕ) → Rows r.counts rows → o ≡ counted r rows → n ≡ r.count → (k : ℕ)
-      → k ≡ tested_by r.count r.verdict rows i j → k ≡ 0 → number ≡ 10 → from ≡ i
-      → assignment rest ≡ at (assignment 0) j (assignment 0 j + 1) → Began once i j r o n number from rest
+-- how the work begins on n agents: a run with no line ahead, a delivery with the one that it has found a message on
+pub data Began (once : Bool) (i j n : ℕ) (verdict : Bool) (rows : List ℕ) (from rest : ℕ) : Type 0 where
+  running : once ≡ false → from ≡ n → rest ≡ 0 → Began once i j n verdict rows from rest
+  found : once ≡ true → 0 ≡ tested_by n verdict rows i j → from ≡ i
+      → assignment rest ≡ at (assignment 0) j (assignment 0 j + 1) → Began once i j n verdict rows from rest
 
 -- ---- clean rows
 
@@ -83,41 +89,6 @@ module _ (r : Network) (rows : List ℕ) (h : Rows r.counts rows) where
   rows-network =
       let e = counted-channel r rows (λ i j b. held-if i j b) in
       λ k. record { problem = (network_of r).problem; rule = r.rule; verdict = r.verdict; agents = (network_of r).agents; channel = e k }
-
--- the shape is that of the network with clean rows
-pub clean-shape : (r : Network) (rows : List ℕ) → Rows r.counts rows → (b : Bool) → in_shape (network_of (counted r rows)) ≡ b → in_shape (network_of r) ≡ b
-clean-shape r rows h b e = ap in_shape (sym (rows-network r rows h)) ∙ e
-
-pub began-network : {once : Bool} {i j : ℕ} {r o : Network} {n number from rest : ℕ} → Began once i j r o n number from rest → network_of o ≡ network_of r
-began-network (broken s e n k f z) = ap network_of e
-began-network {r = r} (running s b rows h e n k f z) = ap network_of e ∙ rows-network r rows h
-began-network {r = r} (refused s b rows h e n k d f z) = ap network_of e ∙ rows-network r rows h
-began-network {r = r} (found s b rows h e n k d q m f z) = ap network_of e ∙ rows-network r rows h
-
-pub began-settled : {once : Bool} {i j : ℕ} {r o : Network} {n number from rest : ℕ} → Began once i j r o n number from rest → (quota : List ℕ)
-    → Settled o quota n from rest
-began-settled {n = n} {from = from} {rest = rest} (broken s e m k f z) quota t = ahead_none quota n from rest z (omega arith)
-began-settled {n = n} {from = from} {rest = rest} (running s b rows h e m k f z) quota t = ahead_none quota n from rest z (omega arith)
-began-settled {n = n} {from = from} {rest = rest} (refused s b rows h e m k d f z) quota t = ahead_none quota n from rest z (omega arith)
-began-settled {i = i} {j = j} {r = r} {n = n} {from = from} {rest = rest} (found s b rows h e m k d q w f z) quota t = go (tests _ _ _ i j k d)
-  where
-    go : Tested r.count r.verdict rows i j k → ahead quota n from rest ≡ []
-    go (is-bad g a) = absurd (omega arith)
-    go (is-over g v a) = absurd (omega arith)
-    go (is-empty g v x a) = absurd (omega arith)
-    go (is_found g v x a) = absurd (false≢true (sym v ∙ ap (λ (p : Network). p.verdict) (sym e) ∙ t))
-
-pub began-untouched : {once : Bool} {i j : ℕ} {r o : Network} {n number from rest : ℕ} → Began once i j r o n number from rest → number ≡ 5 → o ≡ r
-began-untouched (broken s e n k f z) q = e
-began-untouched (running s b rows h e n k f z) q = absurd (omega arith)
-began-untouched {i = i} {j = j} {r = r} {o = o} {number = number} (refused s b rows h e n k d f z) q = go (tests _ _ _ i j number k)
-  where
-    go : Tested r.count r.verdict rows i j number → o ≡ r
-    go (is-bad g a) = absurd (omega arith)
-    go (is-over g v a) = absurd (omega arith)
-    go (is-empty g v x a) = absurd (omega arith)
-    go (is_found g v x a) = absurd (omega arith)
-began-untouched (found s b rows h e n k d t m f z) q = absurd (omega arith)
 
 -- ---- no bars are worked out, and no line has a quota
 
@@ -138,164 +109,168 @@ one-ahead n i j rest lo hi e =
     let others : (k : ℕ) → k ≢ j → assignment rest k ≡ 0 = λ k d. rw (e, at_other (assignment 0) j (assignment 0 j + 1) k d, nobody-assigned) in
     rw (gather-one 16 1 j (cell (assignment rest) i) lo (omega arith) (λ k d. ap (λ (v : ℕ). replicate v (line i k)) (others k d)), one, gather_none (n - i) (i + 1) (λ x. row (row_of (replicate 12 0) x) x) (λ x l u. gather_none 16 1 (cell (row_of (replicate 12 0) x) x) (λ y a b. ap (λ (v : ℕ). replicate v (line x y)) (zero_row x y))))
 
--- ---- the loop begins
+-- ---- the work begins, or ends at once
 
-module _ (once : Bool) (i j allowed : ℕ) (few : allowed ≤ 1000000) (bars : List Bars) (wide : length bars ≡ 12) where
-  -- nothing ahead, and the work is done, with a number that was met
-  done : (whole : Worked) (o : Network) (n number from rest : ℕ) → FullArrays o → n ≤ 12 → from ≡ n → rest ≡ 0 → number ≢ 0
-      → (number ≢ 5 → once ≡ true) → (number ≢ 5 → Live o n o.domains o.bans bars 0) → whole ≡ stopped_with (network_of o) number
-      → Here once whole o number o n o.domains o.bans
-      bars 0 (replicate 12 0) true allowed 0 number from rest
-  unfolding sweep count_if
-  done whole o n number from rest z hi ef er t b live w =
-      let none_ahead : ahead (replicate 12 0) n from rest ≡ [] = ahead_none (replicate 12 0) n from rest er (omega arith) in
-      let stays = sym (met-number number 0 t) in
+-- the work that ends here, with this refusal
+stopped : {whole : Worked} (o : Network) (r : Refusal) (x : Ending) → whole ≡ stopped_with (network_of o) (refusal_number r)
+    → ending_of x ≡ ends_by true o.verdict (idle (network_of o)) (refusal_number r)
+    → WorksAs whole (record { network = o; rounds = 0; refusal = Some r; ending = x })
+unfolding stopped_with network_of
+stopped o r x e s =
+    record {
+      network = sym (ap (λ (q : Worked). q.network) e);
+      rounds = sym (ap (λ (q : Worked). q.made) e);
+      number = sym (ap (λ (q : Worked). q.number) e);
+      ending = s ∙ sym (ap (λ (q : Worked). q.ending) e);
+    }
+
+-- the shape is broken
+pub breaks : (once : Bool) (i j allowed : ℕ) (r : Network) → in_shape (network_of r) ≡ false
+    → WorksAs (work_by once i j allowed (network_of r)) (record { network = r; rounds = 0; refusal = Some Shapeless; ending = Broken })
+unfolding work_by delivered_as rejecting answer_number rejection_number ending_of ends_by
+breaks once i j allowed r s =
+    stopped r Shapeless Broken
+    (test once (λ b. rw (b, work_by) (ap delivered_as (bad-shape (network_of r) i j s))) (λ b. rw (b, work_by, s)))
+    refl
+
+module _ (once : Bool) (i j allowed : ℕ) (r : Network) (rows : List ℕ) (h : Rows r.counts rows) (s : in_shape (network_of r) ≡ true) where
+  abbrev o : Network
+  o = counted r rows
+
+  same-network : network_of o ≡ network_of r
+  same-network = rows-network r rows h
+
+  o-shape : in_shape (network_of o) ≡ true
+  o-shape = rw same-network s
+
+  o-few : r.count ≤ 12
+  unfolding network_of problem_of max_agents
+  o-few = (shaped (network_of r) s).range.high
+
+  o-live : (bars : List Bars) → length bars ≡ 12 → Live o r.count o.domains o.bans bars 0
+  o-live bars wide =
       record {
-        sized = z;
-        agents = hi;
-        high = omega arith;
-        few = omega arith;
-        met = number;
-        live = live;
-        untouched = λ q. (refl, q);
-        quiet = λ _. none_ahead;
-        waited = 2;
-        delivered = 0;
-        tried = [];
-        numbered = stays;
-        most = rw none_ahead (omega arith);
-        missing = rw none_ahead;
-        supplied = rw none_ahead (record { lines = tt; enough = λ x y. omega arith });
-        fresh = rw none_ahead tt;
-        end = stopped_as number;
-        kind = single b refl (λ q. absurd (t q)) refl (λ t. refl);
-        same = rw none_ahead (w ∙ ap (stopped_with (network_of o)) stays);
+        shape = o-shape;
+        count = refl;
+        clean = rows-clean r rows h;
+        owned = refl;
+        table = refl;
+        beside = wide;
+        barred = λ k l u t. absurd (false≢true (sym (no-members k) ∙ t));
       }
 
-  module _ (r : Network) (z : FullArrays r) (rows : List ℕ) (h : Rows r.counts rows) (s : in_shape (network_of r) ≡ true) where
-    abbrev o : Network
-    o = counted r rows
+  numbers-bad : within r.count i && within r.count j && not (eqb i j) ≡ false → numbers_good (network_of o) i j ≡ false
+  unfolding numbers_good network_of problem_of
+  numbers-bad e = e
 
-    same-network : network_of o ≡ network_of r
-    same-network = rows-network r rows h
+  verdict-is : (b : Bool) → r.verdict ≡ b → (network_of o).verdict ≡ b
+  unfolding network_of
+  verdict-is b e = e
+
+  good-numbers : Good r.count i j → numbers_good (network_of o) i j ≡ true
+  unfolding numbers_good network_of problem_of
+  good-numbers good =
+      to_both _ _ (to_both _ _ (to-within r.count i good.from_low good.from-high) (to-within r.count j good.to_low good.to_high))
+      (rw (ne_eqb i j good.apart))
+
+  nothing : row_of rows i j ≡ 0 → (network_of o).channel i j ≡ []
+  nothing e = empty ((network_of o).channel i j) (channel-held o i j ∙ sym (rows-clean r rows h i j) ∙ e)
+    where
+      empty : (ms : List Message') → length ms ≡ 0 → ms ≡ []
+      empty [] q = refl
+      empty (m ∷ ms) q = absurd (omega arith)
+
+  finds-nothing : Good r.count i j → r.verdict ≡ false → row_of rows i j ≡ 0 → deliver (network_of o) i j ≡ rejecting EmptyChannel (network_of o)
+  unfolding deliver_head
+  finds-nothing x v y = finds (network_of o) i j o-shape (good-numbers x) (verdict-is false v) [] (nothing y)
+
+  -- a delivery that is refused
+  refuses : (x : Rejection) (number : ℕ) → number ≡ rejection_number x → once ≡ true → deliver (network_of o) i j ≡ rejecting x (network_of o)
+      → work_by once i j allowed (network_of r) ≡ stopped_with (network_of o) number
+  unfolding work_by delivered_as rejecting answer_number
+  refuses x number e b d = ap (work_by once i j allowed) (sym same-network) ∙ rw (b, work_by, e) (ap delivered_as d)
+
+  pub refused : once ≡ true → (why : Refusal) → refusal_number why ≡ tested_by r.count r.verdict rows i j → (w : Bool) → Waits o r.count w
+      → (x : Ending) → ending_of x ≡ ends_by false r.verdict (not w) 0
+      → WorksAs (work_by once i j allowed (network_of r)) (record { network = o; rounds = 0; refusal = Some why; ending = x })
+  unfolding rejection_number
+  refused b why t w ew x e =
+      stopped o why x (go (tests r.count r.verdict rows i j (refusal_number why) t))
+      (e ∙ ap (λ (z : Bool). ends_by false r.verdict z 0) (idle-by o o-shape (rows-clean r rows h) r.count refl w ew)
+      ∙ sym (word-once r.verdict (idle (network_of o)) (refusal_number why) (never-five r.count r.verdict rows i j (refusal_number why) t)))
+    where
+      go : Tested r.count r.verdict rows i j (refusal_number why)
+          → work_by once i j allowed (network_of r) ≡ stopped_with (network_of o) (refusal_number why)
+      go (is-bad g q) = refuses BadNumbers (refusal_number why) q b (bad-numbers (network_of o) i j o-shape (numbers-bad g))
+      go (is-over g v q) = refuses VerdictStands (refusal_number why) q b (stands (network_of o) i j o-shape (good-numbers g) (verdict-is true v))
+      go (is-empty g v y q) = refuses EmptyChannel (refusal_number why) q b (finds-nothing g v y)
+      go (is_found g v y q) = absurd (refusal-some why q)
+
+  module _ (few : allowed ≤ 1000000) (bars : List Bars) (wide : length bars ≡ 12) (z : FullArrays r) where
+    -- the head of the loop
+    abbrev Head : ℕ → ℕ → Type 0
+    Head from rest =
+        Here once (work_by once i j allowed (network_of r)) o r.count o.domains o.bans bars 0 (replicate 12 0) true allowed 0 once from rest
+        × Settled o (replicate 12 0) r.count from rest
 
     o-sized : FullArrays o
     o-sized = counted-sized r rows z h.width
 
-    o-shape : in_shape (network_of o) ≡ true
-    o-shape = rw same-network s
-
-    o-few : r.count ≤ 12
-    unfolding network_of problem_of max_agents
-    o-few = (shaped (network_of r) s).range.high
-
-    o-live : Live o r.count o.domains o.bans bars 0
-    o-live =
-        record {
-          shape = o-shape;
-          count = refl;
-          clean = rows-clean r rows h;
-          owned = refl;
-          table = refl;
-          beside = wide;
-          barred = λ k l u t. absurd (false≢true (sym (no-members k) ∙ t));
-        }
-
-    -- a run
-    runs : once ≡ false
-        → Here once (work_by once i j allowed (network_of o)) o 0 o r.count o.domains o.bans
-        bars 0 (replicate 12 0) true allowed 0 0 r.count 0
-    unfolding sweep count_if number_at round_number work_by onward one_if is_stuck
+    runs : once ≡ false → Head r.count 0
+    unfolding sweep count_if work_by onward one_if is_stuck
     runs e =
-        let none_ahead : ahead (replicate 12 0) r.count r.count 0 ≡ [] = ahead_none (replicate 12 0) r.count r.count 0 refl (omega arith) in
-        record {
-          sized = o-sized;
-          agents = o-few;
-          high = omega arith;
-          few = omega arith;
-          met = 0;
-          live = λ _. o-live;
-          untouched = λ q. absurd (omega arith);
-          quiet = λ _. none_ahead;
-          waited = 2;
-          delivered = 1;
-          tried = [];
-          numbered = refl;
-          most = rw none_ahead (omega arith);
-          missing = rw none_ahead;
-          supplied = rw none_ahead (record { lines = tt; enough = λ x y. omega arith });
-          fresh = rw none_ahead tt;
-          end = λ t. ran_as (further allowed 0 2 (λ _. []) t);
-          kind = rounds e refl (λ _. []) (λ t. refl);
-          same = rw (e, work_by, o-shape, none_ahead);
-        }
-
-    -- a delivery that is rejected
-    rejected : (x : Rejection) (number : ℕ) → number ≡ rejection_number x → number ≢ 0 → once ≡ true → deliver (network_of o) i j ≡ rejecting x (network_of o)
-        → Here once (work_by once i j allowed (network_of o)) o number o r.count o.domains o.bans
-        bars 0 (replicate 12 0) true allowed 0 number r.count 0
-    unfolding work_by delivered_as rejecting answer_number
-    rejected x number e n b d =
-        done (work_by once i j allowed (network_of o)) o r.count number r.count 0 o-sized o-few refl refl n (λ _. b) (λ _. o-live)
-        (rw (b, work_by, e) (ap delivered_as d))
-
-    numbers-bad : within r.count i && within r.count j && not (eqb i j) ≡ false → numbers_good (network_of o) i j ≡ false
-    unfolding numbers_good network_of problem_of
-    numbers-bad e = e
-
-    verdict-is : (b : Bool) → r.verdict ≡ b → (network_of o).verdict ≡ b
-    unfolding network_of
-    verdict-is b e = e
-
-    good-numbers : Good r.count i j → numbers_good (network_of o) i j ≡ true
-    unfolding numbers_good network_of problem_of
-    good-numbers good =
-        to_both _ _ (to_both _ _ (to-within r.count i good.from_low good.from-high) (to-within r.count j good.to_low good.to_high))
-        (rw (ne_eqb i j good.apart))
-
-    nothing : row_of rows i j ≡ 0 → (network_of o).channel i j ≡ []
-    nothing e = empty ((network_of o).channel i j) (channel-held o i j ∙ sym (rows-clean r rows h i j) ∙ e)
-      where
-        empty : (ms : List Message') → length ms ≡ 0 → ms ≡ []
-        empty [] q = refl
-        empty (m ∷ ms) q = absurd (omega arith)
-
-    finds-nothing : Good r.count i j → r.verdict ≡ false → row_of rows i j ≡ 0 → deliver (network_of o) i j ≡ rejecting EmptyChannel (network_of o)
-    unfolding deliver_head
-    finds-nothing x v y = finds (network_of o) i j o-shape (good-numbers x) (verdict-is false v) [] (nothing y)
+        let none_ahead : ahead (replicate 12 0) r.count r.count 0 ≡ [] = ahead_none (replicate 12 0) r.count r.count 0 refl (omega arith) in (
+          record {
+            sized = o-sized;
+            agents = o-few;
+            high = omega arith;
+            few = omega arith;
+            live = o-live bars wide;
+            waited = 2;
+            delivered = 1;
+            tried = [];
+            stuck_is = e;
+            most = rw none_ahead (omega arith);
+            missing = rw none_ahead;
+            supplied = rw none_ahead (record { lines = tt; enough = λ x y. omega arith });
+            fresh = rw none_ahead tt;
+            end = λ t. ran_as (further allowed 0 2 (λ _. []) t);
+            kind = rounds e (λ _. []) (λ t. refl);
+            same = ap (work_by once i j allowed) (sym same-network) ∙ rw (e, work_by, o-shape, none_ahead);
+          },
+          λ _. none_ahead,
+        )
 
     -- a delivery that has found a message
-    delivers : (number rest : ℕ) → number ≡ 10 → allowed ≡ 0 → once ≡ true → Good r.count i j → r.verdict ≡ false
-        → row_of rows i j ≢ 0 → assignment rest ≡ at (assignment 0) j (assignment 0 j + 1)
-        → Here once (work_by once i j allowed (network_of o)) o number o r.count o.domains o.bans
-        bars 0 (replicate 12 0) true allowed 0 number i rest
-    unfolding sweep count_if number_at round_number work_by delivered_as is_line one_if network_of tally stopped passed_over any
-    delivers number rest e a b good v some-held er =
-        let one : ahead (replicate 12 0) r.count i rest ≡ line i j ∷ [] = one-ahead r.count i j rest good.to_low (omega (arith, good.to_high, o-few)) er in
-        record {
-          sized = o-sized;
-          agents = o-few;
-          high = good.from-high;
-          few = omega arith;
-          met = 0;
-          live = λ _. o-live;
-          untouched = λ q. absurd (omega arith);
-          quiet = λ n. absurd (n refl);
-          waited = 2;
-          delivered = 0;
-          tried = [];
-          numbered = e;
-          most = rw one (omega arith);
-          missing = rw one;
-          supplied = rw one (record { lines = (good-numbers good, tt); enough = λ x y. enough x y });
-          fresh = rw one (refl, tt);
-          end = stopped_as 0;
-          kind = single (λ _. b) refl (λ _. a) refl (λ t. refl);
-          same =
-              rw (b, work_by, one)
-              (ap (stopped_with (deliver (network_of o) i j).network) (sym (one_number (network_of o) i j (deliver (network_of o) i j) answered))
-              ∙ ap (stopped_as 0) (sym (tries (sweep_of o 0 []) (line i j) v refl)));
-        }
+    delivers : (rest : ℕ) → allowed ≡ 0 → once ≡ true → Good r.count i j → r.verdict ≡ false → row_of rows i j ≢ 0
+        → assignment rest ≡ at (assignment 0) j (assignment 0 j + 1) → Head i rest
+    unfolding sweep count_if round_number work_by delivered_as is_line one_if network_of tally stopped' passed_over any
+    delivers rest a b good v some-held er =
+        let one : ahead (replicate 12 0) r.count i rest ≡ line i j ∷ [] = one-ahead r.count i j rest good.to_low (omega (arith, good.to_high, o-few)) er in (
+          record {
+            sized = o-sized;
+            agents = o-few;
+            high = good.from-high;
+            few = omega arith;
+            live = o-live bars wide;
+            waited = 2;
+            delivered = 0;
+            tried = [];
+            stuck_is = b;
+            most = rw one (omega arith);
+            missing = rw one;
+            supplied = rw one (record { lines = (good-numbers good, tt); enough = λ x y. enough x y });
+            fresh = rw one (refl, tt);
+            end = stopped_as;
+            kind = single b refl a refl (λ t. refl);
+            same =
+                ap (work_by once i j allowed) (sym same-network)
+                ∙ rw (b, work_by, one)
+                (ap (stopped_with (deliver (network_of o) i j).network) (sym (one_number (network_of o) i j (deliver (network_of o) i j) answered))
+                ∙ ap stopped_as (sym (tries (sweep_of o 0 []) (line i j) v refl)));
+          },
+          λ t. absurd (false≢true (sym v ∙ t)),
+        )
       where
         waits : 1 ≤ length ((network_of o).channel i j)
         waits = omega (arith, channel-held o i j, rows-clean r rows h i j, some-held)
@@ -309,45 +284,12 @@ module _ (once : Bool) (i j allowed : ℕ) (few : allowed ≤ 1000000) (bars : L
             (λ t. let q = both (eqb x i) (eqb y j) t in rw (t, eqb-true x i q.0, eqb-true y j q.1) (omega (arith, waits)))
             (λ t. rw t (omega arith))
 
-  -- ---- whatever it is
-
-  -- the head of the loop
-  abbrev Head : Network → ℕ → ℕ → ℕ → ℕ → Type 0
-  Head o n number from rest =
-      Here once (work_by once i j allowed (network_of o)) o number o n o.domains o.bans
-      bars 0 (replicate 12 0) true allowed 0 number from rest
-
-  begins-broken : (r : Network) → FullArrays r → in_shape (network_of r) ≡ false → Head r 0 5 0 0
-  unfolding work_by delivered_as rejecting answer_number rejection_number
-  begins-broken r z s =
-      done (work_by once i j allowed (network_of r)) r 0 5 0 0 z (omega arith) refl refl (λ e. absurd (omega arith)) (λ n. absurd (n refl)) (λ n. absurd (n refl))
-      (test once (λ b. rw (b, work_by) (ap delivered_as (bad-shape (network_of r) i j s))) (λ b. rw (b, work_by, s)))
-
-  module _ (r : Network) (z : FullArrays r) (clean : List ℕ) (h : Rows r.counts clean) (s : in_shape (network_of r) ≡ true) (number : ℕ)
-      (b : once ≡ true) where
-    begins-refused : Tested r.count r.verdict clean i j number → number ≢ 0 → Head (counted r clean) r.count number r.count 0
-    unfolding rejection_number
-    begins-refused (is-bad x q) m =
-        rejected r z clean h s BadNumbers number q m b (bad-numbers (network_of (counted r clean)) i j (o-shape r z clean h s) (numbers-bad r z clean h s x))
-    begins-refused (is-over x v q) m =
-        rejected r z clean h s VerdictStands number q m b
-        (stands (network_of (counted r clean)) i j (o-shape r z clean h s) (good-numbers r z clean h s x) (verdict-is r z clean h s true v))
-    begins-refused (is-empty x v y q) m = rejected r z clean h s EmptyChannel number q m b (finds-nothing r z clean h s x v y)
-    begins-refused (is_found x v y q) m = absurd (m q)
-
-    begins-found : (k rest : ℕ) → Tested r.count r.verdict clean i j k → k ≡ 0 → number ≡ 10 → allowed ≡ 0
-        → assignment rest ≡ at (assignment 0) j (assignment 0 j + 1) → Head (counted r clean) r.count number i rest
-    begins-found k rest (is-bad x q) m t a e = absurd (omega arith)
-    begins-found k rest (is-over x v q) m t a e = absurd (omega arith)
-    begins-found k rest (is-empty x v y q) m t a e = absurd (omega arith)
-    begins-found k rest (is_found x v y q) m t a e = delivers r z clean h s number rest t a b x v y e
-
-  pub begins : {r o : Network} {n number from rest : ℕ} → Began once i j r o n number from rest → FullArrays r → (once ≡ true → allowed ≡ 0)
-      → Here once (work_by once i j allowed (network_of o)) o number o n o.domains o.bans
-      bars 0 (replicate 12 0) true allowed 0 number from rest
-  begins {r} (broken s e n k f d) z a = rw (e, n, k, f, d) (begins-broken r z s)
-  begins {r} (running s b clean h e n k f d) z a = rw (e, n, k, f, d) (runs r z clean h s b)
-  begins {r} {number = number} (refused s b clean h e n k m f d) z a =
-      rw (e, n, f, d) (begins-refused r z clean h s number b (tests r.count r.verdict clean i j number k) m)
-  begins {r} {number = number} {rest = rest} (found s b clean h e n k t q m f d) z a =
-      rw (e, n, f) (begins-found r z clean h s number b k rest (tests r.count r.verdict clean i j k t) q m (a b) d)
+    pub begins : {from rest : ℕ} → Began once i j r.count r.verdict rows from rest → (once ≡ true → allowed ≡ 0) → Head from rest
+    begins (running b f d) a = rw (f, d) (runs b)
+    begins {from} {rest} (found b t f d) a = rw f (go (tests r.count r.verdict rows i j 0 t))
+      where
+        go : Tested r.count r.verdict rows i j 0 → Head i rest
+        go (is-bad g x) = absurd (omega arith)
+        go (is-over g v x) = absurd (omega arith)
+        go (is-empty g v y x) = absurd (omega arith)
+        go (is_found g v y x) = delivers rest (a b) b g v y d

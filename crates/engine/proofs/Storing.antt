@@ -1,11 +1,11 @@
--- The engine's loop that stores what the receiver sends: at its head the posts are stored as far as they are not left (`Posting`), and it goes on as long as
--- there is room. Then the delivery is made, or rejected.
-use Prim.Native.Nat.{ℕ, ◌+◌, ◌-◌, ◌*◌, ◌%◌, ◌≤◌, ◌<◌}
-use mathlib.Core.Bool.{Bool, true, false, not, ◌&&◌, false≢true}
+-- The engine's loop that stores what the receiver sends: at its head the posts are stored as far as they are not left. At the first that finds no
+-- room the delivery is rejected; with none left it is made.
+use Prim.Native.Nat.{ℕ, ◌+◌, ◌-◌, ◌%◌, ◌≤◌, ◌<◌}
+use mathlib.Core.Bool.{true, false, false≢true}
 use mathlib.Core.Path.{◌≡◌, refl, sym, ap, ◌∙◌}
-use mathlib.Core.List.{List, [], ◌∷◌}
+use mathlib.Core.List.{List, ◌∷◌}
 use native.Mathlib.Omega.{arith}
-use lib.ListN.{length, set, length-set}
+use lib.ListN.{set, length-set}
 use lib.Seq.{get_or-set_other}
 use Rattle.base.specs.Finite.{at}
 use Rattle.base.proofs.Search.{at_other}
@@ -13,11 +13,10 @@ use Rattle.base.proofs.Tests.{test, eq_test}
 use Rattle.agent_rules.specs.Message.{Post as Post'}
 use Rattle.packed.specs.Packed.{assignment}
 use Rattle.agent.specs.declared.Post.{Post}
-use Rattle.agent.specs.declared.Posts.{Posts}
 use Rattle.agent.specs.declared.Step.{Step}
 use Rattle.agent.specs.Abstract.{post_of}
-use Rattle.agent.specs.Posting.{posts_left, tail_of, Ready}
-use Rattle.protocol.specs.Run.{one_if}
+use Rattle.agent.specs.declared.Letters.{Letters}
+use Rattle.agent.specs.Posting.{posts_left, letters_left}
 use Rattle.network.specs.declared.Network.{Network}
 use Rattle.network.specs.Abstract.{is_channel, place_of, row_of}
 use Rattle.clauses.proofs.Numbering.{Ends, ends}
@@ -26,66 +25,26 @@ use Rattle.network_laws.proofs.Changes.{FullArrays, word_at, placed, row_is, row
 use Rattle.network_laws.proofs.Handing.{Found, found-ends}
 use Rattle.network_laws.proofs.Posting.{Posting, Turn, post-line, post-full, post-put}
 
-pub record Storing (o₀ : Network) (j : ℕ) (step : Step) (backs : List ℕ) (o : Network) (posts : Posts) (now : ℕ) (room : Bool) : Type 0 where
-  pub posting : Posting o₀ j (posts_left step.posts step.backs) (posts_left posts backs) o now
-  pub ready : Ready posts backs
-  pub stops : room ≡ false → row_fits (held_at o₀.counts j) (posts_left step.posts step.backs) ≡ false
-
--- so many turns are left
-abbrev pub turns : Posts → List ℕ → Bool → ℕ
-turns posts backs room = 2 * length (posts_left posts backs) + one_if room
-
-pub storing-starts : (o : Network) (j : ℕ) (step : Step) (now : ℕ)
-    → Posting o j (posts_left step.posts step.backs) (posts_left step.posts step.backs) o now → Ready step.posts step.backs
-    → Storing o j step step.backs o step.posts now true
-storing-starts o j step now p r = record { posting = p; ready = r; stops = λ z. absurd (false≢true (sym z)) }
-
 -- one turn
-module _ {o₀ : Network} {j : ℕ} {step : Step} {backs : List ℕ} {o : Network} {posts : Posts} {now : ℕ} {room : Bool}
-    (h : Storing o₀ j step backs o posts now room) (p : Post)
-    (e : posts_left posts backs ≡ post_of p ∷ tail_of (posts_left posts backs)) where
+module _ {o₀ : Network} {j : ℕ} {o : Network} {all left rest : List Post'} {now : ℕ} (h : Posting o₀ j all left o now) (p : Post)
+    (e : left ≡ post_of p ∷ rest) where
   pub turn-line : is_channel j p.to ≡ true
   unfolding post_of
-  turn-line = post-line h.posting (post_of p) (tail_of (posts_left posts backs)) e
+  turn-line = post-line h (post_of p) rest e
 
   pub turn-ends : Ends j p.to
   turn-ends = ends j p.to turn-line
 
   -- the post is stored
-  pub turn-stores : {c g t x now' : ℕ} → Turn j (word_at o₀.heads j) now p.to c g t x now' → t < 8 → (rest : Posts)
-      → Ready rest backs × (posts_left rest backs ≡ tail_of (posts_left posts backs))
-      → Storing o₀ j step backs (placed o x (record { message = p.message })) rest now' room
+  pub turn-stores : {c g t x now' : ℕ} → Turn j (word_at o₀.heads j) now p.to c g t x now' → t < 8
+      → Posting o₀ j all rest (placed o x (record { message = p.message })) now'
   unfolding post_of place_of
-  turn-stores {x = x} {now' = now'} t l rest r =
-      record {
-        posting =
-            rw r.1 (post-put h.posting (post_of p) (tail_of (posts_left posts backs)) e t l (record { message = p.message }) refl);
-        ready = r.0;
-        stops = h.stops;
-      }
-
-  pub turn-less : {rest : Posts} (g : Bool) → Ready rest backs × (posts_left rest backs ≡ tail_of (posts_left posts backs)) → turns rest backs g < turns posts backs g
-  turn-less {rest} g r = let a = ap length e in let b = ap length r.1 in omega arith
+  turn-stores t l = post-put h (post_of p) rest e t l (record { message = p.message }) refl
 
   -- its line is full
-  pub turn-full : (t : ℕ) → t ≡ assignment now p.to → 8 ≤ t → Storing o₀ j step backs o posts now false
+  pub turn-full : (t : ℕ) → t ≡ assignment now p.to → 8 ≤ t → row_fits (held_at o₀.counts j) all ≡ false
   unfolding post_of
-  turn-full t d l =
-      record {
-        posting = h.posting;
-        ready = h.ready;
-        stops = λ _. post-full h.posting (post_of p) (tail_of (posts_left posts backs)) e t d l;
-      }
-
-pub full-less : (posts : Posts) (backs : List ℕ) (room : Bool) → room ≡ true → turns posts backs false < turns posts backs room
-unfolding one_if
-full-less posts backs room r = rw r (omega arith)
-
--- none is left
-pub no-posts : (posts : Posts) (backs : List ℕ) (empty room : Bool) → (empty ≡ true → (l : List ℕ) → Ready posts l → posts_left posts l ≡ [])
-    → not empty && room ≡ false → room ≡ true → Ready posts backs → posts_left posts backs ≡ []
-no-posts posts backs true room f e g r = f refl backs r
-no-posts posts backs false room f e g r = absurd (false≢true (sym e ∙ g))
+  turn-full t d l = post-full h (post_of p) rest e t d l
 
 -- ---- the message taken off
 

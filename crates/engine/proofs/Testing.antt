@@ -73,19 +73,29 @@ tests n verdict counts i j number e =
     (λ z. is_found (good n i j g) v (eqb-false _ 0 z) (rw (g, tested_by, v, z) at e))))
     (λ g. is-bad g (rw (g, tested_by) at e))
 
-pub tested-good : (n : ℕ) (verdict : Bool) (counts : List ℕ) (i j number : ℕ) → number ≡ tested_by n verdict counts i j → number ≡ 0 → Good n i j
-tested-good n verdict counts i j number e z = go (tests n verdict counts i j number e)
+tested-good : (n : ℕ) (verdict : Bool) (counts : List ℕ) (i j : ℕ) → 0 ≡ tested_by n verdict counts i j → Good n i j
+tested-good n verdict counts i j e = go (tests n verdict counts i j 0 e)
   where
-    go : Tested n verdict counts i j number → Good n i j
+    go : Tested n verdict counts i j 0 → Good n i j
     go (is-bad g k) = absurd (omega arith)
     go (is-over g v k) = g
     go (is-empty g v d k) = g
     go (is_found g v d k) = g
 
 -- the line of a delivery that has found a message, as a row with one digit
-pub fresh-line : (n : ℕ) (verdict : Bool) (counts : List ℕ) (i j number : ℕ) → n ≤ 12 → number ≡ tested_by n verdict counts i j → number ≡ 0
+pub fresh-line : (n : ℕ) (verdict : Bool) (counts : List ℕ) (i j : ℕ) → n ≤ 12 → 0 ≡ tested_by n verdict counts i j
     → (1 ≤ j) × (j ≤ 16) × (assignment 0 j < 15)
 unfolding nobody
-fresh-line n verdict counts i j number h e z =
-    let g = tested-good n verdict counts i j number e z in
+fresh-line n verdict counts i j h e =
+    let g = tested-good n verdict counts i j e in
     (g.to_low, omega (arith, g.to_high), rw nobody-assigned (omega arith))
+
+-- 5 is the number of a broken shape alone
+pub never-five : (n : ℕ) (verdict : Bool) (counts : List ℕ) (i j number : ℕ) → number ≡ tested_by n verdict counts i j → number ≢ 5
+never-five n verdict counts i j number e f = go (tests n verdict counts i j number e)
+  where
+    go : Tested n verdict counts i j number → ⊥
+    go (is-bad g k) = omega arith
+    go (is-over g v k) = omega arith
+    go (is-empty g v d k) = omega arith
+    go (is_found g v d k) = omega arith

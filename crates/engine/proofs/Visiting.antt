@@ -3,16 +3,14 @@
 use Prim.Native.Nat.{ℕ, suc, ◌+◌, ◌*◌, ◌%◌, ◌≤◌}
 use mathlib.Core.Bool.{Bool, true, false, not, ◌||◌, and-false, or-false}
 use mathlib.Core.Path.{◌≡◌, refl, sym, ap, ◌∙◌}
-use mathlib.Core.Logic.{◌≢◌}
 use mathlib.Core.List.{List, [], ◌∷◌, ◌++◌}
 use native.Mathlib.Omega.{arith}
 use native.Mathlib.Nat.{add-zero}
-use native.Mathlib.Numerals.{add-one}
 use lib.Dec.{eqb}
 use lib.ListN.{length, replicate}
 use borrow.Author.Tests.{ne_eqb}
 use Rattle.base.specs.Finite.{at, any}
-use Rattle.base.proofs.Tests.{test, eq_test, or_right}
+use Rattle.base.proofs.Tests.{test, or_right}
 use Rattle.base.proofs.Search.{at_same}
 use Rattle.base.proofs.Lists.{All, All-right, All-both, All-map, any_snoc}
 use Rattle.base.proofs.Counting.{count_if}
@@ -31,9 +29,9 @@ use Rattle.clauses.proofs.Numbering.{Ends, ends}
 use Rattle.network_laws.specs.Held.{held_at}
 use Rattle.network_laws.proofs.Changes.{FullArrays, word_at, channel-held, held-is}
 use Rattle.network_laws.proofs.Handing.{Found, numbers-line}
+use Rattle.std.specs.Prelude.{Option, Some, None, is_some, MatchOption}
 use Rattle.engine.specs.Lines.{line, ahead, NextVisit}
 use Rattle.engine.specs.Working.{Worked}
-use Rattle.engine.proofs.After.{round_number, number_at}
 use Rattle.engine.proofs.Ahead.{ahead_none, ahead-passed, ahead_apart, passed-fewer}
 use Rattle.engine.specs.declared.lines.Visit.{Visit}
 use Rattle.engine.proofs.Resuming.{sweep-stopped, tries, sweep-over, supplied-over}
@@ -43,23 +41,27 @@ use Rattle.engine.proofs.Here.{sweep_of, Fresh, Kind, single, rounds, Live, Here
 fewer : (d k waited : ℕ) → d + suc k ≤ waited → true ≡ not (eqb (d + k) waited)
 fewer d k waited h = rw (ne_eqb (d + k) waited (λ q. absurd (omega arith)))
 
-kind-missed : {once missed : Bool} {met left made waited : ℕ} {end : Sweep → Worked} (m : Bool) → (missed ≡ true → m ≡ true)
-    → Kind once missed met left made waited end → Kind once m met left made waited end
+kind-missed : {once missed : Bool} {left made waited : ℕ} {end : Sweep → Worked} (m : Bool) → (missed ≡ true → m ≡ true)
+    → Kind once missed left made waited end → Kind once m left made waited end
 kind-missed m f (single b y z e t) = single b (f y) z e t
-kind-missed m f (rounds b c k t) = rounds b c k t
+kind-missed m f (rounds b k t) = rounds b k t
 
 -- after a verdict all visits ahead are passed over, and something was missed if there was one
-module _ {once : Bool} {whole : Worked} {o₀ : Network} {number₀ : ℕ} {o : Network} {n : ℕ} {domains bans : List ℕ} {bars : List Bars} {ready : ℕ}
-    {quota : List ℕ} {missed : Bool} {left made number i rest : ℕ}
-    (h : Here once whole o₀ number₀ o n domains bans bars ready quota missed left made number i rest)
-    (v : Visit) (nv : NextVisit quota n i rest v) (g : o.verdict ≡ true) where
-  missed-now : (b : Bool) → v.over ≡ b → missed || not b ≡ not (eqb (h.delivered + 0) h.waited)
-  missed-now true e = or-false missed ∙ rw (nv.over e) at h.missing
-  missed-now false e =
-      or_right missed true refl
-      ∙ fewer h.delivered 0 h.waited (let z = ap length (nv.some e) in omega (arith, h.most))
+module _ {once : Bool} {whole : Worked} {o : Network} {n : ℕ} {domains bans : List ℕ} {bars : List Bars} {ready : ℕ}
+    {quota : List ℕ} {missed : Bool} {left made : ℕ} {stuck : Bool} {i rest : ℕ}
+    (h : Here once whole o n domains bans bars ready quota missed left made stuck i rest)
+    (r : Option Visit) (nv : MatchOption r (ahead quota n i rest ≡ []) (NextVisit quota n i rest)) (some : Bool) (e : some ≡ is_some r) (g : o.verdict ≡ true) where
+  missed-now : missed || some ≡ not (eqb (h.delivered + 0) h.waited)
+  missed-now = rw e (go r nv)
+    where
+      go : (r : Option Visit) → MatchOption r (ahead quota n i rest ≡ []) (NextVisit quota n i rest)
+          → missed || is_some r ≡ not (eqb (h.delivered + 0) h.waited)
+      go None e = or-false missed ∙ rw e at h.missing
+      go (Some v) e =
+          or_right missed true refl
+          ∙ fewer h.delivered 0 h.waited (let z = ap length e.some in omega (arith, h.most))
 
-  pub passes-all : Here once whole o₀ number₀ o n domains bans bars ready quota (missed || not v.over) left made number n 0
+  pub passes-all : Here once whole o n domains bans bars ready quota (missed || some) left made stuck n 0
   unfolding sweep stopped network_of count_if
   passes-all =
       let none_ahead : ahead quota n n 0 ≡ [] = ahead_none quota n n 0 refl (omega arith) in
@@ -68,27 +70,24 @@ module _ {once : Bool} {whole : Worked} {o₀ : Network} {number₀ : ℕ} {o : 
         agents = h.agents;
         high = omega arith;
         few = h.few;
-        met = h.met;
         live = h.live;
-        untouched = h.untouched;
-        quiet = λ _. none_ahead;
         waited = h.waited;
         delivered = h.delivered;
         tried = h.tried;
-        numbered = h.numbered;
+        stuck_is = h.stuck_is;
         most = rw none_ahead (omega (arith, h.most));
-        missing = rw none_ahead (missed-now v.over refl);
+        missing = rw none_ahead missed-now;
         supplied = rw none_ahead (record { lines = tt; enough = λ x y. omega arith });
         fresh = rw none_ahead tt;
         end = h.end;
-        kind = kind-missed (missed || not v.over) (λ e. rw e) h.kind;
+        kind = kind-missed (missed || some) (λ e. rw e) h.kind;
         same = rw none_ahead (h.same ∙ ap h.end (sweep-stopped (sweep_of o h.delivered h.tried) g (ahead quota n i rest)));
       }
 
-module _ {once : Bool} {whole : Worked} {o₀ : Network} {number₀ : ℕ} {o : Network} {n : ℕ} {domains bans : List ℕ} {bars : List Bars} {ready : ℕ}
-    {quota : List ℕ} {missed : Bool} {left made number i rest : ℕ}
-    (h : Here once whole o₀ number₀ o n domains bans bars ready quota missed left made number i rest)
-    (v : Visit) (nv : NextVisit quota n i rest v) (found : v.over ≡ false) where
+module _ {once : Bool} {whole : Worked} {o : Network} {n : ℕ} {domains bans : List ℕ} {bars : List Bars} {ready : ℕ}
+    {quota : List ℕ} {missed : Bool} {left made : ℕ} {stuck : Bool} {i rest : ℕ}
+    (h : Here once whole o n domains bans bars ready quota missed left made stuck i rest)
+    (v : Visit) (nv : NextVisit quota n i rest v) where
   abbrev l : Line
   l = line v.from v.to
 
@@ -96,20 +95,7 @@ module _ {once : Bool} {whole : Worked} {o₀ : Network} {number₀ : ℕ} {o : 
   ls = ahead quota n v.from v.rest
 
   first : ahead quota n i rest ≡ l ∷ ls
-  first = nv.some found
-
-  -- nothing was met before
-  unmet : h.met ≡ 0
-  unmet =
-      eq_test h.met 0
-      (λ e. e)
-      (λ n. let z = ap length (sym first ∙ h.quiet n) in absurd (omega arith))
-
-  not-broken : h.met ≢ 5
-  not-broken e = omega (arith, unmet)
-
-  pub here : Live o n domains bans bars ready
-  here = h.live not-broken
+  first = nv.some
 
   fresh : Fresh h.tried (l ∷ ls)
   fresh = rw first at h.fresh
@@ -135,7 +121,7 @@ module _ {once : Bool} {whole : Worked} {o₀ : Network} {number₀ : ℕ} {o : 
   line-numbers = supply.lines.0
 
   pub line-channel : is_channel v.from v.to ≡ true
-  line-channel = numbers-line (network_of o) v.from v.to here.shape line-numbers
+  line-channel = numbers-line (network_of o) v.from v.to h.live.shape line-numbers
 
   pub line-ends : Ends v.from v.to
   line-ends = ends v.from v.to line-channel
@@ -150,7 +136,7 @@ module _ {once : Bool} {whole : Worked} {o₀ : Network} {number₀ : ℕ} {o : 
     finds c x y ec eg ex =
         record {
           sized = h.sized;
-          shape = here.shape;
+          shape = h.live.shape;
           numbers = line-numbers;
           running = g;
           waits = λ k. absurd (omega (arith, line-held, held-is o.counts v.from v.to line-channel, k));
@@ -162,10 +148,10 @@ module _ {once : Bool} {whole : Worked} {o₀ : Network} {number₀ : ℕ} {o : 
     tried-now d e = tries now l g fresh.0 ∙ ap (tally now l) e
 
     -- a delivery with this answer leaves the network p
-    module _ (p : Network) (bars' : List Bars) (ready' : ℕ) (m : Bool) (a : Answer) (number' : ℕ) (d : Delivery)
+    module _ (p : Network) (bars' : List Bars) (ready' : ℕ) (m : Bool) (a : Answer) (stuck' : Bool) (d : Delivery)
         (tried : deliver (network_of o) v.from v.to ≡ d) (net : d.network ≡ network_of p) (ans : d.answer ≡ a)
         (sized : FullArrays p) (live : in_shape (network_of p) ≡ true → Live p n domains bans bars' ready')
-        (misses : missed ≡ true → m ≡ true) (num : number' ≡ number_at h.met (h.delivered + counts a)) where
+        (misses : missed ≡ true → m ≡ true) (still : stuck' ≡ eqb (h.delivered + counts a) 0) where
       abbrev try : Try
       try = record { line = l; answer = a }
 
@@ -185,24 +171,21 @@ module _ {once : Bool} {whole : Worked} {o₀ : Network} {number₀ : ℕ} {o : 
           (others : All (λ x. (any (passed_by x) h.tried ≡ false) × (passed_by x try ≡ false)) (ahead quota n v.from rest'))
           (counted : (m ≡ not (eqb (h.delivered + counts a + length (ahead quota n v.from rest')) h.waited))
           × (h.delivered + counts a + length (ahead quota n v.from rest') ≤ h.waited)) where
-        tried-one : Here once whole o₀ number₀ p n domains bans bars' ready' quota m left made number' v.from rest'
+        tried-one : Here once whole p n domains bans bars' ready' quota m left made stuck' v.from rest'
         tried-one =
             record {
               sized = sized;
               agents = h.agents;
               high = nv.high;
               few = h.few;
-              met = h.met;
-              live = λ _. live (rw network-after at (attempt-keeps now l here.shape));
-              untouched = λ e. absurd (not-broken e);
-              quiet = λ n. absurd (n unmet);
+              live = live (rw network-after at (attempt-keeps now l h.live.shape));
               waited = h.waited;
               delivered = h.delivered + counts a;
               tried = h.tried ++ (try ∷ []);
-              numbered = num;
+              stuck_is = still;
               most = counted.1;
               missing = counted.0;
-              supplied = supplies (rw network-after at (attempt-supplied now l ls here.shape supply));
+              supplied = supplies (rw network-after at (attempt-supplied now l ls h.live.shape supply));
               fresh = All-map _ _ (λ x q. any_snoc (passed_by x) h.tried try ∙ rw (q.0, q.1)) (ahead quota n v.from rest') others;
               end = h.end;
               kind = kind-missed m misses h.kind;
@@ -217,10 +200,10 @@ module _ {once : Bool} {whole : Worked} {o₀ : Network} {number₀ : ℕ} {o : 
       more = ahead quota n v.from rest'
 
       visits-left : ls ≡ replicate (assignment v.rest v.to) l ++ more
-      visits-left = ahead-passed quota n v.from v.rest v.to rest' line-ends.to_low (omega (arith, line-ends.to_high)) (nv.least found) cut
+      visits-left = ahead-passed quota n v.from v.rest v.to rest' line-ends.to_low (omega (arith, line-ends.to_high)) nv.least cut
 
       few-left : length more ≤ length ls
-      few-left = passed-fewer quota n v.from v.rest v.to rest' line-ends.to_low (omega (arith, line-ends.to_high)) (nv.least found) cut
+      few-left = passed-fewer quota n v.from v.rest v.to rest' line-ends.to_low (omega (arith, line-ends.to_high)) nv.least cut
 
       abbrev refused : Try
       refused = record { line = l; answer = Rejected NoRoom }
@@ -238,11 +221,11 @@ module _ {once : Bool} {whole : Worked} {o₀ : Network} {number₀ : ℕ} {o : 
           All-map _ _ (λ x e. rw e) more
           (ahead_apart quota n v.from rest' v.to (rw cut (at_same (assignment v.rest) v.to 0)))
 
-      pub jams : Here once whole o₀ number₀ p n domains bans bars' ready' quota true left made number v.from rest'
+      pub jams : Here once whole p n domains bans bars' ready' quota true left made stuck v.from rest'
       unfolding rejecting counts
       jams =
-          tried-one p bars' ready' true (Rejected NoRoom) number (rejecting NoRoom (network_of o)) tried (sym net) refl sized
-          (λ _. live) (λ _. refl) (h.numbered ∙ ap (number_at h.met) (sym (add-zero h.delivered))) rest'
+          tried-one p bars' ready' true (Rejected NoRoom) stuck (rejecting NoRoom (network_of o)) tried (sym net) refl sized
+          (λ _. live) (λ _. refl) (h.stuck_is ∙ ap (λ (k : ℕ). eqb k 0) (sym (add-zero h.delivered))) rest'
           (ap (sweep jammed) visits-left ∙ sweep-over jammed l passed (assignment v.rest v.to) more)
           (λ s. supplied-over jammed l passed (assignment v.rest v.to) more live.shape (rw visits-left at s))
           (All-both _ _ more (All-right _ (replicate (assignment v.rest v.to) l) more (rw visits-left at fresh.1)) apart)
@@ -252,14 +235,14 @@ module _ {once : Bool} {whole : Worked} {o₀ : Network} {number₀ : ℕ} {o : 
     module _ (p : Network) (bars' : List Bars) (ready' : ℕ) (posts : List Post')
         (tried : deliver (network_of o) v.from v.to ≡ record { network = network_of p; answer = Accepted; sent = posts })
         (sized : FullArrays p) (live : in_shape (network_of p) ≡ true → Live p n domains bans bars' ready') where
-      pub accepts : Here once whole o₀ number₀ p n domains bans bars' ready' quota missed left made 0 v.from v.rest
-      unfolding passed_by is_no_room counts number_at round_number
+      pub accepts : Here once whole p n domains bans bars' ready' quota missed left made false v.from v.rest
+      unfolding passed_by is_no_room counts
       accepts =
-          tried-one p bars' ready' missed Accepted 0 _ tried refl refl sized live (λ y. y) taken v.rest refl (λ s. s)
+          tried-one p bars' ready' missed Accepted false _ tried refl refl sized live (λ y. y) taken v.rest refl (λ s. s)
           (All-map _ _ (λ x f. (f, and-false (is_line x.from x.to l))) ls fresh.1)
           (let e : h.delivered + 1 + length ls ≡ h.delivered + suc (length ls) = omega arith in
           let q : h.delivered + length (ahead quota n i rest) ≡ h.delivered + 1 + length ls = ap (λ (x : List Line). h.delivered + length x) first ∙ sym e in
           (rw q at h.missing, omega (arith, least)))
         where
-          taken : 0 ≡ number_at h.met (h.delivered + 1)
-          taken = rw (unmet, number_at, add-one)
+          taken : false ≡ eqb (h.delivered + 1) 0
+          taken = sym (ne_eqb (h.delivered + 1) 0 (λ e. absurd (omega arith)))

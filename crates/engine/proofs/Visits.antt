@@ -1,6 +1,6 @@
 -- The visits of a network in shape, and whether nothing waits, by the rows of counts: channels to agents beyond n hold nothing.
 use Prim.Native.Nat.{ℕ, ◌≤◌, ◌<◌}
-use mathlib.Core.Bool.{true}
+use mathlib.Core.Bool.{Bool, true, not}
 use mathlib.Core.Path.{◌≡◌, refl, sym, ap, ◌∙◌}
 use mathlib.Core.List.{List, [], ◌∷◌}
 use native.Mathlib.Omega.{arith}
@@ -8,7 +8,7 @@ use lib.Dec.{eqb, leb}
 use lib.ListN.{length, replicate}
 use borrow.Author.Tests.{eq-eqb, ne_eqb, leb-true, leb-false}
 use Rattle.base.specs.Finite.{all_to}
-use Rattle.base.proofs.Tests.{test}
+use Rattle.base.proofs.Tests.{test, not-not}
 use Rattle.base.proofs.Lists.{All}
 use Rattle.base.proofs.Peeling.{same_test}
 use Rattle.base.proofs.Search.{all_to-at, to-all_to}
@@ -67,7 +67,7 @@ module _ (o : Network) (s : in_shape (network_of o) ≡ true) (clean : Clean o.c
   empty-is [] = refl
   empty-is (m ∷ ms) = sym (ne_eqb (length (m ∷ ms)) 0 (λ e. absurd (omega arith)))
 
-  pub idle-is : idle (network_of o) ≡ all_to o.count (λ i. all_to max_agents (λ j. eqb (held_at o.counts i j) 0))
+  idle-is : idle (network_of o) ≡ all_to o.count (λ i. all_to max_agents (λ j. eqb (held_at o.counts i j) 0))
   unfolding idle network_of problem_of max_agents
   idle-is =
       same_test _ _
@@ -80,3 +80,14 @@ module _ (o : Network) (s : in_shape (network_of o) ≡ true) (clean : Clean o.c
     where
       empty-at : (i j : ℕ) → is_empty ((network_of o).channel i j) ≡ eqb (held_at o.counts i j) 0
       empty-at i j = empty-is ((network_of o).channel i j) ∙ ap (λ (k : ℕ). eqb k 0) (channel-held o i j)
+
+-- whether something waits, as the code tests it
+abbrev pub Waits : Network → ℕ → Bool → Type 0
+Waits o n w = Clean o.counts → w ≡ not (all_to n (λ i. all_to max_agents (λ j. eqb (held_at o.counts i j) 0)))
+
+pub idle-by : (o : Network) → in_shape (network_of o) ≡ true → Clean o.counts → (n : ℕ) → n ≡ o.count → (w : Bool) → Waits o n w
+    → not w ≡ idle (network_of o)
+idle-by o s clean n e w f =
+    ap not (f clean) ∙ not-not _
+    ∙ ap (λ (k : ℕ). all_to k (λ i. all_to max_agents (λ j. eqb (held_at o.counts i j) 0))) e
+    ∙ sym (idle-is o s clean)

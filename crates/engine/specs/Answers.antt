@@ -9,6 +9,7 @@ use Rattle.protocol.specs.Run.{
   Broken as Broken',
 }
 use Rattle.network.specs.Abstract.{network_of}
+use Rattle.engine.specs.Refused.{refused_number}
 use Rattle.engine.specs.Working.{Worked}
 use Rattle.engine.specs.declared.Ending.{Ending}
 use Rattle.engine.specs.declared.Ending.TheVariants.{None, Plan, Jammed, Open, Broken}
@@ -24,5 +25,5 @@ ending_of Broken = Broken'
 pub record WorksAs (x : Worked) (answer : Answer) : Type 0 where
   pub network : network_of answer.network ≡ x.network
   pub rounds : answer.rounds ≡ x.made
-  pub number : answer.number ≡ x.number
+  pub number : refused_number answer.refusal ≡ x.number
   pub ending : ending_of answer.ending ≡ x.ending

@@ -1,3 +1,4 @@
 pub mod Lines
 pub mod Working
+pub mod Refused
 pub mod Answers

@@ -1,6 +1,6 @@
 -- The visits of a round still ahead: the lines of sender i that `rest` has by its digits, upward, and those of the senders after it by the rows of what
 -- each line held when the round began.
-use Rattle.std.specs.Prelude.{ℕ, ◌+◌, ◌-◌, ◌≤◌, ◌<◌, ◌≡◌, true, false, List, [], ◌∷◌, ◌++◌, replicate}
+use Rattle.std.specs.Prelude.{ℕ, ◌+◌, ◌-◌, ◌≤◌, ◌<◌, ◌≡◌, List, ◌∷◌, ◌++◌, replicate}
 use Rattle.base.specs.Finite.{gather}
 use Rattle.agent_rules.specs.Shape.{max_named}
 use Rattle.packed.specs.Packed.{assignment}
@@ -25,10 +25,8 @@ rows quota m i = gather m i (λ x. row (row_of quota x) x)
 abbrev pub ahead : List ℕ → ℕ → ℕ → ℕ → List Line
 ahead quota n i rest = row (assignment rest) i ++ rows quota (n - i) (i + 1)
 
--- the first of the visits ahead and those after it, or there is none; of this sender's lines, those before it have none left
+-- the first of the visits ahead and those after it; of this sender's lines, those before it have none left
 pub record NextVisit (quota : List ℕ) (n i rest : ℕ) (v : Visit) : Type 0 where
   pub high : v.from ≤ n
-  pub over : v.over ≡ true → ahead quota n i rest ≡ []
-  pub empty : v.over ≡ true → v.rest ≡ 0
-  pub some : v.over ≡ false → ahead quota n i rest ≡ line v.from v.to ∷ ahead quota n v.from v.rest
-  pub least : v.over ≡ false → (j : ℕ) → 1 ≤ j → j < v.to → assignment v.rest j ≡ 0
+  pub some : ahead quota n i rest ≡ line v.from v.to ∷ ahead quota n v.from v.rest
+  pub least : (j : ℕ) → 1 ≤ j → j < v.to → assignment v.rest j ≡ 0

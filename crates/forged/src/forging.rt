@@ -1,66 +1,59 @@
 // Networks to be tried: one in shape, and what changes it in one place.
 ghost use Rattle.std.specs.Prelude.{◌≤◌, ◌<◌};
 
-use agent::{Carried, Counts, Lhs, Message};
+use agent::{Agent, Carried, Counts, Lhs, Message};
 use network::{Network, Place};
 use packed::with_digit;
 
 // ---- one change. Agent i + 1 has place i of its array and bit i of a set; digit i of a packed word is its value. Of the channels, 1 to 2 has
 // number 0, 1 to 3 number 1, 2 to 1 number 11, 2 to 3 number 12, 3 to 1 number 22 and 3 to 2 number 23; the places of number l begin at 8 * l.
 
-pub fn counted(r: Network, n: u8) -> Network {
-    let mut o = r;
-    o.count = n;
-    o
+pub fn counted(r: Network, count: u8) -> Network {
+    Network { count, ..r }
 }
 
 pub fn ruled(r: Network, rule: u8) -> Network {
-    let mut o = r;
-    o.rule = rule;
-    o
-}
-
-pub fn with_domain(r: Network, i: usize, d: u8) -> Network
-    requires { i < 12 }
-{
-    let mut o = r;
-    o.domains[i] = d;
-    o
-}
-
-pub fn with_bans(r: Network, at: usize, word: u64) -> Network
-    requires { at < 66 }
-{
-    let mut o = r;
-    o.bans[at] = word;
-    o
+    Network { rule, ..r }
 }
 
 pub fn judged(r: Network) -> Network {
-    let mut o = r;
-    o.verdict = true;
-    o
+    Network { verdict: true, ..r }
+}
+
+pub fn with_domain(mut r: Network, i: usize, d: u8) -> Network
+    requires { i < 12 }
+{
+    r.domains[i] = d;
+    r
+}
+
+pub fn with_bans(mut r: Network, at: usize, word: u64) -> Network
+    requires { at < 66 }
+{
+    r.bans[at] = word;
+    r
+}
+
+// Agent i + 1, changed.
+fn with_agent<F: Fn(Agent) -> Agent>(mut r: Network, i: usize, change: F) -> Network
+    requires inside { i < 12 }
+    requires callable { F.IsAlwaysCallable change }
+{
+    r.agents[i] = change(r.agents[i]);
+    r
 }
 
 pub fn holding(r: Network, i: usize, value: u8) -> Network
     requires { i < 12 }
 {
-    let mut a = r.agents[i];
-    a.value = value;
-    let mut o = r;
-    o.agents[i] = a;
-    o
+    with_agent(r, i, |a| Agent { value, ..a })
 }
 
 // The last value that agent i + 1 took.
 pub fn having_taken(r: Network, i: usize, last: u8) -> Network
     requires { i < 12 }
 {
-    let mut a = r.agents[i];
-    a.last = last;
-    let mut o = r;
-    o.agents[i] = a;
-    o
+    with_agent(r, i, |a| Agent { last, ..a })
 }
 
 // Agent i + 1 holds the last value that it took.
@@ -70,55 +63,47 @@ pub fn settled(r: Network, i: usize, value: u8) -> Network
     having_taken(holding(r, i, value), i, value)
 }
 
-pub fn listening(r: Network, i: usize, set: u16) -> Network
+pub fn listening(r: Network, i: usize, listens: u16) -> Network
     requires { i < 12 }
 {
-    let mut a = r.agents[i];
-    a.listens = set;
-    let mut o = r;
-    o.agents[i] = a;
-    o
+    with_agent(r, i, |a| Agent { listens, ..a })
 }
 
-pub fn informing(r: Network, i: usize, set: u16) -> Network
+pub fn informing(r: Network, i: usize, informs: u16) -> Network
     requires { i < 12 }
 {
-    let mut a = r.agents[i];
-    a.informs = set;
-    let mut o = r;
-    o.agents[i] = a;
-    o
+    with_agent(r, i, |a| Agent { informs, ..a })
 }
 
 pub fn viewing(r: Network, i: usize, digits: u64) -> Network
     requires { i < 12 }
 {
-    let mut a = r.agents[i];
-    let view = Lhs { digits: digits };
-    a.view = view;
-    let mut o = r;
-    o.agents[i] = a;
-    o
+    with_agent(
+        r,
+        i,
+        |a| Agent {
+            view: Lhs { digits },
+            ..a
+        },
+    )
 }
 
 // What agent i + 1 has beside its value k + 1.
-pub fn keeping(r: Network, i: usize, k: u8, stored: bool, digits: u64) -> Network
+pub fn keeping(mut r: Network, i: usize, k: u8, stored: bool, digits: u64) -> Network
     requires { (i < 12) × (k < 8) }
 {
-    let mut a = r.agents[i];
+    let a = &mut r.agents[i];
     a.nogoods[k as usize] = digits;
-    a.stored = (a.stored & !(1u8 << k)) | ((stored as u8) << k);
-    let mut o = r;
-    o.agents[i] = a;
-    o
+    a.stored = (a.stored & !(1u8 << k)) | (u8::from(stored) << k);
+    r
 }
 
 // So many messages of each sort.
 pub fn counts(infos: u64, backs: u64, links: u64) -> Counts {
     Counts {
-        infos: infos,
-        backs: backs,
-        links: links,
+        infos,
+        backs,
+        links,
     }
 }
 
@@ -126,55 +111,44 @@ pub fn counts(infos: u64, backs: u64, links: u64) -> Counts {
 pub fn having_sent(r: Network, i: usize, sent: Counts) -> Network
     requires { i < 12 }
 {
-    let mut a = r.agents[i];
-    a.sent = sent;
-    let mut o = r;
-    o.agents[i] = a;
-    o
+    with_agent(r, i, |a| Agent { sent, ..a })
 }
 
 pub fn having_received(r: Network, i: usize, received: Counts) -> Network
     requires { i < 12 }
 {
-    let mut a = r.agents[i];
-    a.received = received;
-    let mut o = r;
-    o.agents[i] = a;
-    o
+    with_agent(r, i, |a| Agent { received, ..a })
 }
 
 // The head of a line.
-pub fn headed(r: Network, from: u8, to: u8, head: u8) -> Network
+pub fn headed(mut r: Network, from: u8, to: u8, head: u8) -> Network
     requires { (1 ≤ from) × (from ≤ 12) × (1 ≤ to) × (to ≤ 16) × (head < 16) }
 {
-    let at = from as usize - 1;
-    let mut o = r;
-    o.heads[at] = with_digit(r.heads[at], to, head);
-    o
+    let row = &mut r.heads[from as usize - 1];
+    *row = with_digit(*row, to, head);
+    r
 }
 
 // How many messages a line holds.
-pub fn waiting(r: Network, from: u8, to: u8, n: u8) -> Network
+pub fn waiting(mut r: Network, from: u8, to: u8, n: u8) -> Network
     requires { (1 ≤ from) × (from ≤ 12) × (1 ≤ to) × (to ≤ 16) × (n < 16) }
 {
-    let at = from as usize - 1;
-    let mut o = r;
-    o.counts[at] = with_digit(r.counts[at], to, n);
-    o
+    let row = &mut r.counts[from as usize - 1];
+    *row = with_digit(*row, to, n);
+    r
 }
 
-pub fn with_message(r: Network, at: usize, m: Message) -> Network
+pub fn with_message(mut r: Network, at: usize, message: Message) -> Network
     requires { at < 1056 }
 {
-    let mut o = r;
-    o.places[at] = Place { message: m };
-    o
+    r.places[at] = Place { message };
+    r
 }
 
 // A Back; the left side's digits are those of agents 1 to 4.
-pub fn back(digits: u16, value: u8) -> Message {
+pub fn back(low: u16, value: u8) -> Message {
     let lhs = Carried {
-        low: digits,
+        low,
         middle: 0,
         high: 0,
     };

@@ -3,15 +3,17 @@
 
 ghost use Rattle.protocol.specs.Delivery.{deliver};
 ghost use Rattle.network.specs.Abstract.{network_of};
+ghost use Rattle.engine.specs.Refused.{refused_number};
 ghost use Rattle.run.specs.Answers.{DeliversAs};
 
 use network::Network;
+use refusals::Refusal;
 
-// The delivery where the network stands: what the delivery by value hands back is left in its place, and the number is handed back.
-pub fn deliver_in_place(r: &mut Network, from: u8, to: u8) -> u8
-    ensures { DeliversAs r.old (deliver (network_of r.old) from to) result r.new }
+// The delivery where the network stands: what the delivery by value hands back is left in its place, and why it was refused is handed back, if it was.
+pub fn deliver_in_place(r: &mut Network, from: u8, to: u8) -> Option<Refusal>
+    ensures { DeliversAs r.old (deliver (network_of r.old) from to) (refused_number result) r.new }
 {
-    let out = run::deliver(*r, from, to);
-    *r = out.network;
-    out.number
+    let answer = run::deliver(*r, from, to);
+    *r = answer.network;
+    answer.refusal
 }

@@ -2,17 +2,15 @@
 // `image move IMAGE`.
 #![tactic(auto)]
 
-ghost use Rattle.std.specs.Prelude.{◌≡◌, ◌≤◌, length, take};
+ghost use Rattle.lent.specs.Abstract.{InBuffer};
 
-use board_text::options::{
-    BAD_RULE, Options, Stage, goes_on, is_option, no_options, opens, option,
-};
-use board_text::quiet::{Followed, follow};
+use board_text::options::{Options, Stage, goes_on, is_option, no_options, opens, option, rule_of};
+use board_text::quiet::follow;
 use dispatch::Dispatcher;
 use image_mover::{move_image, store_small};
 use image_writer::store;
-use lent::Written;
 use network::{Network, is_rule};
+use refusals::Refusal;
 use std::rt::{Env, Files};
 use tool::{
     LONGEST_ARGUMENT, argument, argument_count, read_file, say, say_refused, say_surplus, written,
@@ -20,73 +18,63 @@ use tool::{
 
 // ---- the image
 
-fn stored(r: Network, small: bool, out: &mut [u8]) -> Written
-    ensures { (result.length ≤ length out.new) × (result.length ≡ length (take result.length out.new)) }
+fn stored(r: Network, small: bool, out: &mut [u8]) -> Result<usize, Refusal>
+    ensures { InBuffer result out.new }
 {
     if small {
-        return store_small(r, out);
+        store_small(r, out)
+    } else {
+        store(r, out)
     }
-    store(r, out)
 }
 
 // The longest image has 19,744 bytes.
 fn write_image(r: Network, small: bool) {
     let mut image = [0u8; 19744];
-    let w = stored(r, small, &mut image);
-    if w.number != 0 {
-        say_refused(w.number);
-        return;
+    match stored(r, small, &mut image) {
+        Ok(n) => {
+            written(&image[..n]);
+        }
+        Err(refusal) => say_refused(refusal),
     }
-    let n = w.length;
-    written(&image[..n]);
 }
 
 // ---- calls
 
-// The call that argument i says, or one line that it is none.
-fn call_at(rt: &impl Env, d: Dispatcher, i: usize) -> Followed {
+// What the call that argument i says leaves, or one line that it is none.
+fn call_at(rt: &impl Env, d: Dispatcher, i: usize) -> Option<Dispatcher> {
     let mut word = [0u8; LONGEST_ARGUMENT];
     let n = argument(rt, i, &mut word);
-    let f = follow(d, &word[..n]);
-    if !f.understood {
+    let left = follow(d, &word[..n]);
+    if left.is_none() {
         say(b"call not understood: ", &word[..n]);
     }
-    f
+    left
 }
 
 // The calls from argument `first` on, and the image of what they leave; nothing where one of them is none.
-fn play(rt: &impl Env, d: Dispatcher, small: bool, first: usize) {
-    let mut s = d;
-    let end = argument_count(rt);
-    let mut i = first;
-    while i < end {
-        let f = call_at(rt, s, i);
-        if !f.understood {
+fn play(rt: &impl Env, begun: Dispatcher, small: bool, first: usize) {
+    let mut d = begun;
+    for i in first..argument_count(rt) {
+        let Some(left) = call_at(rt, d, i) else {
             return;
-        }
-        s = f.dispatcher;
-        i += 1;
+        };
+        d = left;
     }
-    let left = s.network;
-    write_image(left, small);
+    write_image(d.network, small);
 }
 
 // One byte beyond the longest sheet tells that the file is too long.
 fn open_and_play(rt: &(impl Env + Files), o: Options, name: &[u8], first: usize) {
     let mut sheet = [0u8; 33817];
-    let file = read_file(rt, name, &mut sheet);
-    if !file.good {
+    let Some(n) = read_file(rt, name, &mut sheet) else {
         say(b"cannot read ", name);
         return;
+    };
+    match start::start(rule_of(o), &sheet[..n]) {
+        Ok(network) => play(rt, dispatch::begin(network), o.small, first),
+        Err(refusal) => say_refused(refusal),
     }
-    let n = file.length;
-    let started = start::start(o.rule, &sheet[..n]);
-    if started.number != 0 {
-        say_refused(started.number);
-        return;
-    }
-    let network = started.network;
-    play(rt, dispatch::begin(network), o.small, first);
 }
 
 // ---- the words in front of the calls
@@ -94,7 +82,7 @@ fn open_and_play(rt: &(impl Env + Files), o: Options, name: &[u8], first: usize)
 // A rule that the start refuses is said before a file is missed.
 fn say_ruled(rule: u8) {
     if !is_rule(rule) {
-        say_refused(BAD_RULE);
+        say_refused(Refusal::BadRule);
         return;
     }
     say(
@@ -105,11 +93,9 @@ fn say_ruled(rule: u8) {
 
 // The one line where no file is opened, with the word read last.
 fn say_unopened(o: Options, word: &[u8]) {
-    let stage = o.stage;
-    match stage {
-        Stage::Words => say_ruled(o.rule),
+    match o.stage {
+        Stage::Words | Stage::File => say_ruled(rule_of(o)),
         Stage::Awaits => say(b"option not understood: ", b"--rule"),
-        Stage::File => say_ruled(o.rule),
         Stage::Wrong => say(b"option not understood: ", word),
     }
 }
@@ -126,23 +112,21 @@ fn follow_options(rt: &(impl Env + Files), o: Options, i: usize, first: usize) {
     let n = argument(rt, i, &mut word);
     if opens(o) {
         open_and_play(rt, o, &word[..n], first);
-        return;
+    } else {
+        say_unopened(o, &word[..n]);
     }
-    say_unopened(o, &word[..n]);
 }
 
 // The options are read, up to the file, to a word that is not understood or to the end.
 fn write(rt: &(impl Env + Files)) {
     let end = argument_count(rt);
     let mut o = no_options(false);
-    let mut i: usize = 2;
-    while i < end {
+    for i in 2..end {
         o = option_at(rt, o, i);
         if !goes_on(o) {
             follow_options(rt, o, i, i + 1);
             return;
         }
-        i += 1;
     }
     follow_options(rt, o, end, end);
 }
@@ -152,20 +136,17 @@ fn write(rt: &(impl Env + Files)) {
 // The other form of an image. One byte beyond the longest image tells that the file is too long.
 fn move_file(rt: &impl Files, name: &[u8]) {
     let mut given = [0u8; 19745];
-    let file = read_file(rt, name, &mut given);
-    if !file.good {
+    let Some(length) = read_file(rt, name, &mut given) else {
         say(b"cannot read ", name);
         return;
-    }
-    let length = file.length;
+    };
     let mut image = [0u8; 19744];
-    let w = move_image(&given[..length], &mut image);
-    if w.number != 0 {
-        say_refused(w.number);
-        return;
+    match move_image(&given[..length], &mut image) {
+        Ok(n) => {
+            written(&image[..n]);
+        }
+        Err(refusal) => say_refused(refusal),
     }
-    let n = w.length;
-    written(&image[..n]);
 }
 
 // There are no options here, and nothing stands behind the image's name.
@@ -190,15 +171,11 @@ fn move_given(rt: &(impl Env + Files)) {
 // ---- the command
 
 fn follow_command(rt: &(impl Env + Files), word: &[u8]) {
-    if check::same(word, b"write") {
-        write(rt);
-        return;
+    match word {
+        b"write" => write(rt),
+        b"move" => move_given(rt),
+        _ => say(b"command not understood: ", word),
     }
-    if check::same(word, b"move") {
-        move_given(rt);
-        return;
-    }
-    say(b"command not understood: ", word);
 }
 
 fn main(rt: HostRuntime) {

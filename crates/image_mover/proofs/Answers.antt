@@ -3,7 +3,7 @@
 use Prim.Native.Nat.{ℕ, ◌+◌, ◌≤◌, ◌<◌}
 use mathlib.Core.Path.{◌≡◌, sym, ap, ◌∙◌}
 use mathlib.Core.Logic.{◌≢◌}
-use mathlib.Core.Bool.{true, false, false≢true}
+use mathlib.Core.Bool.{true, false}
 use mathlib.Core.List.{List, ◌++◌}
 use native.Mathlib.Nat.{zero-add}
 use native.Mathlib.Omega.{arith}
@@ -11,8 +11,7 @@ use lib.Dec.{eqb}
 use lib.ListN.{length, get_or, take, drop}
 use borrow.Author.Tests.{eq-eqb, ne_eqb, le-leb, lt-leb}
 use Rattle.base.specs.Same.{same_numbers}
-use Rattle.base.proofs.Same.{numbers-itself}
-use Rattle.base.specs.Lent.{short_buffer, untouched, put}
+use Rattle.base.specs.Lent.{Written as Written', short_buffer, untouched, put}
 use Rattle.base.proofs.Tests.{test, to_both}
 use Rattle.protocol.specs.Network.{Network, empty_network}
 use Rattle.protocol.specs.Shape.{in_shape}
@@ -23,20 +22,31 @@ use Rattle.image_forms.specs.Reading.{is_small, load_second, load_as, load}
 use Rattle.image_forms.specs.Writing.{store}
 use Rattle.image_forms.specs.Moving.{moved, move}
 use Rattle.image_forms.proofs.Theorems.{moved-from-first, moved-from-second}
-use Rattle.lent.specs.declared.Written.{Written as Answer}
-use Rattle.lent.specs.Abstract.{written_of}
+use Rattle.lent.specs.Abstract.{over, written_of}
 use Rattle.lent.proofs.Within.{Within, put-within, untouched-within}
-use Rattle.image_writer.specs.Puts.{Puts}
+use Rattle.std.proofs.Common.{Ok, Err}
+use Rattle.refusals.specs.declared.Refusal.{Refusal}
+use Rattle.refusals.specs.declared.Refusal.TheVariants.{BadImage}
+use Rattle.refusals.specs.Refusals.{refusal_number}
+use Rattle.refusals.proofs.Numbers.{refusal-some}
+use Rattle.image_writer.proofs.Stored.{stores-broken}
 use Rattle.image_reader.proofs.Written.{not_written}
+use Rattle.network.specs.declared.Network.{Network as Record}
+use Rattle.image_reader.specs.Loaded.{loaded_of}
 use Rattle.image_mover.specs.Whole.{Whole}
 use Rattle.image_mover.proofs.Images.{small-whole}
 
 -- ---- reading
 
--- what is answered is what another definition answers, where they agree
-pub answered : {x y : Loaded} {number : ℕ} {network : Network} → (number ≡ x.number) × (network ≡ x.network) → y ≡ x
-    → (number ≡ y.number) × (network ≡ y.network)
-answered p e = (p.0 ∙ sym (ap (λ (l : Loaded). l.number) e), p.1 ∙ sym (ap (λ (l : Loaded). l.network) e))
+-- what is read has number 0, and a refusal another
+module _ {l : Loaded} where
+  pub read_number : (r : Record) → loaded_of (Ok r) ≡ l → l.number ≡ 0
+  unfolding loaded_of
+  read_number r e = ap (λ (l : Loaded). l.number) (sym e)
+
+  pub refused_number : (e : Refusal) → loaded_of (Err e) ≡ l → l.number ≢ 0
+  unfolding loaded_of
+  refused_number e p z = refusal-some e (ap (λ (l : Loaded). l.number) p ∙ z)
 
 abbrev pub refusal : Loaded
 refusal = record { number = bad_image; network = empty_network }
@@ -49,6 +59,21 @@ module _ (s : List ℕ) where
   pub as-second : eqb (get_or s 0 0) second_form ≡ true → load s ≡ load_second s
   unfolding load load_as form_of
   as-second e = let f : form_of s ≡ Second = rw (e, form_of) in rw f
+
+  -- what is refused is refused with 13
+  second-bad : (load_second s).number ≢ 0 → (load_second s).number ≡ 13
+  unfolding load_second bad_image
+  second-bad n = test (is_small s) (λ t. absurd (n (rw (t, load_second)))) (λ t. rw (t, load_second))
+
+  first-bad : (load_first s).number ≢ 0 → (load_first s).number ≡ 13
+  unfolding load_first bad_image
+  first-bad n = test (is_image s) (λ t. absurd (n (rw (t, load_first)))) (λ t. rw (t, load_first))
+
+  pub refused-is-bad : (load s).number ≢ 0 → (load s).number ≡ 13
+  refused-is-bad n =
+      test (eqb (get_or s 0 0) second_form)
+      (λ e. rw (as-second e) (second-bad (λ z. n (ap (λ (l : Loaded). l.number) (as-second e) ∙ z))))
+      (λ e. rw (as_first e) (first-bad (λ z. n (ap (λ (l : Loaded). l.number) (as_first e) ∙ z))))
 
   not-small : is_small s ≡ false → load_second s ≡ refusal
   unfolding load_second
@@ -85,8 +110,8 @@ module _ (s : List ℕ) where
 -- ---- writing
 
 module _ (bytes buffer : List ℕ) where
-  pub put-short : length buffer < length bytes → put bytes buffer ≡ record { number = 12; length = 0; buffer = buffer }
-  unfolding put untouched short_buffer
+  pub put-short : length buffer < length bytes → put bytes buffer ≡ untouched 12 buffer
+  unfolding put short_buffer
   put-short h = rw (lt-leb (length bytes) (length buffer) h, put)
 
   pub put-copied : (new : List ℕ) → length bytes ≤ length buffer → new ≡ take 0 buffer ++ bytes ++ drop (0 + length bytes) buffer
@@ -94,28 +119,28 @@ module _ (bytes buffer : List ℕ) where
   unfolding put
   put-copied new h e = rw (le-leb (length bytes) (length buffer) h, put, e) (rw zero-add)
 
-  pub put_all : (count next : ℕ) (new : List ℕ) → length bytes ≤ length buffer → Puts buffer 0 count bytes new next
-      → put bytes buffer ≡ record { number = 0; length = next; buffer = new }
-  put_all count next new h p = let n : next ≡ length bytes = omega (arith, p.behind, p.long) in rw n (put-copied new h p.buffer)
-
--- what is not written into a buffer with room for every image is out of shape
-pub out-of-shape : (w : Network) (buffer new : List ℕ) (answer : Answer) → length buffer ≡ 19744 → written_of answer new ≡ store First w buffer
-    → answer.number ≢ 0 → in_shape w ≡ false
-out-of-shape w buffer new answer long e n =
-    test (in_shape w)
-    (λ t. absurd (false≢true (sym (not_written w buffer new answer long e n (image w)) ∙ to_both (in_shape w) _ t (numbers-itself (image w)))))
-    (λ t. t)
+  pub put_all : (new : List ℕ) → length bytes ≤ length buffer → new ≡ over 0 bytes buffer → put bytes buffer ≡ record { number = 0; length = length bytes; buffer = new }
+  put_all new h p = put-copied new h p
 
 -- an image in the second form, of a network in shape
 pub stores-small : (w : Network) (buffer : List ℕ) → in_shape w ≡ true → store Second w buffer ≡ put (small (image w)) buffer
 unfolding store image_in
 stores-small w buffer e = rw (e, store)
 
+-- what is not written into a buffer with room for every image is out of shape
+pub stores-refused : (w : Network) (first new buffer : List ℕ) (e : Refusal) → length first ≡ 19744 → written_of (Err e) new ≡ store First w first
+    → written_of (Err e) buffer ≡ store Second w buffer
+unfolding written_of untouched
+stores-refused w first new buffer e long p =
+    let broken = not_written w first new long e p in
+    let n : refusal_number e ≡ 5 = ap (λ (x : Written'). x.number) (p ∙ stores-broken First w first broken) in
+    ap (λ (n : ℕ). untouched n buffer) n ∙ sym (stores-broken Second w buffer broken)
+
 -- ---- moving
 
 module _ (s buffer : List ℕ) where
-  pub moves-none : (load s).number ≢ 0 → move s buffer ≡ record { number = 13; length = 0; buffer = buffer }
-  unfolding move untouched bad_image
+  pub moves-none : (load s).number ≢ 0 → move s buffer ≡ untouched 13 buffer
+  unfolding move bad_image
   moves-none n = rw (ne_eqb (load s).number 0 n, move)
 
   moves : (load s).number ≡ 0 → move s buffer ≡ put (moved s) buffer
@@ -140,3 +165,15 @@ module _ (s buffer : List ℕ) where
       test (eqb (load s).number 0)
       (λ t. rw (t, move) (put-within (moved s) buffer))
       (λ t. rw (t, move) (untouched-within bad_image buffer))
+
+  -- a refusal to read is one to move
+  pub moves-refused : (e : Refusal) → loaded_of (Err e) ≡ load s → move s buffer ≡ written_of (Err e) buffer
+  unfolding loaded_of written_of bad_image
+  moves-refused e p =
+      let n : refusal_number e ≡ (load s).number = ap (λ (l : Loaded). l.number) p in
+      let bad : refusal_number e ≡ 13 = n ∙ refused-is-bad s (refused_number e p) in
+      moves-none (refused_number e p) ∙ ap (λ (n : ℕ). untouched n buffer) (sym bad)
+
+  pub moves-unwhole : eqb (get_or s 0 0) second_form ≡ true → (Whole 10 s → ⊥) → move s buffer ≡ written_of (Err BadImage) buffer
+  unfolding loaded_of bad_image
+  moves-unwhole e n = moves-refused BadImage (sym (as-second s e ∙ not-whole s n))

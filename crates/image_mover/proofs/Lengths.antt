@@ -13,7 +13,7 @@ use Rattle.image_forms.specs.Places.{by_place, each_record}
 use Rattle.image_forms.specs.Packing.{packed_length, packed, unpacked, LowSlots}
 use Rattle.image_forms.specs.Forms.{second_form, agents_in, rearranged, packed_messages, unpacked_messages, small, large}
 use Rattle.image_forms.proofs.Places.{laid-length, each-length}
-use Rattle.image_forms.proofs.Packing.{unpacked-length}
+use Rattle.image_forms.proofs.Packing.{packed-length, unpacked-length}
 use Rattle.image_forms.proofs.Forms.{packed-messages-length}
 use Rattle.image_mover.specs.Whole.{Whole, Packable}
 use Rattle.image_mover.proofs.Parts.{part-is, rest-is}
@@ -23,6 +23,11 @@ unfolding stretch
 stretch-length a w s h = length-take-le w (drop a s) (omega (arith, length-drop a s))
 
 -- ---- the messages
+
+-- packed one by one
+pub records-long : (s : List ℕ) (k : ℕ) → length s ≡ 16 * k → length (each_record k 16 packed s) ≡ 10 * k
+unfolding packed_length message_length
+records-long s k long = each-length k 16 10 packed unpacked s (λ r u. packed-length _ (stretch-length (16 * r) 16 s (omega arith)))
 
 -- so many of them, by the count of their bytes
 pub unpacked-laid : (s : List ℕ) (k : ℕ) → length s ≡ 10 * k → each_record k 10 unpacked (by_place 10 k s) ≡ unpacked_messages s

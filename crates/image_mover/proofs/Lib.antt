@@ -1,4 +1,3 @@
-mod Gathered
 mod Parts
 mod Lengths
 mod Images

@@ -1,17 +1,17 @@
 -- A part of the bytes is a stretch of them, as long as it says, and its messages have low slots where all have.
-use Prim.Native.Nat.{ℕ, ◌+◌, ◌-◌, ◌*◌, ◌≤◌}
-use mathlib.Core.Path.{◌≡◌, refl, sym, ap, ap₂, ◌∙◌}
+use Prim.Native.Nat.{ℕ, ◌+◌, ◌-◌, ◌*◌, ◌≤◌, ◌<◌}
+use mathlib.Core.Path.{◌≡◌, refl, ap, ◌∙◌}
 use mathlib.Core.List.{List}
-use native.Mathlib.Nat.{zero-add}
+use native.Mathlib.Nat.{mul-le-mul_left}
 use native.Mathlib.Omega.{arith}
 use lib.Dec.{ltb}
 use lib.ListN.{length, take, drop, length-take, length-drop, get_or-eq_default}
 use lib.Seq.{length-take-le, take_at, take_all, get_or-take, get_or-drop}
 use borrow.Author.Tests.{ltb-true, ltb-false}
 use Rattle.base.proofs.Tests.{test}
+use Rattle.lent.specs.Abstract.{over}
 use Rattle.image_format.specs.Bytes.{stretch}
 use Rattle.image_forms.specs.Packing.{LowSlots}
-use Rattle.image_writer.specs.Puts.{Puts}
 
 -- from a place to the one so many bytes behind it
 pub part-is : (a w : ℕ) (s : List ℕ) → take (a + w - a) (drop a s) ≡ stretch a w s
@@ -41,12 +41,13 @@ part_low s low r p h =
 
 -- ---- what is put first stands at the buffer's start
 
-pub puts_first : {old new bytes : List ℕ} {count next : ℕ} → Puts old 0 count bytes new next → take next new ≡ bytes
-puts_first {old} {new} {bytes} {count} {next} p =
-    ap₂ take (p.behind ∙ zero-add count ∙ sym p.long) p.buffer ∙ take_at bytes (drop (0 + length bytes) old) (length bytes) refl
+module _ (old new bytes : List ℕ) (count : ℕ) (p : new ≡ over 0 bytes old) (e : length bytes ≡ count) where
+  pub puts_first : take count new ≡ bytes
+  puts_first = rw (← e) (ap (take (length bytes)) p ∙ take_at bytes (drop (0 + length bytes) old) (length bytes) refl)
 
-pub first-long : {old new bytes : List ℕ} {count next : ℕ} → Puts old 0 count bytes new next → length (take next new) ≡ count
-first-long p = ap length (puts_first p) ∙ p.long
+  pub first-long : length (take count new) ≡ count
+  first-long = ap length puts_first ∙ e
 
-pub first_counted : {old new bytes : List ℕ} {count next : ℕ} → Puts old 0 count bytes new next → next ≡ length (take next new)
-first_counted {count = count} p = p.behind ∙ zero-add count ∙ sym (first-long p)
+-- byte `place` of record r stands among all bytes
+pub in-record : (count width r place : ℕ) → r < count → place < width → width * r + place < width * count
+in-record count width r place h l = omega (arith, mul-le-mul_left width h)

@@ -1,72 +1,81 @@
-// The second form of an image in the first, and the first of one in the second. Each function puts what its contract says, and gives the place behind it.
-ghost use Rattle.std.specs.Prelude.{◌≡◌, ◌∷◌, ◌+◌, ◌*◌, ◌≤◌, length};
+// The second form of an image in the first, and the first of one in the second.
+ghost use Rattle.std.specs.Prelude.{◌≡◌, ◌∷◌, ◌*◌, ◌≤◌, length};
+ghost use Rattle.lent.specs.Abstract.{over};
 ghost use Rattle.image_format.specs.Bytes.{stretch};
 ghost use Rattle.image_forms.specs.Packing.{LowSlots};
 ghost use Rattle.image_forms.specs.Forms.{packed_messages, unpacked_messages, small, large};
-ghost use Rattle.image_writer.specs.Puts.{Puts};
+ghost use Rattle.image_writer.specs.Puts.{Room, Puts};
 ghost use Rattle.image_mover.specs.Whole.{Whole, Packable};
 
-use crate::packing::{put_all_packed, put_all_unpacked};
-use crate::places::put_by_place;
-use image_writer::bytes::put_byte;
-use lent::put;
+use crate::packing::{pack_all, put_all_unpacked};
+use crate::places::{lay_by_place, put_by_place};
+use image_writer::cursor::Cursor;
 
 // The form, and the other bytes before the scanners.
-fn put_front(out: &mut [u8], form: u8, s: &[u8]) -> usize
-    requires { (544 ≤ length s.now) × (544 ≤ length out.old) }
-    ensures { Puts out.old 0 544 (form ∷ stretch 1 543 s.now) out.new result }
+fn put_front(out: &mut Cursor<'_>, form: u8, s: &[u8])
+    requires bytes { 544 ≤ length s.now }
+    requires room { Room out.old 544 }
+    ensures { Puts out.old 544 (form ∷ stretch 1 543 s.now) out.new }
 {
-    let next = put_byte(out, 0, form);
-    put(out, next, &s[1..544]);
-    next + 543
+    out.put(form);
+    out.put_all(&s[1..544]);
 }
 
 // Messages, packed and laid by place.
-fn put_packed_messages(out: &mut [u8], at: usize, s: &[u8], count: usize) -> usize
-    requires { (length s.now ≡ 16 * count) × LowSlots s.now × (count ≤ 1056) × (at + 10 * count ≤ length out.old) }
-    ensures { Puts out.old at (10 * count) (packed_messages s.now) out.new result }
+fn put_packed_messages(out: &mut Cursor<'_>, s: &[u8], count: usize)
+    requires messages { (length s.now ≡ 16 * count) × LowSlots s.now × (count ≤ 1056) }
+    requires room { Room out.old (10 * count) }
+    ensures { Puts out.old (10 * count) (packed_messages s.now) out.new }
 {
     let mut records = [0u8; 10560];
-    let n = put_all_packed(&mut records, 0, s, count);
-    put_by_place(out, at, &records[..n], count, 10)
+    pack_all(&mut records, s, count);
+    put_by_place(out, &records[..10 * count], count, 10);
 }
 
 // And back.
-fn put_unpacked_messages(out: &mut [u8], at: usize, s: &[u8], count: usize) -> usize
-    requires { (length s.now ≡ 10 * count) × (count ≤ 1056) × (at + 16 * count ≤ length out.old) }
-    ensures { Puts out.old at (16 * count) (unpacked_messages s.now) out.new result }
+fn put_unpacked_messages(out: &mut Cursor<'_>, s: &[u8], count: usize)
+    requires messages { (length s.now ≡ 10 * count) × (count ≤ 1056) }
+    requires room { Room out.old (16 * count) }
+    ensures { Puts out.old (16 * count) (unpacked_messages s.now) out.new }
 {
     let mut records = [0u8; 10560];
-    let n = put_by_place(&mut records, 0, s, 10, count);
-    put_all_unpacked(out, at, &records[..n], count)
+    lay_by_place(&mut records, s, 10, count);
+    put_all_unpacked(out, &records[..10 * count], count);
 }
 
-// The second form of bytes in the first.
+// The second form of bytes in the first; how long it is.
 pub fn put_small(out: &mut [u8], s: &[u8]) -> usize
-    requires { Packable s.now × (length (small s.now) ≤ length out.old) }
-    ensures { Puts out.old 0 (length (small s.now)) (small s.now) out.new result }
+    requires bytes { Packable s.now }
+    requires room { length (small s.now) ≤ length out.old }
+    ensures long { result ≡ length (small s.now) }
+    ensures put { out.new ≡ over 0 (small s.now) out.old }
 {
     let n = s[1] as usize;
     let heads = 544 + 170 * n;
     let messages = heads + 264;
-    let agents = put_front(out, 2, s);
-    let next = put_by_place(out, agents, &s[544..heads], n, 170);
-    put(out, next, &s[heads..messages]);
-    let count = (s.len() - messages) / 16;
-    put_packed_messages(out, next + 264, &s[messages..], count)
+    let mut next = Cursor { buffer: out, at: 0 };
+    put_front(&mut next, 2, s);
+    put_by_place(&mut next, &s[544..heads], n, 170);
+    next.put_all(&s[heads..messages]);
+    put_packed_messages(&mut next, &s[messages..], (s.len() - messages) / 16);
+    next.at
 }
 
-// The first form of bytes in the second.
+// The first form of bytes in the second; how long it is.
+// This and `put_small` stay two functions: they differ in all that each hands on, so that one of both would have more parameters than lines.
 pub fn put_large(out: &mut [u8], s: &[u8]) -> usize
-    requires { Whole 10 s.now × (length (large s.now) ≤ length out.old) }
-    ensures { Puts out.old 0 (length (large s.now)) (large s.now) out.new result }
+    requires bytes { Whole 10 s.now }
+    requires room { length (large s.now) ≤ length out.old }
+    ensures long { result ≡ length (large s.now) }
+    ensures put { out.new ≡ over 0 (large s.now) out.old }
 {
     let n = s[1] as usize;
     let heads = 544 + 170 * n;
     let messages = heads + 264;
-    let agents = put_front(out, 1, s);
-    let next = put_by_place(out, agents, &s[544..heads], 170, n);
-    put(out, next, &s[heads..messages]);
-    let count = (s.len() - messages) / 10;
-    put_unpacked_messages(out, next + 264, &s[messages..], count)
+    let mut next = Cursor { buffer: out, at: 0 };
+    put_front(&mut next, 1, s);
+    put_by_place(&mut next, &s[544..heads], 170, n);
+    next.put_all(&s[heads..messages]);
+    put_unpacked_messages(&mut next, &s[messages..], (s.len() - messages) / 10);
+    next.at
 }

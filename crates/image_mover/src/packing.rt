@@ -1,69 +1,56 @@
-// Messages in the second form and back. Each function puts what its contract says from `at` on, and gives the place behind it.
-ghost use Rattle.std.specs.Prelude.{◌≡◌, ◌+◌, ◌*◌, ◌≤◌, length};
+// Messages in the second form and back.
+ghost use Rattle.std.specs.Prelude.{◌≡◌, ◌*◌, ◌≤◌, length};
+ghost use Rattle.lent.specs.Abstract.{over};
 ghost use Rattle.image_forms.specs.Places.{each_record};
 ghost use Rattle.image_forms.specs.Packing.{packed, unpacked, LowSlots};
-ghost use Rattle.image_writer.specs.Puts.{Puts};
+ghost use Rattle.image_writer.specs.Puts.{Room, Puts};
 
-use image_writer::bytes::put_byte;
-use lent::put;
+use image_writer::cursor::Cursor;
 
 // One message, its left-side slots two to a byte.
-fn put_packed(out: &mut [u8], at: usize, m: &[u8]) -> usize
-    requires { (length m.now ≡ 16) × LowSlots m.now × (at + 10 ≤ length out.old) }
-    ensures { Puts out.old at 10 (packed m.now) out.new result }
+fn put_packed(out: &mut Cursor<'_>, m: &[u8])
+    requires message { (length m.now ≡ 16) × LowSlots m.now }
+    requires room { Room out.old 10 }
+    ensures { Puts out.old 10 (packed m.now) out.new }
 {
-    put(out, at, &m[..4]);
-    let mut next = at + 4;
-    let mut i: usize = 0;
-    while i < 6 {
-        next = put_byte(out, next, m[4 + 2 * i] + 16 * m[5 + 2 * i]);
-        i += 1;
+    out.put_all(&m[..4]);
+    for i in 0..6 {
+        out.put(m[4 + 2 * i] + 16 * m[5 + 2 * i]);
     }
-    next
 }
 
 // One message, with a byte for each left-side slot.
-fn put_unpacked(out: &mut [u8], at: usize, m: &[u8]) -> usize
-    requires { (length m.now ≡ 10) × (at + 16 ≤ length out.old) }
-    ensures { Puts out.old at 16 (unpacked m.now) out.new result }
+fn put_unpacked(out: &mut Cursor<'_>, m: &[u8])
+    requires message { length m.now ≡ 10 }
+    requires room { Room out.old 16 }
+    ensures { Puts out.old 16 (unpacked m.now) out.new }
 {
-    put(out, at, &m[..4]);
-    let mut next = at + 4;
-    let mut i: usize = 0;
-    while i < 6 {
-        let b = m[4 + i];
-        let high = put_byte(out, next, b % 16);
-        next = put_byte(out, high, b / 16);
-        i += 1;
+    out.put_all(&m[..4]);
+    for slots in &m[4..] {
+        out.put(slots % 16);
+        out.put(slots / 16);
     }
-    next
 }
 
-// So many messages.
-pub fn put_all_packed(out: &mut [u8], at: usize, s: &[u8], count: usize) -> usize
-    requires { (length s.now ≡ 16 * count) × LowSlots s.now × (at + 10 * count ≤ length out.old) }
-    ensures { Puts out.old at (10 * count) (each_record count 16 packed s.now) out.new result }
+// So many messages, packed into a buffer from its beginning on.
+pub fn pack_all(out: &mut [u8], s: &[u8], count: usize)
+    requires messages { (length s.now ≡ 16 * count) × LowSlots s.now }
+    requires room { 10 * count ≤ length out.old }
+    ensures { out.new ≡ over 0 (each_record count 16 packed s.now) out.old }
 {
-    let mut next = at;
-    let mut r: usize = 0;
-    while r < count {
-        let from = 16 * r;
-        next = put_packed(out, next, &s[from..from + 16]);
-        r += 1;
+    let mut next = Cursor { buffer: out, at: 0 };
+    for r in 0..count {
+        put_packed(&mut next, &s[16 * r..16 * r + 16]);
     }
-    next
 }
 
-pub fn put_all_unpacked(out: &mut [u8], at: usize, s: &[u8], count: usize) -> usize
-    requires { (length s.now ≡ 10 * count) × (at + 16 * count ≤ length out.old) }
-    ensures { Puts out.old at (16 * count) (each_record count 10 unpacked s.now) out.new result }
+// So many messages, unpacked.
+pub fn put_all_unpacked(out: &mut Cursor<'_>, s: &[u8], count: usize)
+    requires messages { length s.now ≡ 10 * count }
+    requires room { Room out.old (16 * count) }
+    ensures { Puts out.old (16 * count) (each_record count 10 unpacked s.now) out.new }
 {
-    let mut next = at;
-    let mut r: usize = 0;
-    while r < count {
-        let from = 10 * r;
-        next = put_unpacked(out, next, &s[from..from + 10]);
-        r += 1;
+    for r in 0..count {
+        put_unpacked(out, &s[10 * r..10 * r + 10]);
     }
-    next
 }

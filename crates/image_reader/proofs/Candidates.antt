@@ -20,15 +20,15 @@ use Rattle.network.proofs.Zeros.{zero_row}
 use Rattle.image_format.specs.Bytes.{stretch}
 use Rattle.image_format.specs.Reading.{message_in, bans_in, problem_in, channel_in, agents_in, parse}
 use Rattle.image_reader.specs.Narrow.{narrow_message, narrow_agent, narrow}
-use Rattle.image_reader.specs.Layout.{lines_of, LaidOut}
-use Rattle.image_reader.specs.declared.lines.Layout.{Layout}
+use Rattle.image_reader.specs.Layout.{lines_of, LaidOut, empty_line}
+use Rattle.image_reader.specs.declared.lines.Line.{Line}
 
 -- every line begins within the longest image
-pub near-all : (s : List ℕ) (n : ℕ) (l : Layout) → LaidOut s n l → (k : ℕ) → get_or l.starts k 0 < 20000
+pub near-all : (s : List ℕ) (n : ℕ) (l : List Line) → LaidOut s n l → (k : ℕ) → (get_or l k empty_line).start < 20000
 near-all s n l d k =
     test (ltb k 132)
     (λ t. (d.lines k (ltb-true k 132 t)).near)
-    (λ t. rw (get_or-eq_default l.starts 0 {n = k} (omega (arith, d.starts, ltb-false k 132 t))) (omega arith))
+    (λ t. rw (get_or-eq_default l empty_line {n = k} (omega (arith, d.long, ltb-false k 132 t))) (omega arith))
 
 -- ---- a ring
 
@@ -46,10 +46,10 @@ ring-is places base (m ∷ ms) h f e =
 
 -- ---- the lines
 
-module _ (r : Network) (s : List ℕ) (n : ℕ) (l : Layout) (laid : LaidOut s n l) (heads : r.heads ≡ replicate 12 0)
-    (counts : (i j : ℕ) → is_channel i j ≡ true → row_of r.counts i j ≡ get_or l.lengths (channel_at i j) 0 % 16)
-    (placed : (k q : ℕ) → k < 132 → q < 8 → q < get_or l.lengths k 0
-    → place_of (get_or r.places (8 * k + q) no_place) ≡ narrow_message (message_in (drop (get_or l.starts k 0 + 16 * q) s))) where
+module _ (r : Network) (s : List ℕ) (n : ℕ) (l : List Line) (laid : LaidOut s n l) (heads : r.heads ≡ replicate 12 0)
+    (counts : (i j : ℕ) → is_channel i j ≡ true → row_of r.counts i j ≡ (get_or l (channel_at i j) empty_line).count % 16)
+    (placed : (k q : ℕ) → k < 132 → q < 8 → q < (get_or l k empty_line).count
+    → place_of (get_or r.places (8 * k + q) no_place) ≡ narrow_message (message_in (drop ((get_or l k empty_line).start + 16 * q) s))) where
   line_read : (i j : ℕ) → is_channel i j ≡ true → channel_of r i j ≡ map narrow_message (get_or (lines_of s n) (channel_at i j) [])
   unfolding channel_of
   line_read i j e =
@@ -61,7 +61,7 @@ module _ (r : Network) (s : List ℕ) (n : ℕ) (l : Layout) (laid : LaidOut s n
       (ring-is r.places (8 * k) (get_or (lines_of s n) k []) 0 (omega (arith, a.few, a.counted))
       (λ q u.
       let z : 0 + q ≡ q = omega arith in
-      let v : q < get_or l.lengths k 0 = omega (arith, a.counted) in
+      let v : q < (get_or l k empty_line).count = omega (arith, a.counted) in
       rw (z, a.messages q v) (placed k q h (omega (arith, a.few)) v)))
 
   lines-read : (i j : ℕ) → (network_of r).channel i j ≡ map narrow_message (channel_in (lines_of s n) i j)

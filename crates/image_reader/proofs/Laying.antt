@@ -22,34 +22,29 @@ use Rattle.image_format.specs.Reading.{
   lines_in,
   line_count,
 }
-use Rattle.image_reader.specs.Layout.{lines_of, LineAt, LaidOut}
+use Rattle.image_reader.specs.declared.lines.Line.{Line}
+use Rattle.image_reader.specs.Layout.{lines_of, LineAt, empty_line, LaidOut}
 use Rattle.image_reader.proofs.Chains.{line_at}
 
 module _ (s : List ℕ) (n : ℕ) where
   -- so many lines are looked at; the messages of the next stand from `at` on
-  pub record Laying (lengths starts : List ℕ) (at line : ℕ) : Type 0 where
-    pub few : line ≤ 132
-    pub lengths_long : length lengths ≡ 132
-    pub starts_long : length starts ≡ 132
+  pub record Laying (lines : List Line) (at line : ℕ) : Type 0 where
+    pub long : length lines ≡ 132
     pub near : at ≤ 2848 + 128 * line
     pub rest : drop line (lines_of s n) ≡ lines_in (132 - line) (drop (544 + 170 * n + 2 * line) s) (drop at s)
-    pub done : (k : ℕ) → k < line → LineAt s (get_or (lines_of s n) k []) (get_or lengths k 0) (get_or starts k 0)
+    pub done : (k : ℕ) → k < line → LineAt s (get_or (lines_of s n) k []) (get_or lines k empty_line).count (get_or lines k empty_line).start
 
-  pub none-laid : (lengths starts : List ℕ) → n ≤ 12 → length lengths ≡ 132 → length starts ≡ 132 → Laying lengths starts (544 + 170 * n + 264) 0
+  pub none-laid : (lines : List Line) → n ≤ 12 → length lines ≡ 132 → Laying lines (544 + 170 * n + 264) 0
   unfolding lines_of heads_start messages_start agents_start header_length bans_length agent_length heads_length line_count
-  none-laid lengths starts h a b =
+  none-laid lines h a =
       let e : 544 + 170 * n + 2 * 0 ≡ 544 + 170 * n = omega arith in
-      record {
-        few = omega arith;
-        lengths_long = a;
-        starts_long = b;
-        near = omega arith;
-        rest = rw e;
-        done = λ k l. absurd (omega arith);
-      }
+      record { long = a; near = omega arith; rest = rw e; done = λ k l. absurd (omega arith) }
 
-  module _ (lengths starts : List ℕ) (at line head count : ℕ) (l : Laying lengths starts at line) (h : line < 132)
+  module _ (lines : List Line) (at line head count : ℕ) (l : Laying lines at line) (h : line < 132)
       (e : head ≡ number_in (stretch (544 + 170 * n + 2 * line) 2 s)) (f : count ≡ length (line_in head (drop at s))) (few : count ≤ 8) where
+    abbrev this_line : Line
+    this_line = record { count = count; start = at }
+
     -- the next line, and the others
     here : drop line (lines_of s n)
         ≡ line_in head (drop at s) ∷ lines_in (132 - (line + 1)) (drop (544 + 170 * n + 2 * (line + 1)) s) (drop (at + 16 * count) s)
@@ -65,27 +60,24 @@ module _ (s : List ℕ) (n : ℕ) where
         let z : line + 0 ≡ line = omega arith in
         ap (λ (k : ℕ). get_or (lines_of s n) k []) (sym z) ∙ sym (get_or-drop line (lines_of s n) 0 []) ∙ ap (λ (r : List (List Message)). get_or r 0 []) here
 
-    pub one-laid : Laying (set lengths line count) (set starts line at) (at + 16 * count) (line + 1)
+    pub one-laid : Laying (set lines line (record { count = count; start = at })) (at + 16 * count) (line + 1)
     one-laid =
         record {
-          few = omega arith;
-          lengths_long = length-set lengths line count ∙ l.lengths_long;
-          starts_long = length-set starts line at ∙ l.starts_long;
+          long = length-set lines line this_line ∙ l.long;
           near = omega (arith, l.near);
           rest = sym (drop-drop 1 line (lines_of s n)) ∙ ap (drop 1) here;
           done = λ k u. eq_test k line (λ q. last k q) (λ n. before k (omega (arith, n)));
         }
       where
-        last : (k : ℕ) → k ≡ line → LineAt s (get_or (lines_of s n) k []) (get_or (set lengths line count) k 0) (get_or (set starts line at) k 0)
+        last : (k : ℕ) → k ≡ line
+            → LineAt s (get_or (lines_of s n) k []) (get_or (set lines line this_line) k empty_line).count (get_or (set lines line this_line) k empty_line).start
         last k q =
-            rw (q, get_or-set_same lengths line count 0 (omega (arith, l.lengths_long)), get_or-set_same starts line at 0 (omega (arith, l.starts_long)), this)
+            rw (q, get_or-set_same lines line this_line empty_line (omega (arith, l.long)), this)
             (record { counted = f; few = few; near = omega (arith, l.near); messages = λ q u. line_at head s at q (rw (← f) u) })
 
-        before : (k : ℕ) → k < line → LineAt s (get_or (lines_of s n) k []) (get_or (set lengths line count) k 0) (get_or (set starts line at) k 0)
-        before k u =
-            rw (get_or-set_other lengths line k count 0 (λ q. omega arith), get_or-set_other starts line k at 0 (λ q. omega arith)) (l.done k u)
+        before : (k : ℕ) → k < line
+            → LineAt s (get_or (lines_of s n) k []) (get_or (set lines line this_line) k empty_line).count (get_or (set lines line this_line) k empty_line).start
+        before k u = rw (get_or-set_other lines line k this_line empty_line (λ q. omega arith)) (l.done k u)
 
-  pub all_laid : (lengths starts : List ℕ) (at line : ℕ) → 132 ≤ line → Laying lengths starts at line
-      → LaidOut s n (record { lengths = lengths; starts = starts })
-  all_laid lengths starts at line h l =
-      record { lengths = l.lengths_long; starts = l.starts_long; lines = λ k u. l.done k (omega arith) }
+  pub all_laid : (lines : List Line) (at line : ℕ) → 132 ≤ line → Laying lines at line → LaidOut s n lines
+  all_laid lines at line h l = record { long = l.long; lines = λ k u. l.done k (omega arith) }

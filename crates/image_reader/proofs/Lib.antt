@@ -13,7 +13,7 @@ mod Candidates
 mod Narrowing
 pub mod Owned
 pub mod Plainness
-mod Comparing
 pub mod Written
 mod Loading
 pub mod Cut
+pub mod Comparing

@@ -29,10 +29,12 @@ module _ (s : List ℕ) (at : ℕ) where
     unfolding narrow_message
     is-info h = rw (message-there, ← e, ← f, eq-eqb sort 1 h)
 
-    pub is-back : sort ≢ 1 → sort ≡ 2 → (digits : ℕ) → assignment digits ≡ narrow_lhs (slots_in (drop (at + 4) s))
+    pub is-back : sort ≡ 2 → (digits : ℕ) → assignment digits ≡ narrow_lhs (slots_in (drop (at + 4) s))
         → Back (assignment digits) value ≡ narrow_message (message_in (drop at s))
     unfolding narrow_message
-    is-back n h digits g = rw (message-there, ← e, ← f, ne_eqb sort 1 n, eq-eqb sort 2 h, g)
+    is-back h digits g =
+        let n : sort ≢ 1 = λ q. omega arith in
+        rw (message-there, ← e, ← f, ne_eqb sort 1 n, eq-eqb sort 2 h, g)
 
     pub is-link : sort ≢ 1 → sort ≢ 2 → AddLink ≡ narrow_message (message_in (drop at s))
     unfolding narrow_message

@@ -10,19 +10,21 @@ use Rattle.base.proofs.Tests.{eq_test}
 use Rattle.network.specs.declared.Place.{Place}
 use Rattle.network.specs.Abstract.{place_of, no_place}
 use Rattle.image_format.specs.Reading.{message_in}
+use Rattle.image_reader.specs.declared.lines.Line.{Line}
 use Rattle.image_reader.specs.Narrow.{narrow_message}
+use Rattle.image_reader.specs.Layout.{empty_line}
 
-module _ (s lengths starts : List ℕ) where
+module _ (s : List ℕ) (lines : List Line) where
   abbrev pub Placed : List Place → ℕ → Type 0
   Placed places p =
-      (k q : ℕ) → q < 8 → 8 * k + q < p → q < get_or lengths k 0
-      → place_of (get_or places (8 * k + q) no_place) ≡ narrow_message (message_in (drop (get_or starts k 0 + 16 * q) s))
+      (k q : ℕ) → q < 8 → 8 * k + q < p → q < (get_or lines k empty_line).count
+      → place_of (get_or places (8 * k + q) no_place) ≡ narrow_message (message_in (drop ((get_or lines k empty_line).start + 16 * q) s))
 
   pub none-placed : (places : List Place) → Placed places 0
   none-placed places k q u h l = absurd (omega arith)
 
   module _ (places : List Place) (p : ℕ) (new : List Place) (done : Placed places p) where
-    pub one_placed : (a : Place) → p < length places → place_of a ≡ narrow_message (message_in (drop (get_or starts (p / 8) 0 + 16 * (p % 8)) s))
+    pub one_placed : (a : Place) → p < length places → place_of a ≡ narrow_message (message_in (drop ((get_or lines (p / 8) empty_line).start + 16 * (p % 8)) s))
         → new ≡ set places p a → Placed new (p + 1)
     one_placed a long e f k q u h l =
         rw f
@@ -34,12 +36,12 @@ module _ (s lengths starts : List ℕ) where
         (λ n. rw (get_or-set_other places p (8 * k + q) a no_place n) (done k q u (omega (arith, n)) l)))
 
     -- no message belongs there
-    pub none_more : get_or lengths (p / 8) 0 ≤ p % 8 → new ≡ places → Placed new (p + 1)
+    pub none_more : (get_or lines (p / 8) empty_line).count ≤ p % 8 → new ≡ places → Placed new (p + 1)
     none_more none f k q u h l =
         rw f
         (eq_test (8 * k + q) p
         (λ g.
         let x : p / 8 ≡ k = omega arith in
         let y : p % 8 ≡ q = omega arith in
-        absurd (let z : get_or lengths k 0 ≤ q = rw (x, y) at none in omega arith))
+        absurd (let z : (get_or lines k empty_line).count ≤ q = rw (x, y) at none in omega arith))
         (λ n. done k q u (omega (arith, n)) l))

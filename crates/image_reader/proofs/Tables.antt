@@ -1,8 +1,7 @@
 -- The ban table, word by word: by higher, then lower agent, where the image has them by lower, then higher.
 -- A word stands in the table behind those of the higher agents before, and of its own behind those of the lower agents before.
 use Prim.Native.Nat.{ℕ, zero, suc, pred, ◌+◌, ◌*◌, ◌-◌, ◌/◌, ◌≤◌, ◌<◌}
-use mathlib.Core.Path.{◌≡◌, refl, sym, ap, ◌∙◌}
-use mathlib.Core.Logic.{◌≢◌}
+use mathlib.Core.Path.{◌≡◌, refl, sym, ◌∙◌}
 use mathlib.Core.List.{List, [], ◌∷◌}
 use native.Mathlib.Omega.{arith}
 use lib.Dec.{eqb, ltb, leb}
@@ -13,7 +12,6 @@ use Rattle.base.specs.Finite.{gather, sum, all_to}
 use Rattle.base.proofs.Arrays.{copied}
 use Rattle.base.proofs.Lists.{gather-last}
 use Rattle.base.proofs.Search.{all_to-at}
-use Rattle.base.proofs.Tests.{eq_test}
 use Rattle.problem.specs.Problem.{max_agents, pairs_before, word_at}
 use Rattle.image_format.specs.Reading.{ban_place, ban_in, bans_in}
 use Rattle.image_format.proofs.Stretches.{stands-whole, stands-part, stands_one, stands_read, same-lengths}
@@ -44,6 +42,15 @@ place_is i j l h u =
 
 -- ---- where they stand in the table
 
+one-further : (i j : ℕ) → 1 ≤ i → word_at (i + 1) j ≡ word_at i j + 1
+unfolding word_at
+one-further i j l = omega arith
+
+-- behind the last lower agent of one higher agent stands the first of the next
+again : (j : ℕ) → 1 ≤ j → word_at j j ≡ word_at 1 (j + 1)
+unfolding word_at pairs_before
+again j l = let a : pred (j + 1) ≡ suc (pred j) = omega arith in rw a (omega arith)
+
 module _ (s : List ℕ) where
   -- the words of higher agent j
   words : ℕ → List ℕ
@@ -73,66 +80,30 @@ module _ (s : List ℕ) where
       let one = stands_one (pred j) 1 i 1 (λ i. ban_in s i j ∷ []) (pairs_before (pred j) + pred i) (λ _ _ _. refl) l (omega arith) (omega arith) row in
       stands_read (ban_in s i j) 0 one
 
-  -- ---- the table as far as it is read
+  -- ---- the table as far as it is read: the words before that of lower agent i and higher agent j
 
-  pub record Tabled (table : List ℕ) (k i j : ℕ) : Type 0 where
-    pub few : k ≤ 66
-    pub low : 1 ≤ i
-    pub apart : i < j
-    pub inside : k < 66 → j ≤ 12
-    pub word : k ≡ word_at i j
+  pub record Tabled (table : List ℕ) (i j : ℕ) : Type 0 where
     pub long : length table ≡ 66
-    pub same : take k table ≡ take k (bans_in s)
+    pub same : take (word_at i j) table ≡ take (word_at i j) (bans_in s)
 
-  pub none-tabled : (table : List ℕ) → length table ≡ 66 → Tabled table 0 1 2
+  pub none-tabled : (table : List ℕ) → length table ≡ 66 → Tabled table 1 2
   unfolding word_at pairs_before
-  none-tabled table e =
-      record { few = omega arith; low = omega arith; apart = omega arith; inside = λ h. omega arith; word = refl; long = e; same = refl }
+  none-tabled table e = record { long = e; same = refl }
 
-  module _ (table : List ℕ) (k i j x : ℕ) (t : Tabled table k i j) (h : k < 66) (is : x ≡ ban_in s i j) where
-    one_same : take (k + 1) (set table k x) ≡ take (k + 1) (bans_in s)
-    one_same =
-        copied table (bans_in s) k x 0 (omega (arith, t.long)) (omega (arith, bans-length)) t.same
-        (is ∙ sym (word-there i j t.low t.apart (t.inside h)) ∙ ap (λ (n : ℕ). get_or (bans_in s) n 0) (sym t.word))
+  -- the next lower agent
+  pub next-lower : (table : List ℕ) (i j place x : ℕ) → Tabled table i j → 1 ≤ i → i < j → j ≤ 12 → (place ≡ word_at i j) × (place < 66) → x ≡ ban_in s i j
+      → Tabled (set table place x) (i + 1) j
+  next-lower table i j place x t l h u p is =
+      let k = word_at i j in
+      let same : take (k + 1) (set table k x) ≡ take (k + 1) (bans_in s) =
+      copied table (bans_in s) k x 0 (omega (arith, t.long)) (omega (arith, bans-length)) t.same (is ∙ sym (word-there i j l h u)) in
+      record { long = length-set table place x ∙ t.long; same = rw (one-further i j l, p.0) same }
 
-    -- the next lower agent
-    pub next-lower : i + 1 ≢ j → Tabled (set table k x) (k + 1) (i + 1) j
-    unfolding word_at
-    next-lower n =
-        record {
-          few = omega arith;
-          low = omega arith;
-          apart = omega (arith, t.apart, n);
-          inside = λ l. t.inside h;
-          word = omega (arith, t.word, t.low);
-          long = length-set table k x ∙ t.long;
-          same = one_same;
-        }
+  -- the next higher agent, and again from the first
+  pub next-higher : (table : List ℕ) (j : ℕ) → Tabled table j j → 1 ≤ j → Tabled table 1 (j + 1)
+  next-higher table j t l = record { long = t.long; same = rw (← again j l) t.same }
 
-    -- the next higher agent, and again from the first
-    pub next-higher : i + 1 ≡ j → Tabled (set table k x) (k + 1) 1 (j + 1)
-    unfolding word_at pairs_before
-    next-higher e =
-        record {
-          few = omega arith;
-          low = omega arith;
-          apart = omega arith;
-          inside = λ l. eq_test j 12 (λ q. absurd (full q l)) (λ n. omega (arith, t.inside h, n));
-          word = there;
-          long = length-set table k x ∙ t.long;
-          same = one_same;
-        }
-      where
-        full : j ≡ 12 → k + 1 < 66 → ⊥
-        full q l = let w : k ≡ pairs_before (pred 12) + pred i = rw q at t.word in omega arith
-
-        there : k + 1 ≡ pairs_before (pred (j + 1)) + pred 1
-        there =
-            let a : pred (j + 1) ≡ suc (pred j) = omega (arith, t.apart) in
-            rw a (omega (arith, t.word, t.low))
-
-  pub all-tabled : (table : List ℕ) (k i j : ℕ) → 66 ≤ k → Tabled table k i j → table ≡ bans_in s
-  all-tabled table k i j h t =
-      let e : k ≡ 66 = omega (arith, t.few) in
-      let w : take 66 table ≡ take 66 (bans_in s) = rw e at t.same in
-      sym (take_all 66 table (omega (arith, t.long))) ∙ w ∙ take_all 66 (bans_in s) (omega (arith, bans-length))
+  pub all-tabled : (table : List ℕ) → Tabled table 1 13 → table ≡ bans_in s
+  unfolding word_at pairs_before
+  all-tabled table t =
+      sym (take_all 66 table (omega (arith, t.long))) ∙ t.same ∙ take_all 66 (bans_in s) (omega (arith, bans-length))

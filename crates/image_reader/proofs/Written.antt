@@ -2,7 +2,6 @@
 -- "19,744 at most": a line has at most eight messages, and there are 132 lines.
 use Prim.Native.Nat.{ℕ, ◌*◌, ◌≤◌}
 use mathlib.Core.Path.{◌≡◌, refl, sym, ap, ap₂, ◌∙◌}
-use mathlib.Core.Logic.{◌≢◌}
 use mathlib.Core.Bool.{true, false, ◌&&◌}
 use mathlib.Core.List.{List, [], ◌∷◌, ◌++◌}
 use native.Mathlib.Omega.{arith}
@@ -13,7 +12,6 @@ use borrow.Author.Tests.{leb-true, le-leb}
 use Rattle.base.specs.Finite.{gather, within}
 use Rattle.base.specs.Lent.{Written as Written', untouched, put}
 use Rattle.base.specs.Lists.{All}
-use Rattle.base.specs.Same.{same_numbers}
 use Rattle.base.proofs.Lists.{gather-all}
 use Rattle.base.proofs.Tests.{test, both, to-within}
 use Rattle.problem.specs.Problem.{max_agents}
@@ -27,7 +25,9 @@ use Rattle.image_forms.specs.Forms.{First, image_in}
 use Rattle.image_forms.specs.Writing.{store}
 use Rattle.image_format.proofs.Lengths.{header-length, bans-length, agents-length, heads-length, lines-count, total, messages-length}
 use Rattle.image_format.proofs.Parsing.{parts}
-use Rattle.lent.specs.declared.Written.{Written}
+use Rattle.std.proofs.Common.{Ok, Err}
+use Rattle.refusals.specs.declared.Refusal.{Refusal}
+use Rattle.image_writer.proofs.Stored.{image_long}
 use Rattle.lent.specs.Abstract.{written_of}
 
 -- ---- how long an image is
@@ -77,11 +77,7 @@ module _ (w : Network) (shape : in_shape w ≡ true) where
 
 -- ---- what is written
 
-module _ (w : Network) (buffer new : List ℕ) (answer : Written) (long : length buffer ≡ 19744) (e : written_of answer new ≡ store First w buffer) where
-  number_is : answer.number ≡ (store First w buffer).number
-  unfolding written_of
-  number_is = ap (λ (x : Written'). x.number) e
-
+module _ (w : Network) (buffer new : List ℕ) (long : length buffer ≡ 19744) where
   written : in_shape w ≡ true → store First w buffer ≡ record { number = 0; length = length (image w); buffer = image w ++ drop (length (image w)) buffer }
   unfolding store image_in put
   written t = rw (t, store, le-leb (length (image w)) (length buffer) (omega (arith, image-fits w t)), put)
@@ -90,20 +86,22 @@ module _ (w : Network) (buffer new : List ℕ) (answer : Written) (long : length
   unfolding store untouched rejection_number
   unwritten t = rw (t, store)
 
-  pub not_written : answer.number ≢ 0 → (s : List ℕ) → in_shape w && same_numbers (image w) s ≡ false
-  not_written n s =
+  -- out of shape: no image has no bytes
+  pub not_written : (r : Refusal) → written_of (Err r) new ≡ store First w buffer → in_shape w ≡ false
+  unfolding written_of untouched
+  not_written r e =
       test (in_shape w)
-      (λ t. absurd (n (number_is ∙ ap (λ (x : Written'). x.number) (written t))))
-      (λ t. rw t)
+      (λ t. absurd (let z : 0 ≡ length (image w) = ap (λ (x : Written'). x.length) (e ∙ written t) in omega (arith, z, image_long w)))
+      (λ t. t)
 
   -- in shape, and what stands in the buffer
-  pub is-written : answer.number ≡ 0 → (in_shape w ≡ true) × (answer.length ≤ length new) × (take answer.length new ≡ image w)
+  pub is-written : (n : ℕ) → written_of (Ok n) new ≡ store First w buffer → (in_shape w ≡ true) × (n ≤ length new) × (take n new ≡ image w)
   unfolding written_of
-  is-written z =
+  is-written n e =
       test (in_shape w)
       (λ t.
       let whole = e ∙ written t in
-      let l : answer.length ≡ length (image w) = ap (λ (x : Written'). x.length) whole in
+      let l : n ≡ length (image w) = ap (λ (x : Written'). x.length) whole in
       let b : new ≡ image w ++ drop (length (image w)) buffer = ap (λ (x : Written'). x.buffer) whole in
       (t, omega (arith, ap length b, length-append (image w) (drop (length (image w)) buffer)), ap₂ take l b ∙ take_at (image w) _ (length (image w)) refl))
-      (λ t. absurd (let f : 5 ≡ 0 = sym (unwritten t) ∙ sym number_is ∙ z in omega arith))
+      (λ t. absurd (let f : 5 ≡ 0 = sym (unwritten t) ∙ sym (ap (λ (x : Written'). x.number) e) in omega arith))

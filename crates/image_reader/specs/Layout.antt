@@ -2,7 +2,7 @@
 use Rattle.std.specs.Prelude.{ℕ, ◌+◌, ◌*◌, ◌≤◌, ◌<◌, ◌≡◌, List, [], length, get_or, drop}
 use Rattle.agent_rules.specs.Message.{Message, AddLink}
 use Rattle.image_format.specs.Reading.{heads_start, messages_start, message_in, lines_in, line_count}
-use Rattle.image_reader.specs.declared.lines.Layout.{Layout}
+use Rattle.image_reader.specs.declared.lines.Line.{Line}
 
 -- the lines of an image with n agents
 unfoldable pub lines_of : List ℕ → ℕ → List (List Message)
@@ -15,7 +15,10 @@ pub record LineAt (s : List ℕ) (line : List Message) (count start : ℕ) : Typ
   pub near : start < 20000
   pub messages : (q : ℕ) → q < count → get_or line q AddLink ≡ message_in (drop (start + 16 * q) s)
 
-pub record LaidOut (s : List ℕ) (n : ℕ) (r : Layout) : Type 0 where
-  pub lengths : length r.lengths ≡ 132
-  pub starts : length r.starts ≡ 132
-  pub lines : (k : ℕ) → k < 132 → LineAt s (get_or (lines_of s n) k []) (get_or r.lengths k 0) (get_or r.starts k 0)
+-- one without messages
+abbrev pub empty_line : Line
+empty_line = record { count = 0; start = 0 }
+
+pub record LaidOut (s : List ℕ) (n : ℕ) (laid : List Line) : Type 0 where
+  pub long : length laid ≡ 132
+  pub lines : (k : ℕ) → k < 132 → LineAt s (get_or (lines_of s n) k []) (get_or laid k empty_line).count (get_or laid k empty_line).start

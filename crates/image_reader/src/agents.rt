@@ -16,11 +16,9 @@ pub fn slots(s: &[u8], at: usize) -> u64
     requires { at < 65536 }
     ensures { (assignment result ≡ narrow_lhs (slots_in (drop at s.now))) × (result < 281474976710656) }
 {
-    let mut word: u64 = 0;
-    let mut i: usize = 12;
-    while 0 < i {
-        i -= 1;
-        word = word * 16 + (byte(s, at + i) % 16) as u64;
+    let mut word = 0;
+    for i in (0..12).rev() {
+        word = word * 16 + u64::from(byte(s, at + i) % 16);
     }
     word
 }
@@ -30,11 +28,9 @@ fn stored(s: &[u8], at: usize) -> u8
     requires { at < 65536 }
     ensures { result ≡ mask_from (λ v. eqb (get_or s.now (at + 13 * pred v) 0) 1) 1 8 }
 {
-    let mut mask: u8 = 0;
-    let mut v: usize = 8;
-    while 0 < v {
-        v -= 1;
-        mask = mask * 2 + (byte(s, at + 13 * v) == 1) as u8;
+    let mut mask = 0;
+    for v in (0..8).rev() {
+        mask = mask * 2 + u8::from(byte(s, at + 13 * v) == 1);
     }
     mask
 }
@@ -45,10 +41,8 @@ fn reasons(s: &[u8], at: usize) -> [u64; 8]
     ensures { (length result ≡ 8) × ((v : ℕ) → v < 8 → assignment (get_or result v 0) ≡ narrow_lhs (slots_in (drop (at + 13 * v + 1) s.now))) }
 {
     let mut words = [0u64; 8];
-    let mut v: usize = 0;
-    while v < 8 {
+    for v in 0..8 {
         words[v] = slots(s, at + 13 * v + 1);
-        v += 1;
     }
     words
 }
@@ -68,7 +62,6 @@ fn agent(s: &[u8], at: usize) -> Agent
     requires { at < 60000 }
     ensures { agent_of result ≡ narrow_agent (agent_in (stretch at 170 s.now)) }
 {
-    let nogoods = reasons(s, at + 18);
     Agent {
         value: byte(s, at),
         last: byte(s, at + 1),
@@ -78,28 +71,20 @@ fn agent(s: &[u8], at: usize) -> Agent
         view: Lhs {
             digits: slots(s, at + 6),
         },
-        nogoods: nogoods,
+        nogoods: reasons(s, at + 18),
         sent: counts(s, at + 122),
         received: counts(s, at + 146),
     }
 }
 
-#[derive(Clone, Copy)]
-pub struct AgentArray {
-    pub agents: [Agent; 12],
-}
-
 // Agents 1 to n, and unused ones beyond.
-pub fn agents(s: &[u8], n: usize) -> AgentArray
+pub fn agents(s: &[u8], n: usize) -> [Agent; 12]
     requires { n ≤ 12 }
-    ensures { agents_of (map agent_of result.agents) ≡ (λ i. narrow_agent (agents_in n s.now i)) }
+    ensures { agents_of (map agent_of result) ≡ (λ i. narrow_agent (agents_in n s.now i)) }
 {
-    let nobody = empty();
-    let mut agents = nobody.agents;
-    let mut i: usize = 0;
-    while i < n {
+    let mut agents = empty().agents;
+    for i in 0..n {
         agents[i] = agent(s, 544 + 170 * i);
-        i += 1;
     }
-    AgentArray { agents: agents }
+    agents
 }

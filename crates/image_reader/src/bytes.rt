@@ -1,15 +1,11 @@
 // Bytes and numbers of an image, low byte first. A byte that is not there is zero.
 ghost use Rattle.std.specs.Prelude.{◌≡◌, ◌<◌, get_or};
-ghost use Rattle.base.specs.Same.{same_numbers};
 ghost use Rattle.image_format.specs.Bytes.{number_in, stretch};
 
 pub fn byte(s: &[u8], k: usize) -> u8
     ensures { result ≡ get_or s.now k 0 }
 {
-    if k < s.len() {
-        return s[k];
-    }
-    0
+    s.get(k).copied().unwrap_or(0)
 }
 
 pub fn two_bytes(s: &[u8], k: usize) -> u16
@@ -31,21 +27,4 @@ pub fn eight_bytes(s: &[u8], k: usize) -> u64
     ensures { result ≡ number_in (stretch k 8 s.now) }
 {
     four_bytes(s, k) as u64 + 4294967296 * four_bytes(s, k + 4) as u64
-}
-
-// The same bytes, and as many.
-pub fn same(a: &[u8], b: &[u8]) -> bool
-    ensures { result ≡ same_numbers a.now b.now }
-{
-    if a.len() != b.len() {
-        return false;
-    }
-    let mut i: usize = 0;
-    while i < a.len() {
-        if a[i] != b[i] {
-            return false;
-        }
-        i += 1;
-    }
-    true
 }

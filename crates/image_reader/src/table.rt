@@ -4,18 +4,16 @@ ghost use Rattle.image_format.specs.Bytes.{stretch};
 ghost use Rattle.image_format.specs.Reading.{ban_place, bans_in};
 
 use crate::bytes::eight_bytes;
+use clauses::places::words_before;
 
+#[tactic(auto, unfolding(image_format::specs::Bytes::stretch))]
 pub fn domains(s: &[u8]) -> [u8; 12]
     requires { 16 ≤ length s.now }
     ensures { result ≡ stretch 4 12 s.now }
 {
-    let mut d = [0u8; 12];
-    let mut i: usize = 0;
-    while i < 12 {
-        d[i] = s[4 + i];
-        i += 1;
-    }
-    d
+    let mut domains = [0u8; 12];
+    domains.copy_from_slice(&s[4..16]);
+    domains
 }
 
 // Where the word of lower agent i and higher agent j stands among the 66 of an image, by lower, then higher agent.
@@ -31,16 +29,12 @@ pub fn bans(s: &[u8]) -> [u64; 66]
     ensures { result ≡ bans_in s.now }
 {
     let mut words = [0u64; 66];
-    let mut k: usize = 0;
-    let mut i: usize = 1;
-    let mut j: usize = 2;
-    while k < 66 {
-        words[k] = eight_bytes(s, 16 + 8 * ban_place(i, j));
-        k += 1;
-        i += 1;
-        if i == j {
-            i = 1;
-            j += 1;
+    for j in 2..=12u8 {
+        for i in 1..j {
+            words[words_before(j) + i as usize - 1] = eight_bytes(
+                s,
+                16 + 8 * ban_place(i as usize, j as usize),
+            );
         }
     }
     words

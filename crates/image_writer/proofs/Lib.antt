@@ -1,7 +1,7 @@
 pub mod Puts
-pub mod Firsts
-mod Records
-mod BanTable
-mod Numbered
-mod Chains
+pub mod Words
+pub mod Records
+pub mod BanTable
+pub mod Numbered
+pub mod Chains
 pub mod Stored

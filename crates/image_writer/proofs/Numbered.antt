@@ -21,7 +21,6 @@ use Rattle.network.proofs.Rings.{ring-length, channel-is}
 use Rattle.image_format.specs.Image.{all_lines}
 use Rattle.image_format.proofs.Lengths.{total}
 use Rattle.image_writer.specs.Lines.{sender_of, receiver_of, line_at, lines_from}
-use Rattle.image_writer.proofs.Firsts.{first-gathered, all-gathered}
 
 -- ---- the ends of a line
 
@@ -79,12 +78,15 @@ unfolding all_lines gather max_agents lines_from line_at sender_of receiver_of
 all_lines_lem w = refl
 
 pub first-line : (w : Network') (line : ℕ) → line < 132 → lines_from w line ≡ line_at w line ∷ lines_from w (line + 1)
-unfolding lines_from
-first-line w line h = first-gathered 132 line (λ k. line_at w k ∷ []) line h
+unfolding lines_from gather
+first-line w line h =
+    let e : 132 - line ≡ suc (132 - (line + 1)) = omega arith in
+    let s : suc line ≡ line + 1 = omega arith in
+    rw (e, s)
 
 pub no_lines : (w : Network') (line : ℕ) → 132 ≤ line → lines_from w line ≡ []
-unfolding lines_from
-no_lines w line h = all-gathered 132 line (λ k. line_at w k ∷ []) line h
+unfolding lines_from gather
+no_lines w line h = let e : 132 - line ≡ 0 = omega arith in rw e
 
 -- ---- a line of the code's network
 

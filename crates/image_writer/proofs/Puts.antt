@@ -1,76 +1,100 @@
 -- Bytes put one behind the other are all of them put; what is left to put shrinks by what is put.
 -- What is put first ends where the next begins, so the second does not touch it.
-use Prim.Native.Nat.{ℕ, suc, ◌+◌, ◌≤◌, ◌<◌}
+use Prim.Native.Nat.{ℕ, suc, ◌+◌, ◌-◌, ◌≤◌}
 use mathlib.Core.Path.{◌≡◌, refl, sym, ap, ◌∙◌}
-use mathlib.Core.List.{List, [], ◌∷◌, ◌++◌, append_assoc}
+use mathlib.Core.List.{List, [], ◌++◌}
 use native.Mathlib.Numerals.{add-one}
 use native.Mathlib.Omega.{arith}
-use lib.ListN.{length, take, drop, set, length-append}
-use lib.Seq.{length-take-le, set_split}
+use lib.ListN.{length, length-append}
+use Rattle.base.specs.Finite.{gather}
+use Rattle.base.proofs.Lists.{gather-last}
+use Rattle.base.proofs.Gathers.{gather-split}
 use Rattle.lent.specs.Abstract.{over}
 use Rattle.lent.proofs.Over.{over_nothing, over-over}
-use Rattle.image_writer.specs.Puts.{Puts}
-
--- ---- over
-
-module _ (at : ℕ) (xs old : List ℕ) (low : at ≤ length old) where
-  front_length_lem : length (take at old ++ xs) ≡ at + length xs
-  front_length_lem = length-append (take at old) xs ∙ rw (length-take-le at old low)
-
-  over-reached : at + length xs ≤ length (over at xs old)
-  over-reached = rw (length-append (take at old ++ xs) (drop (at + length xs) old)) (omega (arith, front_length_lem))
-
--- ---- putting
-
-pub puts-byte : (old : List ℕ) (at b : ℕ) → at < length old → Puts old at 1 (b ∷ []) (set old at b) (at + 1)
-puts-byte old at b h =
-    record { reached = omega arith; long = refl; buffer = set_split old at b h ∙ rw (add-one at) (sym (append_assoc (take at old) (b ∷ []) (drop (suc at) old))); behind = refl }
-
--- bytes copied
-pub puts-copied : {old new : List ℕ} (at count : ℕ) (s : List ℕ) → at ≤ length old → length s ≡ count
-    → new ≡ take at old ++ s ++ drop (at + length s) old → Puts old at count s new (at + count)
-puts-copied at count s h e f = record { reached = h; long = e; buffer = f; behind = refl }
+use Rattle.image_writer.specs.declared.cursor.Cursor.{Cursor}
+use Rattle.image_writer.specs.Puts.{Room, Puts}
 
 -- one stretch, and another behind it
-pub puts_then : {old mid new xs ys : List ℕ} {at n m a b : ℕ} → Puts old at a xs mid n → Puts mid n b ys new m → Puts old at (a + b) (xs ++ ys) new m
-puts_then {old} {mid} {new} {xs} {ys} {at} {n} p q =
-    let e : n ≡ at + length xs = omega (arith, p.behind, p.long) in
+pub puts_then : {old mid new : Cursor} {a b : ℕ} {xs ys : List ℕ} → Puts old a xs mid → Puts mid b ys new → Puts old (a + b) (xs ++ ys) new
+puts_then {old} {mid} {new} {a} {b} {xs} {ys} p q =
+    let near : Room old a = p.room in
+    let far : Room mid b = q.room in
+    let e : mid.at ≡ old.at + length xs = omega (arith, p.behind, p.long) in
     record {
-      reached = p.reached;
+      same = q.same ∙ p.same;
+      room = omega (arith, far, p.kept, p.behind);
+      kept = q.kept ∙ p.kept;
       long = omega (arith, length-append xs ys, p.long, q.long);
-      buffer = q.buffer ∙ rw p.buffer (over-over at n xs ys old p.reached e);
+      put = q.put ∙ rw p.put (over-over old.at mid.at xs ys old.buffer.now (omega (arith, near)) e);
       behind = omega (arith, p.behind, q.behind);
     }
 
 -- the same, said otherwise
-pub puts-as : {old new xs ys : List ℕ} {at next a b : ℕ} → a ≡ b → xs ≡ ys → Puts old at a xs new next → Puts old at b ys new next
-puts-as {old} {new} {xs} {ys} {at} {next} e f p =
-    record { reached = p.reached; long = ap length (sym f) ∙ p.long ∙ e; buffer = p.buffer ∙ rw f; behind = p.behind ∙ rw e }
+pub puts-as : {old new : Cursor} {a b : ℕ} {xs ys : List ℕ} → a ≡ b → xs ≡ ys → Puts old a xs new → Puts old b ys new
+puts-as e f p = rw (← e, ← f) p
+
+-- ---- what is gathered, put part by part
+
+-- the first k of what is gathered from a number on
+pub record Gathered (old : Cursor) (count : ℕ) (f : ℕ → List ℕ) (from k : ℕ) (now : Cursor) : Type 0 where
+  pub put : Puts old count (gather k from f) now
+
+pub none_gathered : (c : Cursor) (f : ℕ → List ℕ) (count from k : ℕ) → c.at ≤ length c.buffer.now → k ≡ 0 → count ≡ 0 → Gathered c count f from k c
+unfolding gather
+none_gathered c f count from k h e z =
+    record { put = rw (e, z) (record { same = refl; room = omega (arith, h); kept = refl; long = refl; put = sym (over_nothing c.at c.buffer.now); behind = omega arith }) }
+
+-- and the next one
+pub one_more : {old now new : Cursor} {a b from k : ℕ} {xs : List ℕ} {f : ℕ → List ℕ} → Gathered old a f from k now → (d k' : ℕ) → Puts now b xs new
+    → xs ≡ f (from + k) → k' ≡ k + 1 → d ≡ a + b → Gathered old d f from k' new
+one_more {from = from} {k = k} {f = f} p d k' q here more e =
+    record { put = puts-as (sym e) (sym (rw (more, add-one k, here) (gather-last k from f))) (puts_then p.put q) }
+
+pub all-gathered : {old now : Cursor} {a from k : ℕ} {f : ℕ → List ℕ} → Gathered old a f from k now → (b n : ℕ) → k ≡ n → a ≡ b → Puts old b (gather n from f) now
+all-gathered {from = from} {f = f} p b n e d = puts-as d (ap (λ (k : ℕ). gather k from f) e) p.put
+
+-- there is room for it, where there is room for all
+pub room-left : (f : ℕ → List ℕ) (n from k : ℕ) → k + 1 ≤ n → length (gather k from f) + length (f (from + k)) ≤ length (gather n from f)
+room-left f n from k h =
+    let e : n ≡ suc k + (n - suc k) = omega arith in
+    rw e (rw (gather-split (suc k) (n - suc k) from f, gather-last k from f, length-append)
+    (omega (arith, length-append (gather k from f) (f (from + k)))))
 
 -- ---- what is left to put: it leaves what putting all would have left
 
-pub record Left (old : List ℕ) (at : ℕ) (all now : List ℕ) (place : ℕ) (rest : List ℕ) : Type 0 where
-  pub reached : place ≤ length now
-  pub end : place + length rest ≡ at + length all
-  pub same : over place rest now ≡ over at all old
+pub record Left (old : Cursor) (all : List ℕ) (now : Cursor) (rest : List ℕ) : Type 0 where
+  pub same : now.buffer.ghost_name ≡ old.buffer.ghost_name
+  pub room : Room now (length rest)
+  pub kept : length now.buffer.now ≡ length old.buffer.now
+  pub end : now.at + length rest ≡ old.at + length all
+  pub put : over now.at rest now.buffer.now ≡ over old.at all old.buffer.now
 
-pub all_left : (old : List ℕ) (at : ℕ) (all : List ℕ) → at ≤ length old → Left old at all old at all
-all_left old at all h = record { reached = h; end = refl; same = refl }
+pub all_left : (old : Cursor) (all : List ℕ) {count : ℕ} → length all ≡ count → Room old count → Left old all old all
+all_left old all e h = record { same = refl; room = omega (arith, e, h); kept = refl; end = refl; put = refl }
 
-pub left_as : {old all now rest rest' : List ℕ} {at place : ℕ} → rest ≡ rest' → Left old at all now place rest → Left old at all now place rest'
+pub left_as : {old now : Cursor} {all rest rest' : List ℕ} → rest ≡ rest' → Left old all now rest → Left old all now rest'
 left_as e l = rw (← e) l
 
-pub less-left : {old all now new xs ys : List ℕ} {at place next count : ℕ} → Left old at all now place (xs ++ ys) → Puts now place count xs new next
-    → Left old at all new next ys
-less-left {old} {all} {now} {new} {xs} {ys} {at} {place} {next} l p =
-    let e : next ≡ place + length xs = omega (arith, p.behind, p.long) in
+pub less-left : {old now new : Cursor} {all xs ys : List ℕ} {count : ℕ} → Left old all now (xs ++ ys) → Puts now count xs new → Left old all new ys
+less-left {old} {now} {new} {all} {xs} {ys} l p =
+    let room : Room now (length (xs ++ ys)) = l.room in
+    let e : new.at ≡ now.at + length xs = omega (arith, p.behind, p.long) in
     record {
-      reached = rw (e, p.buffer) (over-reached place xs now l.reached);
+      same = p.same ∙ l.same;
+      room = omega (arith, room, length-append xs ys, p.kept);
+      kept = p.kept ∙ l.kept;
       end = omega (arith, l.end, length-append xs ys);
-      same = rw p.buffer (over-over place next xs ys now l.reached e) ∙ l.same;
+      put = rw p.put (over-over now.at new.at xs ys now.buffer.now (omega (arith, room)) e) ∙ l.put;
     }
 
-pub none_left : {old all now : List ℕ} {at place : ℕ} → Left old at all now place [] → at ≤ length old → (count : ℕ) → length all ≡ count
-    → Puts old at count all now place
-none_left {old} {all} {now} {at} {place} l h count e =
-    record { reached = h; long = e; buffer = sym (over_nothing place now) ∙ l.same; behind = omega (arith, l.end) }
+pub none_left : {old now : Cursor} {all : List ℕ} → Left old all now [] → {count : ℕ} → length all ≡ count → Puts old count all now
+none_left {old} {now} {all} l e =
+    let room : Room now 0 = l.room in
+    record {
+      same = l.same;
+      room = omega (arith, room, l.kept, l.end);
+      kept = l.kept;
+      long = e;
+      put = sym (over_nothing now.at now.buffer.now) ∙ l.put;
+      behind = omega (arith, l.end);
+    }

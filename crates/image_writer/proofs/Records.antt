@@ -1,21 +1,24 @@
 -- The parts of an agent's record as bytes, from the words that the code holds: masks and reasons; and the records of all agents.
--- A mask is the number that has its bits; reasons and agents are left to put as long as their number is not reached.
-use Prim.Native.Nat.{ℕ, suc, ◌+◌, ◌-◌, ◌/◌, ◌%◌, ◌^◌, ◌≤◌, ◌<◌}
-use mathlib.Core.Path.{◌≡◌, refl, ap, ◌∙◌}
+-- A mask is the number that has its bits.
+use Prim.Native.Nat.{ℕ, suc, ◌+◌, ◌/◌, ◌%◌, ◌^◌, ◌<◌}
+use mathlib.Core.Path.{◌≡◌, sym, ap, ◌∙◌}
 use mathlib.Core.Bool.{Bool, true, false, cond}
 use mathlib.Core.Option.{none, some}
-use mathlib.Core.List.{List, [], ◌∷◌, ◌++◌}
-use native.Mathlib.Nat.{div-one, zero-add, sub-zero}
-use native.Mathlib.Numerals.{add-one}
+use mathlib.Core.List.{List, [], ◌∷◌, ◌++◌, map}
+use mir.Val.{bool_byte}
+use native.Mathlib.Nat.{div-one, zero-add}
 use native.Mathlib.Omega.{arith}
 use lib.Dec.{eqb}
-use lib.ListN.{get_or, replicate}
+use lib.ListN.{length, get_or, replicate, take, length-take, length-map, get_or-map}
+use lib.Seq.{get_or-take}
 use Rattle.base.specs.Finite.{from_one, gather}
 use Rattle.base.specs.Bits.{bit}
+use Rattle.base.proofs.Arrays.{get_or-below}
 use Rattle.base.proofs.Tests.{test}
 use Rattle.base.proofs.Bits.{bit-field}
-use Rattle.problem.specs.Problem.{max_agents, max_domain}
+use Rattle.problem.specs.Problem.{max_agents}
 use Rattle.agent_rules.specs.Message.{nobody}
+use Rattle.agent_rules.specs.Agent.{unused_agent}
 use Rattle.packed.specs.Packed.{assignment, members}
 use Rattle.packed.proofs.Masks.{mask_is}
 use Rattle.packed.proofs.Digits.{nobody-assigned}
@@ -23,11 +26,9 @@ use Rattle.choosing.specs.Choosing.{nogood_at}
 use Rattle.agent.specs.Abstract.{agent_of}
 use Rattle.agent.specs.declared.Agent.{Agent}
 use Rattle.network.specs.declared.Network.{Network}
-use Rattle.network.specs.Abstract.{network_of}
-use Rattle.network_laws.proofs.Changes.{FullArrays, agent-is}
+use Rattle.network.specs.Abstract.{agents_of, network_of}
 use Rattle.image_format.specs.Bytes.{bytes_of}
 use Rattle.image_format.specs.Image.{slots, mask_bytes, reason_bytes, agent_bytes}
-use Rattle.image_writer.proofs.Firsts.{first-gathered, all-gathered}
 
 -- ---- masks
 
@@ -43,59 +44,34 @@ mask-is-put set = ap (bytes_of 2) (mask_is (members set) 1 12 (set % 4096) (omeg
 
 -- ---- reasons
 
-pub reason-put : (stored : Bool) (word : ℕ) → stored ≡ true → (1 ∷ []) ++ slots (assignment word) ≡ reason_bytes (cond stored (some (assignment word)) none)
-unfolding reason_bytes
-reason-put stored word e = rw e
-
 -- a word without digits
 pub no-slots-put : slots (assignment 0) ≡ replicate 12 0
 unfolding slots gather max_agents nobody
 no-slots-put = rw nobody-assigned
 
-pub no-reason-put : (stored : Bool) (word : ℕ) → stored ≡ false → (0 ∷ []) ++ slots (assignment 0) ≡ reason_bytes (cond stored (some (assignment word)) none)
+pub reason-put : (stored : Bool) (word put : ℕ) → stored ≡ true → put ≡ word
+    → (bool_byte stored ∷ []) ++ slots (assignment put) ≡ reason_bytes (cond stored (some (assignment word)) none)
+unfolding reason_bytes
+reason-put stored word put e f = rw (e, f)
+
+pub no-reason-put : (stored : Bool) (word put : ℕ) → stored ≡ false → put ≡ 0
+    → (bool_byte stored ∷ []) ++ slots (assignment put) ≡ reason_bytes (cond stored (some (assignment word)) none)
 unfolding reason_bytes max_agents
-no-reason-put stored word e = rw (e, no-slots-put)
+no-reason-put stored word put e f = rw (e, f, no-slots-put)
 
--- those of the own values above v
-unfoldable pub reasons_left : ℕ → List ℕ → ℕ → List ℕ
-reasons_left stored nogoods v = gather (8 - v) (v + 1) (λ v. reason_bytes (from_one none (nogood_at stored nogoods) v))
-
-pub all-reasons : (stored : ℕ) (nogoods : List ℕ) → gather max_domain 1 (λ v. reason_bytes (from_one none (nogood_at stored nogoods) v)) ≡ reasons_left stored nogoods 0
-unfolding reasons_left max_domain
-all-reasons stored nogoods = refl
-
-reason-at : (stored : ℕ) (nogoods : List ℕ) (v : ℕ) → from_one none (nogood_at stored nogoods) (v + 1) ≡ cond (bit stored v) (some (assignment (get_or nogoods v 0))) none
-unfolding from_one nogood_at
-reason-at stored nogoods v = rw (add-one v) (test (bit stored v) (λ e. rw (e, nogood_at)) (λ e. rw (e, nogood_at)))
-
-pub first-reason : (stored : ℕ) (nogoods : List ℕ) (v : ℕ) → v < 8
-    → reasons_left stored nogoods v
-    ≡ reason_bytes (cond (eqb (stored / 2 ^ v % 2) 1) (some (assignment (get_or nogoods v 0))) none) ++ reasons_left stored nogoods (v + 1)
-unfolding reasons_left bit
-first-reason stored nogoods v h =
-    first-gathered 8 v (λ v. reason_bytes (from_one none (nogood_at stored nogoods) v)) (v + 1) h ∙ rw (reason-at stored nogoods v)
-
-pub no-reasons : (stored : ℕ) (nogoods : List ℕ) (v : ℕ) → 8 ≤ v → reasons_left stored nogoods v ≡ []
-unfolding reasons_left
-no-reasons stored nogoods v h = all-gathered 8 v (λ v. reason_bytes (from_one none (nogood_at stored nogoods) v)) (v + 1) h
+-- that of the own value at a place
+pub reason-at : (stored : ℕ) (nogoods : List ℕ) (v : ℕ)
+    → reason_bytes (cond (eqb (stored / 2 ^ v % 2) 1) (some (assignment (get_or nogoods v 0))) none) ≡ reason_bytes (from_one none (nogood_at stored nogoods) (1 + v))
+unfolding from_one nogood_at bit
+reason-at stored nogoods v = let e : 1 + v ≡ suc v = omega arith in rw e (test (bit stored v) (λ e. rw (e, nogood_at)) (λ e. rw (e, nogood_at)))
 
 -- ---- the agents of the code's network
 
--- those above i
-unfoldable pub agents_left : Network → ℕ → List ℕ
-agents_left r i = gather (r.count - i) (i + 1) (λ i. agent_bytes ((network_of r).agents i))
-
-pub all-agents : (r : Network) → agents_left r 0 ≡ gather r.count 1 (λ i. agent_bytes ((network_of r).agents i))
-unfolding agents_left
-all-agents r = rw sub-zero
-
-pub first-agent : (r : Network) (i : ℕ) (d : Agent) → FullArrays r → i < 12 → i < r.count
-    → agents_left r i ≡ agent_bytes (agent_of (get_or r.agents i d)) ++ agents_left r (i + 1)
-unfolding agents_left
-first-agent r i d full h k =
-    let here : i + 1 - 1 ≡ i = omega arith in
-    first-gathered r.count i (λ i. agent_bytes ((network_of r).agents i)) (i + 1) k ∙ rw (agent-is r d (i + 1) full (omega arith) (omega arith), here)
-
-pub no-agents : (r : Network) (i : ℕ) → r.count ≤ i → agents_left r i ≡ []
-unfolding agents_left
-no-agents r i h = all-gathered r.count i (λ i. agent_bytes ((network_of r).agents i)) (i + 1) h
+pub agent-here : (r : Network) (i : ℕ) (d : Agent) → length (take r.count r.agents) ≡ r.count → i < r.count
+    → agent_bytes (agent_of (get_or (take r.count r.agents) i d)) ≡ agent_bytes ((network_of r).agents (1 + i))
+unfolding network_of agents_of from_one
+agent-here r i d e h =
+    let inside : i < length r.agents = omega (arith, length-take r.count r.agents) in
+    let one : 1 + i ≡ suc i = omega arith in
+    rw (get_or-take r.count r.agents i d h, one)
+    (ap agent_bytes (sym (get_or-below (map agent_of r.agents) i unused_agent (agent_of d) (rw length-map inside) ∙ get_or-map agent_of r.agents i d)))

@@ -24,32 +24,30 @@ use Rattle.image_forms.specs.Forms.{Form, image_in}
 use Rattle.image_forms.specs.Writing.{store}
 use Rattle.image_format.proofs.Lengths.{header-length, bans-length, agents-length}
 use Rattle.lent.proofs.Within.{Within, put-within, untouched-within}
-use Rattle.image_writer.specs.Puts.{Puts}
+use Rattle.lent.specs.Abstract.{over}
 use Rattle.image_writer.proofs.Chains.{heads-long}
 
 -- ---- the tests
 
 module _ (form : Form) (w : Network') (buffer : List ℕ) where
-  pub stores-broken : in_shape w ≡ false → store form w buffer ≡ record { number = 5; length = 0; buffer = buffer }
-  unfolding store untouched rejection_number
+  pub stores-broken : in_shape w ≡ false → store form w buffer ≡ untouched 5 buffer
+  unfolding store rejection_number
   stores-broken e = rw (e, store)
 
-  pub stores-short : in_shape w ≡ true → length buffer < length (image_in form w) → store form w buffer ≡ record { number = 12; length = 0; buffer = buffer }
-  unfolding store put untouched short_buffer
+  pub stores-short : in_shape w ≡ true → length buffer < length (image_in form w) → store form w buffer ≡ untouched 12 buffer
+  unfolding store put short_buffer
   stores-short e h = rw (e, store, lt-leb (length (image_in form w)) (length buffer) h, put)
 
-  pub stores : (count next : ℕ) (new : List ℕ) → in_shape w ≡ true → length (image_in form w) ≤ length buffer → Puts buffer 0 count (image_in form w) new next
-      → store form w buffer ≡ record { number = 0; length = next; buffer = new }
+  pub stores : (new : List ℕ) → in_shape w ≡ true → length (image_in form w) ≤ length buffer → new ≡ over 0 (image_in form w) buffer
+      → store form w buffer ≡ record { number = 0; length = length (image_in form w); buffer = new }
   unfolding store put
-  stores count next new e h p =
-      let n : next ≡ length (image_in form w) = omega (arith, p.behind, p.long) in
-      rw (e, store, le-leb (length (image_in form w)) (length buffer) h, put, n, p.buffer) (rw zero-add)
+  stores new e h p = rw (e, store, le-leb (length (image_in form w)) (length buffer) h, put, p) (rw zero-add)
 
 -- ---- the length
 
-pub image-long : (w : Network') → length (image w) ≡ 808 + 170 * w.problem.count + length (messages_from 0 (all_lines w))
+pub image_long : (w : Network') → length (image w) ≡ 808 + 170 * w.problem.count + length (messages_from 0 (all_lines w))
 unfolding image header_length bans_length agent_length
-image-long w =
+image_long w =
     let h = header_bytes w in
     let b = ban_bytes w.problem in
     let a = gather w.problem.count 1 (λ i. agent_bytes (w.agents i)) in

@@ -1,10 +1,17 @@
 -- What a putting function does to the buffer that it is lent.
 use Rattle.std.specs.Prelude.{ℕ, ◌+◌, ◌≤◌, ◌≡◌, List, length}
 use Rattle.lent.specs.Abstract.{over}
+use Rattle.image_writer.specs.declared.cursor.Cursor.{Cursor}
 
--- so many bytes, put from `at` on, where the buffer reaches; `next` is the place behind them
-pub record Puts (old : List ℕ) (at count : ℕ) (bytes new : List ℕ) (next : ℕ) : Type 0 where
-  pub reached : at ≤ length old
+-- the buffer has room for so many bytes more
+abbrev pub Room : Cursor → ℕ → Type 0
+Room c count = c.at + count ≤ length c.buffer.now
+
+-- so many bytes, put behind the others in the same buffer; what stands behind them stays
+pub record Puts (old : Cursor) (count : ℕ) (bytes : List ℕ) (new : Cursor) : Type 0 where
+  pub same : new.buffer.ghost_name ≡ old.buffer.ghost_name
+  pub room : Room old count
+  pub kept : length new.buffer.now ≡ length old.buffer.now
   pub long : length bytes ≡ count
-  pub buffer : new ≡ over at bytes old
-  pub behind : next ≡ at + count
+  pub put : new.buffer.now ≡ over old.at bytes old.buffer.now
+  pub behind : new.at ≡ old.at + count

@@ -1,39 +1,34 @@
-// The bans. Each function puts what its contract says from `at` on, and gives the place behind it.
-ghost use Rattle.std.specs.Prelude.{◌≡◌, suc, ◌+◌, ◌-◌, ◌*◌, ◌≤◌, length, get_or};
+// The bans.
+ghost use Rattle.std.specs.Prelude.{suc, ◌-◌, ◌*◌, ◌≤◌, get_or};
 ghost use Rattle.base.specs.Finite.{gather};
-ghost use Rattle.problem.specs.Problem.{Problem, max_agents, word_at};
+ghost use Rattle.problem.specs.Problem.{max_agents, word_at};
+ghost use Rattle.network.specs.Abstract.{problem_of};
 ghost use Rattle.image_format.specs.Bytes.{bytes_of};
 ghost use Rattle.image_format.specs.Image.{ban_bytes};
-ghost use Rattle.image_writer.specs.Puts.{Puts};
+ghost use Rattle.image_writer.specs.Puts.{Room, Puts};
 
-use crate::bytes::put_number;
+use crate::cursor::Cursor;
 use clauses::places::words_before;
+use network::Network;
 
 // The bans of one lower agent, by higher agent.
-fn put_bans_of(out: &mut [u8], at: usize, bans: &[u64; 66], lower: u8) -> usize
-    requires { (1 ≤ lower) × (lower ≤ 12) × (at + 8 * (12 - lower) ≤ length out.old) }
-    ensures { Puts out.old at (8 * (12 - lower)) (gather (max_agents - lower) (suc lower) (λ j. bytes_of 8 (get_or bans.now (word_at lower j) 0))) out.new result }
+fn put_bans_of(out: &mut Cursor<'_>, bans: &[u64; 66], lower: u8)
+    requires inside { (1 ≤ lower) × (lower ≤ 12) }
+    requires room { Room out.old (8 * (12 - lower)) }
+    ensures { Puts out.old (8 * (12 - lower)) (gather (max_agents - lower) (suc lower) (λ j. bytes_of 8 (get_or bans.now (word_at lower j) 0))) out.new }
 {
-    let mut next = at;
-    let mut higher = lower;
-    while higher < 12 {
-        higher += 1;
+    for higher in lower + 1..13 {
         let word = bans[words_before(higher) + lower as usize - 1];
-        next = put_number(out, next, 8, word);
+        out.put_all(&word.to_le_bytes());
     }
-    next
 }
 
 // All bans, upward by lower, then higher agent.
-pub fn put_bans(out: &mut [u8], at: usize, bans: &[u64; 66]) -> usize
-    requires { at + 528 ≤ length out.old }
-    ensures { (p : Problem) → p.bans ≡ bans.now → Puts out.old at 528 (ban_bytes p) out.new result }
+pub fn put_bans(out: &mut Cursor<'_>, r: &Network)
+    requires { Room out.old 528 }
+    ensures { Puts out.old 528 (ban_bytes (problem_of r.now)) out.new }
 {
-    let mut next = at;
-    let mut lower: u8 = 0;
-    while lower < 12 {
-        lower += 1;
-        next = put_bans_of(out, next, bans, lower);
+    for lower in 1..=12 {
+        put_bans_of(out, &r.bans, lower);
     }
-    next
 }

@@ -1,53 +1,58 @@
 // The writer of a rail's image, into a lent buffer. docs/RULES.md, 'The image'.
 #![tactic(auto)]
 
-ghost use Rattle.std.specs.Prelude.{◌≡◌, ◌≤◌, length, take};
+ghost use Rattle.std.specs.Prelude.{◌≡◌, ◌≤◌, length};
 ghost use Rattle.network.specs.Abstract.{network_of};
-ghost use Rattle.lent.specs.Abstract.{written_of};
+ghost use Rattle.lent.specs.Abstract.{over, written_of, InBuffer};
+ghost use Rattle.image_format.specs.Image.{image};
 ghost use Rattle.image_forms.specs.Forms.{First};
 ghost use Rattle.image_forms.specs.Writing.{store as store_by};
 
-use lent::Written;
-use network::{Network, in_shape};
+use network::Network;
+use refusals::Refusal;
 
 mod agents;
 mod bans;
-pub mod bytes;
+pub mod cursor;
 mod header;
 mod lines;
 mod messages;
 
 use agents::put_agents;
 use bans::put_bans;
+use cursor::Cursor;
 use header::put_header;
 use lines::waiting;
 use messages::{put_heads, put_messages};
 
+// The whole image, from the buffer's beginning on.
+#[tactic(auto, using(crate::proofs::Stored::image_long), unfolding(network::specs::Abstract::network_of, network::specs::Abstract::problem_of))]
+fn put_image(out: &mut [u8], r: &Network)
+    requires few { r.now.count ≤ 12 }
+    requires room { length (image (network_of r.now)) ≤ length out.old }
+    ensures { out.new ≡ over 0 (image (network_of r.now)) out.old }
+{
+    let mut next = Cursor { buffer: out, at: 0 };
+    put_header(&mut next, r);
+    put_bans(&mut next, r);
+    put_agents(&mut next, r);
+    put_heads(&mut next, r);
+    put_messages(&mut next, r);
+}
+
 // "The writer tests 5, then 12, where the buffer is shorter than the image; in both the buffer is untouched." The image's length is known before anything is
 // written.
-pub fn store(r: Network, out: &mut [u8]) -> Written
+pub fn store(r: Network, out: &mut [u8]) -> Result<usize, Refusal>
     ensures out_after { written_of result out.new ≡ store_by First (network_of r) out.old }
-    ensures length_in_bounds { (result.length ≤ length out.new) × (result.length ≡ length (take result.length out.new)) }
+    ensures length_in_bounds { InBuffer result out.new }
 {
-    if !in_shape(r) {
-        return Written {
-            number: 5,
-            length: 0,
-        };
+    if !r.is_in_shape() {
+        return Err(Refusal::BadShape);
     }
-    let length = 808 + 170 * r.count as usize + 16 * waiting(&r.counts);
+    let length = 808 + 170 * r.count as usize + 16 * waiting(&r);
     if out.len() < length {
-        return Written {
-            number: 12,
-            length: 0,
-        };
+        return Err(Refusal::ShortBuffer);
     }
-    let bans = put_header(out, r.count, r.rule, r.verdict, &r.domains);
-    let agents = put_bans(out, bans, &r.bans);
-    let heads = put_agents(out, agents, r);
-    let messages = put_heads(out, heads, &r.counts);
-    Written {
-        number: 0,
-        length: put_messages(out, messages, r),
-    }
+    put_image(out, &r);
+    Ok(length)
 }

@@ -1,115 +1,88 @@
-// The heads and the messages. Each function puts what its contract says from `at` on, and gives the place behind it.
-ghost use Rattle.std.specs.Prelude.{◌≡◌, List, [], ◌∷◌, ◌++◌, ℕ, ◌+◌, ◌≤◌, ◌<◌, length};
+// The heads and the messages.
+ghost use Rattle.std.specs.Prelude.{◌≡◌, List, [], ◌∷◌, ◌++◌, ℕ, ◌*◌, ◌≤◌, ◌<◌, length};
 ghost use Rattle.agent_rules.specs.Message.{Message as Message'};
 ghost use Rattle.packed.specs.Packed.{assignment};
 ghost use Rattle.agent.specs.Abstract.{message_of};
-ghost use Rattle.network.specs.declared.Network.{Network as Record};
 ghost use Rattle.network.specs.Abstract.{network_of};
 ghost use Rattle.image_format.specs.Bytes.{bytes_of};
-ghost use Rattle.image_format.specs.Image.{slots, all_lines, number_after, heads_from, message_bytes, messages_from};
-ghost use Rattle.image_writer.specs.Puts.{Puts};
+ghost use Rattle.image_format.specs.Image.{slots, all_lines, number_after, heads_from, message_bytes, chain_from, messages_from};
+ghost use Rattle.image_writer.specs.Lines.{line_at};
+ghost use Rattle.image_writer.specs.Puts.{Room, Puts};
 
-use crate::bytes::{put_byte, put_number, put_slots};
+use crate::cursor::Cursor;
 use crate::lines::on_line;
 use agent::Message;
 use clauses::places::place_at;
 use network::Network;
 
-// The number of the first of so many messages, behind `before` others; 0 where there is none.
-fn first_of(before: u64, count: u8) -> u64
-    requires { before < 65536 }
+// The number of the first of so many messages, behind `before` others. The image has zero where there is none.
+fn first_of(before: u16, count: u8) -> u16
+    requires { before < 65535 }
     ensures { (l : List Message') → length l ≡ count → result ≡ number_after before l }
 {
-    if count == 0 {
-        return 0;
-    }
-    before + 1
+    if count == 0 { 0 } else { before + 1 }
 }
 
 // Where each line's messages begin.
-pub fn put_heads(out: &mut [u8], at: usize, counts: &[u64; 12]) -> usize
-    requires { at + 264 ≤ length out.old }
-    ensures { (r : Record) → r.counts ≡ counts.now → Puts out.old at 264 (heads_from 0 (all_lines (network_of r))) out.new result }
+pub fn put_heads(out: &mut Cursor<'_>, r: &Network)
+    requires { Room out.old 264 }
+    ensures { Puts out.old 264 (heads_from 0 (all_lines (network_of r.now))) out.new }
 {
-    let mut next = at;
-    let mut before: u64 = 0;
-    let mut line: usize = 0;
-    while line < 132 {
-        let count = on_line(counts, line);
-        next = put_number(out, next, 2, first_of(before, count));
-        before += count as u64;
-        line += 1;
+    let mut before = 0;
+    for line in 0..132 {
+        let count = on_line(&r.counts, line);
+        out.put_all(&first_of(before, count).to_le_bytes());
+        before += count as u16;
     }
-    next
 }
 
 // A message's sort, its slot and its left side, packed; zero where it has none.
-#[derive(Clone, Copy)]
-struct Parts {
-    pub sort: u8,
-    pub value: u8,
-    pub word: u64,
-}
-
-fn apart(m: Message) -> Parts
-    ensures { (next : ℕ) → message_bytes (message_of m) next ≡ (result.sort ∷ result.value ∷ []) ++ bytes_of 2 next ++ slots (assignment result.word) }
+fn apart(m: Message) -> (u8, u8, u64)
+    ensures { (next : ℕ) → message_bytes (message_of m) next ≡ (result.0 ∷ result.1 ∷ []) ++ bytes_of 2 next ++ slots (assignment result.2) }
 {
     match m {
-        Message::Info(v) => Parts {
-            sort: 1,
-            value: v,
-            word: 0,
-        },
-        Message::Back(v, lhs) => {
-            let l = lhs.unpack();
-            Parts {
-                sort: 2,
-                value: v,
-                word: l.digits,
-            }
-        }
-        Message::AddLink => Parts {
-            sort: 3,
-            value: 0,
-            word: 0,
-        },
+        Message::Info(v) => (1, v, 0),
+        Message::Back(v, lhs) => (2, v, lhs.unpack().digits),
+        Message::AddLink => (3, 0, 0),
     }
 }
 
 // A message, with the number of the next on its line.
-fn put_message(out: &mut [u8], at: usize, m: Message, follow: u64) -> usize
-    requires { at + 16 ≤ length out.old }
-    ensures { Puts out.old at 16 (message_bytes (message_of m) follow) out.new result }
+fn put_message(out: &mut Cursor<'_>, m: Message, next: u16)
+    requires { Room out.old 16 }
+    ensures { Puts out.old 16 (message_bytes (message_of m) next) out.new }
 {
-    let p = apart(m);
-    let value = put_byte(out, at, p.sort);
-    let index = put_byte(out, value, p.value);
-    let lhs = put_number(out, index, 2, follow);
-    put_slots(out, lhs, p.word)
+    let (sort, value, word) = apart(m);
+    out.put(sort);
+    out.put(value);
+    out.put_all(&next.to_le_bytes());
+    out.put_slots(word);
 }
 
-// All messages, line by line. So many of this line are done; `number` counts the messages of all lines that are put.
-pub fn put_messages(out: &mut [u8], at: usize, r: Network) -> usize
-    requires { at + length (messages_from 0 (all_lines (network_of r))) ≤ length out.old }
-    ensures { Puts out.old at (length (messages_from 0 (all_lines (network_of r)))) (messages_from 0 (all_lines (network_of r))) out.new result }
+// The messages of one line, behind `before` others. Says how many there are.
+fn put_line(out: &mut Cursor<'_>, r: &Network, line: usize, before: u16) -> u16
+    requires inside { (line < 132) × (before ≤ 2000) }
+    requires room { Room out.old (16 * length (line_at (network_of r.now) line)) }
+    ensures count { (result ≡ length (line_at (network_of r.now) line)) × (result ≤ 15) }
+    ensures put { Puts out.old (16 * length (line_at (network_of r.now) line)) (chain_from before (line_at (network_of r.now) line)) out.new }
 {
-    let mut next = at;
-    let mut number: u64 = 0;
-    let mut line: usize = 0;
-    let mut done: u8 = 0;
-    while line < 132 {
-        let count = on_line(&r.counts, line);
-        if done < count {
-            let head = on_line(&r.heads, line);
-            let place = r.places[place_at(line, head, done)];
-            let m = place.message;
-            done += 1;
-            number += 1;
-            next = put_message(out, next, m, first_of(number, count - done));
-        } else {
-            line += 1;
-            done = 0;
-        }
+    let count = on_line(&r.counts, line);
+    let head = on_line(&r.heads, line);
+    for ahead in 0..count {
+        let place = r.places[place_at(line, head, ahead)];
+        let number = before + ahead as u16 + 1;
+        put_message(out, place.message, first_of(number, count - ahead - 1));
     }
-    next
+    count as u16
+}
+
+// All messages, line by line.
+pub fn put_messages(out: &mut Cursor<'_>, r: &Network)
+    requires { Room out.old (length (messages_from 0 (all_lines (network_of r.now)))) }
+    ensures { Puts out.old (length (messages_from 0 (all_lines (network_of r.now)))) (messages_from 0 (all_lines (network_of r.now))) out.new }
+{
+    let mut before = 0;
+    for line in 0..132 {
+        before += put_line(out, r, line, before);
+    }
 }

@@ -4,7 +4,8 @@
 // to the same bytes, or is refused with 13. At the end stands how much was tried.
 #![tactic(auto)]
 
-ghost use Rattle.std.specs.Prelude.{◌≡◌, ◌≤◌, length, take};
+ghost use Rattle.std.specs.Prelude.{◌<◌, length};
+ghost use Rattle.lent.specs.Abstract.{InBuffer};
 
 mod layout;
 mod smaller;
@@ -13,11 +14,11 @@ mod turned;
 use image_mover::{load, move_image, store_small};
 use image_writer::store;
 use layout::laid_out;
-use lent::Written;
 use network::Network;
 use random_rails::drafts::drawn;
 use random_rails::draws::{next, pick};
 use random_rails::rails::listed;
+use refusals::Refusal;
 use smaller::{laid_small, small_length};
 use turned::turned;
 use words::printing::Out;
@@ -54,121 +55,95 @@ fn more_if(n: u64, holds: bool) -> u64 {
 }
 
 fn with_failed(t: Tally, fails: bool) -> Tally {
-    let mut o = t;
-    o.failed = more_if(t.failed, fails);
-    o
+    Tally {
+        failed: more_if(t.failed, fails),
+        ..t
+    }
 }
 
 // ---- one rail
 
 // All bytes from here on are 170.
 fn untouched_from(s: &[u8], at: usize) -> bool {
-    for k in at..s.len() {
-        if s[k] != 170 {
-            return false;
-        }
-    }
-    true
+    s.iter().skip(at).all(|b| *b == 170)
 }
 
 // In the second form, or in the first.
-fn stored(r: Network, small: bool, out: &mut [u8]) -> Written
-    ensures { (result.length ≤ length out.new) × (result.length ≡ length (take result.length out.new)) }
+fn stored(r: &Network, small: bool, out: &mut [u8]) -> Result<usize, Refusal>
+    ensures { InBuffer result out.new }
 {
     if small {
-        return store_small(r, out);
+        store_small(*r, out)
+    } else {
+        store(*r, out)
     }
-    store(r, out)
 }
 
 // The image as the writer has it and as it is laid out a second time.
-fn written_right(r: Network) -> bool {
+fn written_right(r: &Network) -> bool {
     let mut ours = [170u8; LENT];
     let mut theirs = [170u8; LENT];
-    let w = store(r, &mut ours);
-    let n = laid_out(r, &mut theirs);
-    w.number == 0 && w.length == n && check::same(&ours, &theirs)
+    let length = store(*r, &mut ours);
+    length == Ok(laid_out(r, &mut theirs)) && ours == theirs
 }
 
-// The rail is not written into so many first bytes: this number, and no length.
-fn refused_in(r: Network, small: bool, lent: &mut [u8], length: usize, number: u8) -> bool {
-    if lent.len() < length {
-        return false;
-    }
-    let w = stored(r, small, &mut lent[..length]);
-    w.number == number && w.length == 0
+// The rail is not written into so many first bytes: it is refused so.
+fn refused_in(r: &Network, small: bool, lent: &mut [u8], length: usize, refusal: Refusal) -> bool {
+    length <= lent.len() && stored(r, small, &mut lent[..length]) == Err(refusal)
 }
 
 // And the buffer is as it was.
-fn refused_right(r: Network, small: bool, length: usize, number: u8) -> bool {
+fn refused_right(r: &Network, small: bool, length: usize, refusal: Refusal) -> bool {
     let mut lent = [170u8; LENT];
-    let refused = refused_in(r, small, &mut lent, length, number);
-    refused && untouched_from(&lent, 0)
+    refused_in(r, small, &mut lent, length, refusal) && untouched_from(&lent, 0)
 }
 
-fn begins_with(s: &[u8], b: u8) -> bool {
-    if s.len() == 0 {
-        return false;
-    }
-    s[0] == b
-}
-
-// These bytes are refused, or they are the image of what they give, in the form that they begin with.
-fn read_right(s: &[u8]) -> bool {
-    let l = load(s);
-    let r = l.network;
-    if l.number != 0 {
-        return l.number == 13 && r.count == 0;
-    }
+// These bytes are the image of what they gave, in the form that they begin with.
+fn written_back(r: &Network, s: &[u8]) -> bool {
     let mut again = [170u8; LENT];
-    let w = stored(r, begins_with(s, 2), &mut again);
-    let n = w.length;
-    if LENT < n {
-        return false;
+    match stored(r, s.starts_with(&[2]), &mut again) {
+        Ok(n) => &again[..n] == s && untouched_from(&again, n),
+        Err(_) => false,
     }
-    check::same(&again[..n], s) && untouched_from(&again, n)
+}
+
+// They are refused, or that.
+fn read_right(s: &[u8]) -> bool {
+    match load(s) {
+        Ok(r) => written_back(&r, s),
+        Err(refusal) => refusal == Refusal::BadImage,
+    }
 }
 
 // So many first bytes are no image.
 fn no_image(s: &[u8], length: usize) -> bool {
-    if s.len() < length {
-        return false;
-    }
-    load(&s[..length]).number == 13
+    length <= s.len() && matches!(load(&s[..length]), Err(Refusal::BadImage))
 }
 
 // The image is read; with a zero behind it, and with sixteen, it is refused.
 fn taken_right(s: &[u8], n: usize) -> bool {
-    if LENT < n {
-        return false;
-    }
-    if s.len() < n {
-        return false;
-    }
-    load(&s[..n]).number == 0 && read_right(&s[..n]) && no_image(s, n + 1) && no_image(s, n + 16)
+    n <= LENT
+        && n <= s.len()
+        && load(&s[..n]).is_ok()
+        && read_right(&s[..n])
+        && no_image(s, n + 1)
+        && no_image(s, n + 16)
 }
 
-fn out_of_shape(r: Network) -> Network {
-    let mut o = r;
-    o.rule = 3;
-    o
+fn out_of_shape(r: &Network) -> Network {
+    Network { rule: 3, ..*r }
 }
 
 // How many messages an image of so many bytes has, with n scanners.
 fn messages_in(length: usize, n: u8) -> u64 {
-    let before = 808 + 170 * n as usize;
-    if length < before {
-        return 0;
-    }
-    ((length - before) / 16) as u64
+    (length.saturating_sub(808 + 170 * usize::from(n)) / 16) as u64
 }
 
 // Where the buffer is a byte short, and where the rail is out of shape.
-fn not_written_right(r: Network, n: usize) -> bool {
-    if n == 0 {
-        return false;
-    }
-    refused_right(r, false, n - 1, 12) && refused_right(out_of_shape(r), false, LENT, 5)
+fn not_written_right(r: &Network, n: usize) -> bool {
+    n > 0
+        && refused_right(r, false, n - 1, Refusal::ShortBuffer)
+        && refused_right(&out_of_shape(r), false, LENT, Refusal::BadShape)
 }
 
 // ---- the second form
@@ -176,111 +151,96 @@ fn not_written_right(r: Network, n: usize) -> bool {
 // These bytes are moved into so many first bytes of a buffer, and what stands there is `other`; the rest is as it was.
 fn moved_to(s: &[u8], other: &[u8]) -> bool {
     let mut out = [170u8; LENT];
-    let w = move_image(s, &mut out);
-    let n = w.length;
-    if LENT < n {
-        return false;
+    match move_image(s, &mut out) {
+        Ok(n) => &out[..n] == other && untouched_from(&out, n),
+        Err(_) => false,
     }
-    w.number == 0 && check::same(&out[..n], other) && untouched_from(&out, n)
 }
 
-// They are not moved into so many first bytes: this number, and no length.
-fn unmoved_in(s: &[u8], lent: &mut [u8], length: usize, number: u8) -> bool {
-    if lent.len() < length {
-        return false;
-    }
-    let w = move_image(s, &mut lent[..length]);
-    w.number == number && w.length == 0
+// They are not moved into so many first bytes: they are refused so.
+fn unmoved_in(s: &[u8], lent: &mut [u8], length: usize, refusal: Refusal) -> bool {
+    length <= lent.len() && move_image(s, &mut lent[..length]) == Err(refusal)
 }
 
-fn unmoved(s: &[u8], length: usize, number: u8) -> bool {
+fn unmoved(s: &[u8], length: usize, refusal: Refusal) -> bool {
     let mut lent = [170u8; LENT];
-    let refused = unmoved_in(s, &mut lent, length, number);
-    refused && untouched_from(&lent, 0)
+    unmoved_in(s, &mut lent, length, refusal) && untouched_from(&lent, 0)
 }
 
 // There and back; a byte short; and what is no image is told so before that.
 fn moves_right(first: &[u8], second: &[u8]) -> bool {
     let n = first.len();
     let m = second.len();
-    if n < 2 {
-        return false;
-    }
-    if m < 2 {
-        return false;
-    }
-    moved_to(first, second)
+    n >= 2
+        && m >= 2
+        && moved_to(first, second)
         && moved_to(second, first)
-        && unmoved(first, m - 1, 12)
-        && unmoved(second, n - 1, 12)
-        && unmoved(&first[1..], 0, 13)
-        && unmoved(&second[..1], 0, 13)
+        && unmoved(first, m - 1, Refusal::ShortBuffer)
+        && unmoved(second, n - 1, Refusal::ShortBuffer)
+        && unmoved(&first[1..], 0, Refusal::BadImage)
+        && unmoved(&second[..1], 0, Refusal::BadImage)
 }
 
 // Written as it is laid out a second time, the bytes behind it untouched.
-fn small_written_right(r: Network, second: &[u8]) -> bool {
+fn small_written_right(r: &Network, second: &[u8]) -> bool {
     let mut ours = [170u8; LENT];
-    let w = store_small(r, &mut ours);
-    let n = w.length;
-    if LENT < n {
-        return false;
+    match store_small(*r, &mut ours) {
+        Ok(n) => &ours[..n] == second && untouched_from(&ours, n),
+        Err(_) => false,
     }
-    w.number == 0 && check::same(&ours[..n], second) && untouched_from(&ours, n)
 }
 
 // All of this for the first n bytes of one buffer and the first m of another, behind which zeros stand.
-fn small_right(r: Network, first: &[u8], n: usize, second: &[u8], m: usize) -> bool {
-    if first.len() < n {
-        return false;
-    }
-    if second.len() < m {
-        return false;
-    }
-    if m == 0 {
-        return false;
-    }
-    small_written_right(r, &second[..m])
+fn small_right(r: &Network, first: &[u8], n: usize, second: &[u8], m: usize) -> bool {
+    n <= first.len()
+        && 0 < m
+        && m <= second.len()
+        && small_written_right(r, &second[..m])
         && moves_right(&first[..n], &second[..m])
         && taken_right(second, m)
-        && refused_right(r, true, m - 1, 12)
-        && refused_right(out_of_shape(r), true, LENT, 5)
+        && refused_right(r, true, m - 1, Refusal::ShortBuffer)
+        && refused_right(&out_of_shape(r), true, LENT, Refusal::BadShape)
 }
 
-fn with_small(t: Tally, r: Network, count: u64) -> Tally {
+fn with_small(t: Tally, r: &Network, count: u64) -> Tally {
     let mut first = [0u8; LENT];
     let mut second = [0u8; LENT];
     let n = laid_out(r, &mut first);
     laid_small(&first, r.count, count, &mut second);
     let m = small_length(r.count, count);
-    let mut o = with_failed(t, !small_right(r, &first, n, &second, m));
-    o.moved = plus_more(t.moved, 2);
-    o
+    Tally {
+        moved: plus_more(t.moved, 2),
+        ..with_failed(t, !small_right(r, &first, n, &second, m))
+    }
 }
 
 // ---- all of one rail
 
 // The image in another layout, where there is one, is refused.
-fn with_turned(t: Tally, r: Network) -> Tally {
+fn with_turned(t: Tally, r: &Network) -> Tally {
     let mut image = [0u8; LENT];
     let n = laid_out(r, &mut image);
     if !turned(r, &mut image) {
         return t;
     }
-    let mut o = with_failed(t, !no_image(&image, n));
-    o.turned = one_more(t.turned);
-    o
+    Tally {
+        turned: one_more(t.turned),
+        ..with_failed(t, !no_image(&image, n))
+    }
 }
 
-fn with_rail(t: Tally, r: Network) -> Tally {
+fn with_rail(t: Tally, r: &Network) -> Tally {
     let mut image = [0u8; LENT];
     let n = laid_out(r, &mut image);
     let right = written_right(r) && taken_right(&image, n) && not_written_right(r, n);
-    let mut o = with_failed(t, !right);
-    o.rails = one_more(t.rails);
-    o.by_rule_2 = more_if(t.by_rule_2, r.rule == 2);
-    o.at_verdict = more_if(t.at_verdict, r.verdict);
     let count = messages_in(n, r.count);
-    o.messages = plus_more(t.messages, count);
+    let o = Tally {
+        rails: one_more(t.rails),
+        by_rule_2: more_if(t.by_rule_2, r.rule == 2),
+        at_verdict: more_if(t.at_verdict, r.verdict),
+        messages: plus_more(t.messages, count),
+        ..with_failed(t, !right)
+    };
     with_turned(with_small(o, r, count), r)
 }
 
@@ -296,21 +256,18 @@ fn with_cuts(t: Tally, image: &[u8]) -> Tally {
     o
 }
 
-fn plus(b: u8, more: u8) -> u8 {
-    ((b as u16 + more as u16) % 256) as u8
-}
-
 // Byte k of the image becomes another one, for a while.
-fn with_change(t: Tally, image: &mut [u8], k: usize, more: u8) -> Tally {
-    if image.len() <= k {
-        return t;
-    }
+fn with_change(t: Tally, image: &mut [u8], k: usize, more: u8) -> Tally
+    requires { k < length image.old }
+{
     let b = image[k];
-    image[k] = plus(b, more);
-    let mut o = with_failed(t, !read_right(image));
-    o.changed = one_more(t.changed);
+    image[k] = b.wrapping_add(more);
+    let right = read_right(image);
     image[k] = b;
-    o
+    Tally {
+        changed: one_more(t.changed),
+        ..with_failed(t, !right)
+    }
 }
 
 // Every byte of the image in turn.
@@ -322,34 +279,36 @@ fn with_changes(t: Tally, image: &mut [u8], more: u8) -> Tally {
     o
 }
 
+// By one bit at either end, and downward.
+fn with_all_changes(t: Tally, image: &mut [u8]) -> Tally {
+    let mut o = t;
+    for more in [1, 128, 255] {
+        o = with_changes(o, image, more);
+    }
+    o
+}
+
 fn with_all_damage(t: Tally, image: &mut [u8]) -> Tally {
-    let o = with_cuts(t, image);
-    let o = with_changes(o, image, 1);
-    let o = with_changes(o, image, 128);
-    with_changes(o, image, 255)
+    with_all_changes(with_cuts(t, image), image)
 }
 
 // The changes alone, counted by themselves.
 fn with_small_damage(t: Tally, image: &mut [u8]) -> Tally {
-    let o = with_changes(t, image, 1);
-    let o = with_changes(o, image, 128);
-    let mut o = with_changes(o, image, 255);
-    o.small_changed = plus_more(t.small_changed, 3 * (image.len() % 65536) as u64);
-    o.changed = t.changed;
-    o
+    Tally {
+        small_changed: plus_more(t.small_changed, 3 * (image.len() % 65536) as u64),
+        changed: t.changed,
+        ..with_all_changes(t, image)
+    }
 }
 
-fn with_damage(t: Tally, r: Network) -> Tally {
+fn with_damage(t: Tally, r: &Network) -> Tally {
     let mut image = [0u8; LENT];
     let n = laid_out(r, &mut image);
-    if LENT < n {
-        return with_failed(t, true);
-    }
     let count = messages_in(n, r.count);
     let mut second = [0u8; LENT];
     laid_small(&image, r.count, count, &mut second);
     let m = small_length(r.count, count);
-    if LENT < m {
+    if LENT < n || LENT < m {
         return with_failed(t, true);
     }
     let o = with_small_damage(t, &mut second[..m]);
@@ -360,32 +319,26 @@ fn with_damage(t: Tally, r: Network) -> Tally {
 
 // The rail that up to `most` deliveries leave, where the start takes the sheet.
 fn with_sheet(t: Tally, rule: u8, sheet: &[u8], state: u64, k: u64) -> Tally {
-    let started = start::start(rule, sheet);
-    if started.number != 0 {
+    let Ok(fresh) = start::start(rule, sheet) else {
         return t;
-    }
-    let fresh = started.network;
-    let l = listed(fresh, state, pick(state, 60));
-    let r = l.rail;
-    let o = with_rail(t, r);
+    };
+    let rail = listed(fresh, state, pick(state, 60)).rail;
+    let o = with_rail(t, &rail);
     if k % 100 == 0 {
-        return with_damage(o, r);
+        with_damage(o, &rail)
+    } else {
+        o
     }
-    o
 }
 
 // The sheet is the first `length` bytes.
-fn with_bytes(t: Tally, rule: u8, bytes: &[u8], length: usize, state: u64, k: u64) -> Tally {
-    if length <= bytes.len() {
-        return with_sheet(t, rule, &bytes[..length], state, k);
-    }
-    t
-}
-
 fn with_draft(t: Tally, rule: u8, state: u64, k: u64) -> Tally {
     let d = drawn(state);
-    let bytes = d.bytes;
-    with_bytes(t, rule, &bytes, d.length, d.state, k)
+    if d.length <= d.bytes.len() {
+        with_sheet(t, rule, &d.bytes[..d.length], d.state, k)
+    } else {
+        t
+    }
 }
 
 fn report(t: Tally) {
@@ -419,8 +372,9 @@ fn main() {
     let mut state: u64 = 20261116;
     for k in 0..1000 {
         state = next(state);
-        t = with_draft(t, 1, state, k);
-        t = with_draft(t, 2, state, k);
+        for rule in [1, 2] {
+            t = with_draft(t, rule, state, k);
+        }
     }
     report(t);
 }

@@ -4,7 +4,7 @@
 const FAR: usize = 65536;
 
 fn byte_at(image: &[u8], at: usize) -> u8 {
-    if at < image.len() { image[at] } else { 0 }
+    image.get(at).copied().unwrap_or(0)
 }
 
 // Byte `at` of the records of so many scanners: where it stands in the first form. The place counts before the record.
@@ -50,20 +50,12 @@ pub fn small_length(n: u8, count: u64) -> usize {
     808 + 170 * n as usize + 10 * (count % 65536) as usize
 }
 
-// A byte in its place, if that is below the length.
-fn place(out: &mut [u8], at: usize, length: usize, b: u8) {
-    if at < length {
-        if at < out.len() {
-            out[at] = b;
-        }
-    }
-}
-
-// All of it, as long as there is room.
+// All of it, as long as there is room; behind it, nothing is written.
 pub fn laid_small(image: &[u8], n: u8, count: u64, out: &mut [u8]) {
     let length = small_length(n, count);
-    for at in 0..out.len() {
-        let b = small_byte(image, n as usize, (count % 65536) as usize, at);
-        place(out, at, length, b);
+    for (at, b) in out.iter_mut().enumerate() {
+        if at < length {
+            *b = small_byte(image, usize::from(n), (count % 65536) as usize, at);
+        }
     }
 }

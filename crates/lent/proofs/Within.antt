@@ -8,6 +8,9 @@ use lib.Dec.{leb}
 use lib.ListN.{length, take, drop, length-append, length-take}
 use Rattle.base.proofs.Tests.{test}
 use Rattle.base.specs.Lent.{Written, untouched, put}
+use Rattle.std.proofs.Common.{Result, Ok, Err}
+use Rattle.refusals.specs.declared.Refusal.{Refusal}
+use Rattle.lent.specs.Abstract.{InBuffer, written_of}
 
 abbrev pub Within : Written → Type 0
 Within w = w.length ≤ length w.buffer
@@ -23,8 +26,10 @@ pub untouched-within : (number : ℕ) (buffer : List ℕ) → Within (untouched 
 unfolding untouched
 untouched-within number buffer = omega arith
 
-pub counted : (w x : Written) → w ≡ x → Within x → (w.length ≤ length w.buffer) × (w.length ≡ length (take w.length w.buffer))
-counted w x e h =
-    let l : Within w = subst Within (sym e) h in
-    let m : length (take w.length w.buffer) ≡ min w.length (length w.buffer) = length-take w.length w.buffer in
+pub counted : (w : Result ℕ Refusal) (buffer : List ℕ) (x : Written) → written_of w buffer ≡ x → Within x → InBuffer w buffer
+unfolding written_of
+counted (Ok n) buffer x e h =
+    let l : n ≤ length buffer = subst Within (sym e) h in
+    let m : length (take n buffer) ≡ min n (length buffer) = length-take n buffer in
     (l, omega arith)
+counted (Err r) buffer x e h = tt

@@ -4,6 +4,7 @@ use Prim.Native.Nat.{ℕ, suc, pred, ◌+◌, ◌*◌, ◌-◌, ◌/◌, ◌%◌
 use mathlib.Core.Path.{◌≡◌, refl, sym, ap, subst, ◌∙◌}
 use mathlib.Core.Bool.{Bool, true, ◌&&◌}
 use mathlib.Core.List.{List, [], ◌∷◌}
+use native.Mathlib.Numerals.{add-one}
 use native.Mathlib.Omega.{arith}
 use lib.ListN.{length, get_or, drop}
 use lib.Seq.{drop-cons}
@@ -14,7 +15,7 @@ use Rattle.base.proofs.Tests.{both}
 use Rattle.base.proofs.Search.{all_to-at}
 use Rattle.base.proofs.Lists.{All, All-map, every-all}
 use Rattle.problem.specs.Problem.{max_agents, domain}
-use Rattle.little_rules.specs.Little.{most_agents, most_values, counts_of, sizes, bare, pairs_of, places, sets_of, choice_from}
+use Rattle.little_rules.specs.Little.{little_count, most_agents, most_values, counts_of, sizes, bare, pairs_of, places, sets_of, choice_from}
 use Rattle.little_rules.proofs.Sizes.{all-at}
 use Rattle.little_rules.proofs.Choices.{choice-here, choice-later}
 use Rattle.little_sheet.specs.Abstract.{Holds, bare_of}
@@ -135,6 +136,33 @@ module _ (k : ℕ) (h : k < 14) where
       → choice_from (drop k sizes) left ≡ choice_from (drop (suc k) sizes) (left - sets_of (get_or sizes k []))
   found-later left u = rw at_place (choice-later (get_or sizes k []) (drop (suc k) sizes) left u)
 
-pub found_nowhere : (left : ℕ) → choice_from (drop 14 sizes) left ≡ record { counts = []; bans = 0 }
-unfolding gather most_agents most_values counts_of sizes choice_from
-found_nowhere left = refl
+-- how many sheets these lists of slot counts have together
+unfoldable pub sheets_of : List (List ℕ) → ℕ
+sheets_of [] = 0
+sheets_of (ds ∷ more) = sets_of ds + sheets_of more
+
+-- what is left of the ordinal, behind the sheets before place k
+pub record Reached (ordinal k left : ℕ) : Type 0 where
+  pub same : choice_from sizes ordinal ≡ choice_from (drop k sizes) left
+  pub before : ordinal + sheets_of (drop k sizes) ≡ left + little_count
+
+pub reached-first : (ordinal : ℕ) → Reached ordinal 0 ordinal
+unfolding gather max_agents domain most_agents most_values counts_of sizes bare pairs_of places sets_of sheets_of little_count
+reached-first ordinal = record { same = refl; before = refl }
+
+module _ (ordinal k : ℕ) (h : k < 14) (left : ℕ) where
+  there : sheets_of (drop k sizes) ≡ sets_of (get_or sizes k []) + sheets_of (drop (suc k) sizes)
+  unfolding sheets_of
+  there = rw (at_place k h)
+
+  pub reached_here : left < sets_of (get_or sizes k []) → Reached ordinal k left
+      → (ordinal < little_count) × (choice_from sizes ordinal ≡ record { counts = get_or sizes k []; bans = left })
+  reached_here u r = (omega (arith, there, r.before), r.same ∙ found_here k h left u)
+
+  pub reached_later : sets_of (get_or sizes k []) ≤ left → Reached ordinal k left → Reached ordinal (k + 1) (left - sets_of (get_or sizes k []))
+  reached_later u r =
+      rw (add-one k) (record { same = r.same ∙ found-later k h left u; before = omega (arith, there, r.before) })
+
+pub reached_end : (ordinal k : ℕ) → k ≡ 14 → (left : ℕ) → Reached ordinal k left → little_count ≤ ordinal
+unfolding gather most_agents most_values counts_of sizes sheets_of
+reached_end ordinal k e left r = let none : sheets_of (drop k sizes) ≡ 0 = rw e in omega (arith, none, r.before)

@@ -1,6 +1,6 @@
 // From an ordinal to slot counts and a set of bans.
-ghost use Rattle.std.specs.Prelude.{◌≡◌, [], ◌+◌, ◌*◌, ◌^◌, ◌≤◌, ◌<◌, get_or};
-ghost use Rattle.little_rules.specs.Little.{sizes, choice_from};
+ghost use Rattle.std.specs.Prelude.{◌≡◌, [], ◌+◌, ◌*◌, ◌^◌, ◌≤◌, ◌<◌, get_or, MatchOption};
+ghost use Rattle.little_rules.specs.Little.{little_count, sizes, choice_from};
 ghost use Rattle.sheet.specs.Abstract.{problem_of};
 ghost use Rattle.little_sheet.specs.Abstract.{Holds, Means, bare_of};
 
@@ -28,39 +28,40 @@ fn counts_at(k: u8) -> Counts
     ensures { Holds result (get_or sizes k []) }
 {
     if k < 2 {
-        return Counts {
+        Counts {
             agents: 1,
             first: 1 + k,
             second: 0,
             third: 0,
-        };
-    }
-    if k < 6 {
+        }
+    } else if k < 6 {
         let d = k - 2;
-        return Counts {
+        Counts {
             agents: 2,
             first: 1 + d / 2,
             second: 1 + d % 2,
             third: 0,
-        };
-    }
-    let d = k - 6;
-    Counts {
-        agents: 3,
-        first: 1 + d / 4,
-        second: 1 + d / 2 % 2,
-        third: 1 + d % 2,
+        }
+    } else {
+        let d = k - 6;
+        Counts {
+            agents: 3,
+            first: 1 + d / 4,
+            second: 1 + d / 2 % 2,
+            third: 1 + d % 2,
+        }
     }
 }
 
 // The problem of these slot counts, with no ban.
+#[tactic(auto, unfolding(problem::specs::Problem::max_pairs, problem::specs::Problem::no_bans, sheet::specs::Abstract::problem_of, crate::specs::Abstract::bare_of))]
 pub fn bare(c: Counts) -> Problem
     ensures { problem_of result ≡ bare_of c }
 {
     Problem {
         count: c.agents,
         domains: [c.first, c.second, c.third, 0, 0, 0, 0, 0, 0, 0, 0, 0],
-        bans: [0u64; 66],
+        bans: [0; 66],
     }
 }
 
@@ -78,34 +79,21 @@ fn sets_of(c: Counts) -> u64
     ensures { result ≡ 2 ^ (c.first * c.second + c.first * c.third + c.second * c.third) }
 {
     let all = pairs(c.first, c.second) + pairs(c.first, c.third) + pairs(c.second, c.third);
-    1u64 << all
+    1 << all
 }
 
-// The sheets of one list of slot counts stand together, as many as there are sets of bans. No slot counts beyond the last.
-pub fn chosen(ordinal: u64) -> Choice
-    ensures { Means result (choice_from sizes ordinal) }
+// The sheets of one list of slot counts stand together, as many as there are sets of bans. None beyond the last.
+pub fn chosen(ordinal: u64) -> Option<Choice>
+    ensures { MatchOption result (little_count ≤ ordinal) (λ c. (ordinal < little_count) × Means c (choice_from sizes ordinal)) }
 {
     let mut left = ordinal;
-    let mut k: u8 = 0;
-    while k < 14 {
+    for k in 0..14 {
         let counts = counts_at(k);
         let sets = sets_of(counts);
         if left < sets {
-            return Choice {
-                counts: counts,
-                bans: left,
-            };
+            return Some(Choice { counts, bans: left });
         }
-        left = left - sets;
-        k += 1;
+        left -= sets;
     }
-    Choice {
-        counts: Counts {
-            agents: 0,
-            first: 0,
-            second: 0,
-            third: 0,
-        },
-        bans: 0,
-    }
+    None
 }

@@ -19,33 +19,33 @@ pub struct Row {
 }
 
 // Pair k: four for each two agents.
+#[tactic(auto, unfolding(crate::specs::Abstract::row_of, crate::specs::Rows::place_at))]
 fn row_at(k: u8) -> Row
     requires { k < 12 }
     ensures { row_of result ≡ place_at k }
 {
-    let higher = if k < 4 { 2 } else { 3 };
     Row {
         lower: 1 + k / 8,
-        higher: higher,
+        higher: if k < 4 { 2 } else { 3 },
         low: 1 + k / 2 % 2,
         high: 1 + k % 2,
     }
 }
 
 // The slot count of agent i, one of three.
+#[tactic(auto, unfolding(crate::specs::Rows::slots_of))]
 fn slots(c: Counts, i: u8) -> u8
     ensures { result ≡ slots_of c i }
 {
-    if i == 1 {
-        return c.first;
+    match i {
+        1 => c.first,
+        2 => c.second,
+        _ => c.third,
     }
-    if i == 2 {
-        return c.second;
-    }
-    c.third
 }
 
 // Both slots of pair k are owned.
+#[tactic(auto, unfolding(crate::specs::Abstract::row_of, crate::specs::Rows::owned_by))]
 fn owned(c: Counts, k: u8) -> bool
     requires { k < 12 }
     ensures { result ≡ owned_by c k }
@@ -59,12 +59,18 @@ fn with_ban(rows: &mut [u32], at: usize, left: u64, k: u8) -> usize
     requires { (k < 12) × (at < length rows.old) }
     ensures { Filled rows.old at rows.new result (ban_at left k) × (result ≤ at + 1) }
 {
-    if left % 2 != 1 {
-        return at;
+    if left % 2 == 1 {
+        let Row {
+            lower,
+            higher,
+            low,
+            high,
+        } = row_at(k);
+        rows[at] = pack(lower, higher, low, high);
+        at + 1
+    } else {
+        at
     }
-    let row = row_at(k);
-    rows[at] = pack(row.lower, row.higher, row.low, row.high);
-    at + 1
 }
 
 // The pairs of a set of bans, one behind the other; and how many they are.
@@ -72,15 +78,13 @@ pub fn bans_of(rows: &mut [u32], c: Counts, bans: u64) -> usize
     requires { 12 ≤ length rows.old }
     ensures { (rows_in rows.new result ≡ chosen bans (rows_from c 0)) × (result ≤ 12) }
 {
-    let mut count: usize = 0;
+    let mut count = 0;
     let mut left = bans;
-    let mut k: u8 = 0;
-    while k < 12 {
+    for k in 0..12 {
         if owned(c, k) {
             count = with_ban(rows, count, left, k);
-            left = left / 2;
+            left /= 2;
         }
-        k += 1;
     }
     count
 }

@@ -3,144 +3,106 @@
 // ordinal behind the last, must be refused, and the buffer stay as it was. Every failure is printed; at the end stands how many of each kind there are.
 #![tactic(auto)]
 
-mod keys;
 mod tallies;
 
 use engine::Ending;
-use keys::key;
 use little_sheet::little;
 use network::Network;
 use oracle::buffers::{MARK, untouched};
 use oracle::choices::{settles, solvable};
 use oracle::reading::fault;
 use oracle::taken::taken;
-use tallies::{
-    DIFFERENT, NONES, PLANS, SHORT, Tally, blank, judged, report, with_one, with_rounds,
-};
+use refusals::Refusal;
+use std::alloc::AllocError;
+use std::collections::BTreeSet;
+use tallies::{Tally, count_scanners};
 
-// ---- the run
+// The problems met so far: of each how many scanners, their slots and the bans.
+type Problems = BTreeSet<(u8, [u8; 12], [u64; 66])>;
 
-// The kind for so many scanners.
-fn kind(first: usize, n: u8) -> usize {
-    match n {
-        1 => first,
-        2 => if first < 100 { first + 1 } else { 100 },
-        3 => if first < 100 { first + 2 } else { 100 },
-        _ => 100,
-    }
-}
-
-// How a run on the rail ended: right where a plan settles the sheet, and where the search finds nothing for `none`.
-fn ended(t: Tally, e: Ending, rail: Network, s: &[u8], ordinal: u64) -> Tally {
-    let n = rail.count;
-    match e {
-        Ending::Plan => judged(
-            with_one(t, kind(PLANS, n)),
-            settles(s, taken(rail)),
-            b"a plan that breaks a ban",
-            ordinal,
-        ),
-        Ending::None => judged(
-            with_one(t, kind(NONES, n)),
-            !solvable(s),
-            b"none, where there is a plan",
-            ordinal,
-        ),
-        Ending::Jammed => judged(t, false, b"jammed", ordinal),
-        Ending::Open => judged(t, false, b"open", ordinal),
-        Ending::Broken => judged(t, false, b"a start out of shape", ordinal),
-    }
-}
-
-fn with_run(t: Tally, rail: Network, s: &[u8], ordinal: u64) -> Tally {
+// How a run on the rail ends: right where a plan settles the sheet, and where the search finds nothing for `none`.
+fn try_run(t: &mut Tally, rail: Network, sheet: &[u8], ordinal: u64) {
     let ran = run::run(rail, 100000);
-    let after = ran.network;
-    let ending = ran.ending;
-    ended(with_rounds(t, ran.rounds), ending, after, s, ordinal)
-}
-
-// ---- the problem
-
-// No problem before had this number.
-fn is_new(seen: &mut [u8], k: usize) -> bool {
-    if k < seen.len() {
-        let before = seen[k];
-        seen[k] = 1;
-        return before == 0;
+    t.most_rounds.raise(ran.rounds);
+    t.sum_of_rounds.add(ran.rounds);
+    match ran.ending {
+        Ending::Plan => {
+            count_scanners(&mut t.plans, rail.count);
+            let right = settles(sheet, taken(ran.network));
+            t.judge(ordinal, right, b"a plan that breaks a ban");
+        }
+        Ending::None => {
+            count_scanners(&mut t.nones, rail.count);
+            t.judge(ordinal, !solvable(sheet), b"none, where there is a plan");
+        }
+        Ending::Jammed => t.judge(ordinal, false, b"jammed"),
+        Ending::Open => t.judge(ordinal, false, b"open"),
+        Ending::Broken => t.judge(ordinal, false, b"a start out of shape"),
     }
-    false
 }
 
-fn with_sheet(t: Tally, seen: &mut [u8], s: &[u8], ordinal: u64) -> Tally {
-    let started = start::start(1, s);
-    let rail = started.network;
-    let good = started.number == 0 && fault(s) == 0;
-    let t = judged(t, good, b"refused", ordinal);
-    let new = is_new(seen, key(rail));
-    let t = judged(
-        if new { with_one(t, DIFFERENT) } else { t },
-        new,
-        b"a problem that was met before",
-        ordinal,
-    );
-    with_run(t, rail, s, ordinal)
+fn try_sheet(
+    t: &mut Tally,
+    seen: &mut Problems,
+    sheet: &[u8],
+    ordinal: u64,
+) -> Result<(), AllocError> {
+    let started = start::start(1, sheet);
+    t.judge(ordinal, started.is_ok() && fault(sheet) == 0, b"refused");
+    if let Ok(rail) = started {
+        let new = seen.insert((rail.count, rail.domains, rail.bans))?;
+        if new {
+            t.different.add(1);
+        }
+        t.judge(ordinal, new, b"a problem that was met before");
+        try_run(t, rail, sheet, ordinal);
+    }
+    Ok(())
 }
 
 // ---- writing
 
-// Writing into this buffer is refused with the number, and leaves it as it was.
-fn is_refused(out: &mut [u8], ordinal: u64, number: u8) -> bool {
-    let w = little(ordinal, out);
-    w.number == number && w.length == 0 && untouched(out, 0)
+// Writing into this buffer is refused so, and leaves it as it was.
+fn is_refused(out: &mut [u8], ordinal: u64, refusal: Refusal) -> bool {
+    little(ordinal, out) == Err(refusal) && untouched(out, 0)
 }
 
-// The same sheet of n bytes into one byte less.
-fn short_refused(n: usize, ordinal: u64) -> bool {
+// A sheet into a buffer with room, and then into one of one byte less than it takes.
+fn try_little(t: &mut Tally, seen: &mut Problems, ordinal: u64) -> Result<(), AllocError> {
     let mut buffer = [MARK; 136];
-    if n == 0 {
-        return false;
-    }
-    if 136 < n {
-        return false;
-    }
-    is_refused(&mut buffer[..n - 1], ordinal, 12)
-}
-
-fn with_short(t: Tally, n: usize, ordinal: u64) -> Tally {
-    let right = short_refused(n, ordinal);
-    judged(
-        if right { with_one(t, SHORT) } else { t },
-        right,
-        b"one byte short",
+    let written = little(ordinal, &mut buffer);
+    let n = written.unwrap_or(0);
+    t.judge(
         ordinal,
-    )
-}
-
-fn with_little(t: Tally, seen: &mut [u8], ordinal: u64) -> Tally {
-    let mut buffer = [MARK; 136];
-    let w = little(ordinal, &mut buffer);
-    let n = w.length;
-    let right = w.number == 0 && untouched(&buffer, n);
-    let t = judged(t, right, b"not written", ordinal);
-    with_short(with_sheet(t, seen, &buffer[..n], ordinal), n, ordinal)
+        written.is_ok() && untouched(&buffer, n),
+        b"not written",
+    );
+    try_sheet(t, seen, &buffer[..n], ordinal)?;
+    let mut short = [MARK; 136];
+    let right = 0 < n && is_refused(&mut short[..n - 1], ordinal, Refusal::ShortBuffer);
+    if right {
+        t.short.add(1);
+    }
+    t.judge(ordinal, right, b"one byte short");
+    Ok(())
 }
 
 // An ordinal behind the last one.
-fn with_refused(t: Tally, ordinal: u64) -> Tally {
+fn try_behind(t: &mut Tally, ordinal: u64) {
     let mut buffer = [MARK; 136];
-    let right = is_refused(&mut buffer, ordinal, 14);
-    judged(t, right, b"not refused with 14", ordinal)
+    let right = is_refused(&mut buffer, ordinal, Refusal::BadOrdinal);
+    t.judge(ordinal, right, b"not refused with 14");
 }
 
-fn all() -> Tally {
-    let mut seen = io::large_buffer();
-    let mut t = blank();
+fn main(rt: HostRuntime) -> Result<(), AllocError> {
+    let mut seen = BTreeSet::new(rt.alloc());
+    let mut t = Tally::new();
     for ordinal in 0..4996 {
-        t = with_little(t, &mut seen, ordinal);
+        try_little(&mut t, &mut seen, ordinal)?;
     }
-    t
-}
-
-fn main() {
-    report(with_refused(with_refused(all(), 4996), u64::MAX));
+    for ordinal in [4996, u64::MAX] {
+        try_behind(&mut t, ordinal);
+    }
+    t.report();
+    Ok(())
 }

@@ -1,94 +1,71 @@
 // How many of each kind there are, and what failed.
+use counters::Count;
 use words::printing::Out;
 
-// Of one, two and three scanners.
-pub const NONES: usize = 0;
-
-pub const PLANS: usize = 3;
-
-pub const DIFFERENT: usize = 6;
-
-pub const MOST: usize = 7;
-
-pub const SUM: usize = 8;
-
-pub const SHORT: usize = 9;
-
-pub const FAILED: usize = 10;
-
+// Those that end in `none` and in `plan`, of one, two and three scanners; different problems; the rounds; those refused one byte short.
 #[derive(Clone, Copy)]
 pub struct Tally {
-    pub of: [u64; 11],
-    pub out: Out,
+    pub nones: [Count; 3],
+    pub plans: [Count; 3],
+    pub different: Count,
+    pub most_rounds: Count,
+    pub sum_of_rounds: Count,
+    pub short: Count,
+    failed: Count,
+    out: Out,
 }
 
-pub fn blank() -> Tally {
-    Tally {
-        of: [0u64; 11],
-        out: Out::new(),
+// One more of n scanners.
+pub fn count_scanners(counts: &mut [Count; 3], n: u8) {
+    match n {
+        1..=3 => counts[n as usize - 1].add(1),
+        _ => {}
     }
 }
 
-// ---- counting
-
-pub fn with_more(t: Tally, kind: usize, more: u64) -> Tally {
-    let mut o = t;
-    if 10 < kind {
-        return o;
+impl Tally {
+    pub fn new() -> Tally {
+        let none = Count::none();
+        Tally {
+            nones: [none; 3],
+            plans: [none; 3],
+            different: none,
+            most_rounds: none,
+            sum_of_rounds: none,
+            short: none,
+            failed: none,
+            out: Out::new(),
+        }
     }
-    let n = t.of[kind];
-    if n < 1000000000 {
-        o.of[kind] = n + more % 1000000;
+
+    // What was tried is right, or is printed with the ordinal.
+    pub fn judge(&mut self, ordinal: u64, right: bool, words: &[u8]) {
+        if !right {
+            self.failed.add(1);
+            self.out = self
+                .out
+                .put(b"failed: ")
+                .put(words)
+                .line(b", ordinal ", ordinal);
+        }
     }
-    o
-}
 
-pub fn with_one(t: Tally, kind: usize) -> Tally {
-    with_more(t, kind, 1)
-}
-
-// The rounds of one run more.
-pub fn with_rounds(t: Tally, rounds: u64) -> Tally {
-    let mut o = with_more(t, SUM, rounds);
-    if o.of[MOST] < rounds {
-        o.of[MOST] = rounds;
+    // How many end in each word, for so many scanners.
+    pub fn report(self) {
+        let mut out = self.out;
+        for (k, (none, plan)) in self.nones.iter().zip(&self.plans).enumerate() {
+            out = out
+                .put(b"scanners ")
+                .number(k as u64 + 1)
+                .put(b": none ")
+                .number(none.n)
+                .line(b", plan ", plan.n);
+        }
+        out.line(b"different problems ", self.different.n)
+            .line(b"refused 12, one byte short: ", self.short.n)
+            .line(b"most rounds ", self.most_rounds.n)
+            .line(b"sum of rounds ", self.sum_of_rounds.n)
+            .number(self.failed.n)
+            .put(b" failed\n");
     }
-    o
-}
-
-// What was tried is right, or is printed with the ordinal.
-pub fn judged(t: Tally, right: bool, words: &[u8], ordinal: u64) -> Tally {
-    if right {
-        return t;
-    }
-    let o = t.out;
-    let of = t.of;
-    let out = o.put(b"failed: ").put(words).line(b", ordinal ", ordinal);
-    with_one(Tally { of, out }, FAILED)
-}
-
-// ---- the report
-
-// How many end in each word, for so many scanners.
-fn put_words(o: Out, scanners: u64, none: u64, plan: u64) -> Out {
-    o.put(b"scanners ")
-        .number(scanners)
-        .put(b": none ")
-        .number(none)
-        .line(b", plan ", plan)
-}
-
-pub fn report(tally: Tally) {
-    let t = tally.of;
-    let o = tally.out;
-    let one = put_words(o, 1, t[NONES], t[PLANS]);
-    let two = put_words(one, 2, t[NONES + 1], t[PLANS + 1]);
-    let three = put_words(two, 3, t[NONES + 2], t[PLANS + 2]);
-    three
-        .line(b"different problems ", t[DIFFERENT])
-        .line(b"refused 12, one byte short: ", t[SHORT])
-        .line(b"most rounds ", t[MOST])
-        .line(b"sum of rounds ", t[SUM])
-        .number(t[FAILED])
-        .put(b" failed\n");
 }

@@ -1,7 +1,6 @@
 pub mod Agents
 pub mod Rings
 mod Passing
-pub mod Turns
 pub mod Whole
 pub mod Zeros
 mod Asking

@@ -1,15 +1,12 @@
--- The channels as the code goes through them: sender by sender, the digits of its row of counts from the lowest up, the messages of a channel
--- from the last to the first.
-use Prim.Native.Nat.{ℕ, ◌+◌, ◌-◌, ◌≤◌, ◌<◌}
+-- The channels as the code goes through them: sender by sender, the digits of its row of counts from the lowest up.
+use Prim.Native.Nat.{ℕ, ◌+◌, ◌≤◌, ◌<◌}
 use mathlib.Core.Path.{◌≡◌, refl, sym, ◌∙◌}
-use mathlib.Core.Logic.{◌≢◌}
-use mathlib.Core.Bool.{Bool, true, false, ◌||◌, and-false, and-true, false≢true}
+use mathlib.Core.Bool.{true, false, false≢true}
 use native.Mathlib.Omega.{arith}
 use native.Mathlib.Numerals.{add-one}
 use lib.ListN.{get_or}
-use borrow.Author.Tests.{le-leb, lt-leb}
 use Rattle.base.specs.Finite.{at, from_one, within, all_to}
-use Rattle.base.proofs.Tests.{test, eq_test, or_left}
+use Rattle.base.proofs.Tests.{test, eq_test}
 use Rattle.base.proofs.Search.{at_same, at_other, all_to-at, to-all_to}
 use Rattle.problem.specs.Problem.{max_agents}
 use Rattle.agent_rules.specs.Message.{nobody}
@@ -17,26 +14,27 @@ use Rattle.protocol.specs.Shape.{channel_in_shape}
 use Rattle.packed.specs.Packed.{assignment}
 use Rattle.packed.proofs.Digits.{nobody-assigned}
 use Rattle.network.specs.Abstract.{is_channel, row_of, network_of}
-use Rattle.clauses.specs.Parts.{is_link, fits_now}
 use Rattle.network.specs.declared.Network.{Network}
 use Rattle.clauses.proofs.Numbering.{ends}
-use Rattle.network.specs.Looking.{channels_in_shape, left_fits, last_left, Swept}
-use Rattle.network.proofs.Rings.{nothing_left, last_fits, no-channel-fits, channel-fits}
+use Rattle.network.specs.Looking.{channels_in_shape}
+use Rattle.network.proofs.Rings.{no-channel-fits, empty-fits}
 
-no-digits : (rest y : ℕ) → rest ≡ 0 → assignment rest y ≡ 0
-unfolding nobody
-no-digits rest y e = rw (e, nobody-assigned)
+-- the lines of senders 1 to i are in shape
+abbrev pub Passed : Network → ℕ → Type 0
+Passed r i = (x y : ℕ) → x ≤ i → channel_in_shape (network_of r) x y ≡ true
 
-pub beginning : (r : Network) → Swept r 0 0 1 0 false
+-- so are those of sender i that `rest` does not have, and those of the senders before it
+pub record Passing (r : Network) (i rest : ℕ) : Type 0 where
+  pub before : (x y : ℕ) → x < i → channel_in_shape (network_of r) x y ≡ true
+  pub passed : (y : ℕ) → assignment rest y ≡ 0 → channel_in_shape (network_of r) i y ≡ true
+
+-- where `rest` has something, there is a line, and it is what the line holds
+abbrev pub Ahead : Network → ℕ → ℕ → Type 0
+Ahead r i rest = (y : ℕ) → 1 ≤ assignment rest y → (is_channel i y ≡ true) × (assignment rest y ≡ row_of r.counts i y)
+
+pub none_yet : (r : Network) → Passed r 0
 unfolding is_channel within
-beginning r =
-    record {
-      sender = omega arith;
-      before = λ x y h. absurd (omega arith);
-      passed = λ y e n. no-channel-fits r 0 y refl;
-      ahead = λ y h. absurd (omega (arith, no-digits 0 y refl));
-      here = λ h. absurd (omega arith);
-    }
+none_yet r x y h = let e : x ≡ 0 = omega arith in rw e (no-channel-fits r 0 y refl)
 
 -- all channels, if one does not fit
 pub one-unfit : (r : Network) (i j : ℕ) → is_channel i j ≡ true → channel_in_shape (network_of r) i j ≡ false
@@ -48,92 +46,54 @@ one-unfit r i j c e =
     (λ t. absurd (false≢true (sym e ∙ all_to-at 12 _ (all_to-at 12 (λ x. all_to 12 (λ y. channel_in_shape (network_of r) x y)) t i b.from_low b.from-high) j b.to_low b.to_high)))
     (λ t. t)
 
--- ---- one message
+-- ---- a sender's row
 
-module _ (r : Network) (i rest j left : ℕ) (asked : Bool) (s : Swept r i rest j left asked) (h : 1 ≤ left) where
-  pub message-unfit : fits_now (network_of r) i j asked (last_left r i j left) ≡ false → channel_in_shape (network_of r) i j ≡ false
-  message-unfit e = (s.here h).2 ∙ last_fits r i j left asked h ∙ rw (e, and-false)
-
-  pub message-passed : fits_now (network_of r) i j asked (last_left r i j left) ≡ true → Swept r i rest j (left - 1) (asked || is_link (last_left r i j left))
-  message-passed e =
-      record {
-        sender = s.sender;
-        before = s.before;
-        passed = λ y z n. eq_test y j
-            (λ q. rw q (fits ∙ nothing_left r i j (left - 1) _ (none y q n)))
-            (λ n. s.passed y z (λ l. n));
-        ahead = s.ahead;
-        here = λ l. let t = s.here h in (t.0, omega arith, fits, λ u. or_left asked _ (t.3 u));
-      }
-    where
-      fits : channel_in_shape (network_of r) i j ≡ left_fits r i j (left - 1) (asked || is_link (last_left r i j left))
-      fits = (s.here h).2 ∙ last_fits r i j left asked h ∙ rw (e, and-true)
-
-      none : (y : ℕ) → y ≡ j → (1 ≤ left - 1 → y ≢ j) → left - 1 ≡ 0
-      none y q n = eq_test (left - 1) 0 (λ e. e) (λ m. absurd (n (omega (arith, m)) q))
-
--- ---- the next channel of the sender, to agent k
-
-module _ (r : Network) (i rest j left k : ℕ) (asked : Bool) (s : Swept r i rest j left asked) (z : left ≡ 0) (h : 1 ≤ assignment rest k) where
-  pub channel-here : is_channel i k ≡ true
-  channel-here = (s.ahead k h).0
-
-  pub channel-full : 8 < assignment rest k → channel_in_shape (network_of r) i k ≡ false
-  channel-full f =
-      let a = s.ahead k h in
-      let g : 8 < row_of r.counts i k = rw (← a.1) f in
-      channel-fits r i k a.0 ∙ rw (lt-leb (row_of r.counts i k) 8 g)
-
-  pub channel-next : (rest' : ℕ) → assignment rest k ≤ 8 → assignment rest' ≡ at (assignment rest) k 0
-      → Swept r i rest' k (assignment rest k) (((network_of r).agents k).informs i)
-  channel-next rest' f e =
-      record {
-        sender = s.sender;
-        before = s.before;
-        passed = λ y d n. s.passed y (sym (other y (n h)) ∙ d) (λ l. absurd (omega arith));
-        ahead = λ y l. eq_test y k
-            (λ q. let g : assignment rest' y ≡ 0 = rw (q, e) (at_same (assignment rest) k 0) in absurd (omega arith))
-            (λ n. rw (other y n) (s.ahead y (rw (← other y n) l)));
-        here = λ l. (a.0, f, channel-fits r i k a.0 ∙ rw (le-leb (row_of r.counts i k) 8 (rw (← a.1) f), a.1), λ u. u);
-      }
-    where
-      a : (is_channel i k ≡ true) × (assignment rest k ≡ row_of r.counts i k)
-      a = s.ahead k h
-
-      other : (y : ℕ) → y ≢ k → assignment rest' y ≡ assignment rest y
-      other y n = rw e (at_other (assignment rest) k 0 y n)
-
--- ---- the next sender, and the end
-
-module _ (r : Network) (i rest j left : ℕ) (asked : Bool) (s : Swept r i rest j left asked) (z : left ≡ 0) (e : rest ≡ 0) where
-  done : (y : ℕ) → channel_in_shape (network_of r) i y ≡ true
-  done y = s.passed y (no-digits rest y e) (λ l. absurd (omega arith))
-
-  pub sender-next : (rest' : ℕ) → i < 12
-      → ((y : ℕ) → assignment rest' y ≡ elim (is_channel (i + 1) y) [ true ↦ assignment (get_or r.counts i 0) y | false ↦ 0 ])
-      → Swept r (i + 1) rest' j left asked
+module _ (r : Network) (k rest : ℕ)
+    (is : (y : ℕ) → assignment rest y ≡ elim (is_channel (k + 1) y) [ true ↦ assignment (get_or r.counts k 0) y | false ↦ 0 ]) where
+  row-digit : (y : ℕ) → is_channel (k + 1) y ≡ true → assignment rest y ≡ row_of r.counts (k + 1) y
   unfolding row_of from_one
-  sender-next rest' h f =
+  row-digit y t = is y ∙ rw (t, add-one k)
+
+  pub row-ahead : Ahead r (k + 1) rest
+  row-ahead y h =
+      test (is_channel (k + 1) y)
+      (λ t. (t, row-digit y t))
+      (λ t. let z : assignment rest y ≡ 0 = is y ∙ rw t in absurd (omega arith))
+
+  pub row-begun : Passed r k → Passing r (k + 1) rest
+  row-begun p =
       record {
-        sender = omega arith;
-        before = λ x y l. eq_test x i (λ q. rw q (done y)) (λ n. s.before x y (omega (arith, n)));
-        passed = λ y d n. test (is_channel (i + 1) y)
-            (λ t. fits y t (sym (row y t) ∙ d))
-            (λ t. no-channel-fits r (i + 1) y t);
-        ahead = λ y l. test (is_channel (i + 1) y)
-            (λ t. (t, row y t))
-            (λ t. let g : assignment rest' y ≡ 0 = f y ∙ rw t in absurd (omega arith));
-        here = λ l. absurd (omega arith);
+        before = λ x y h. p x y (omega arith);
+        passed = λ y z. test (is_channel (k + 1) y)
+            (λ t. empty-fits r (k + 1) y t (sym (row-digit y t) ∙ z))
+            (λ t. no-channel-fits r (k + 1) y t);
       }
-    where
-      row : (y : ℕ) → is_channel (i + 1) y ≡ true → assignment rest' y ≡ row_of r.counts (i + 1) y
-      row y t = f y ∙ rw (t, add-one i)
 
-      fits : (y : ℕ) → is_channel (i + 1) y ≡ true → row_of r.counts (i + 1) y ≡ 0 → channel_in_shape (network_of r) (i + 1) y ≡ true
-      fits y t d = channel-fits r (i + 1) y t ∙ rw d (nothing_left r (i + 1) y 0 _ refl)
+-- ---- a line of it
 
-  pub swept : 12 ≤ i → channels_in_shape r ≡ true
-  unfolding channels_in_shape max_agents
-  swept h =
-      to-all_to 12 _ (λ x a b. to-all_to 12 _ (λ y c d.
-      eq_test x i (λ q. rw q (done y)) (λ n. s.before x y (omega (arith, n, s.sender)))))
+module _ (i rest k rest' : ℕ) (e : assignment rest' ≡ at (assignment rest) k 0) where
+  pub line-ahead : (r : Network) → Ahead r i rest → Ahead r i rest'
+  line-ahead r a y u =
+      eq_test y k
+      (λ q. let z : assignment rest' y ≡ 0 = rw (q, e) (at_same (assignment rest) k 0) in absurd (omega arith))
+      (λ n. let same : assignment rest' y ≡ assignment rest y = rw e (at_other (assignment rest) k 0 y n) in rw same (a y (rw (← same) u)))
+
+  pub line-passed : (r : Network) → Passing r i rest → channel_in_shape (network_of r) i k ≡ true → Passing r i rest'
+  line-passed r p f =
+      record {
+        before = p.before;
+        passed = λ y z. eq_test y k (λ q. rw q f) (λ n. p.passed y (sym (at_other (assignment rest) k 0 y n) ∙ rw (← e) z));
+      }
+
+no-digits : (rest y : ℕ) → rest ≡ 0 → assignment rest y ≡ 0
+unfolding nobody
+no-digits rest y e = rw (e, nobody-assigned)
+
+-- ---- all of it, and all senders
+
+pub row-passed : (r : Network) (i rest : ℕ) → rest ≡ 0 → Passing r i rest → Passed r i
+row-passed r i rest e p x y h = eq_test x i (λ q. rw q (p.passed y (no-digits rest y e))) (λ n. p.before x y (omega (arith, n)))
+
+pub all-passed : (r : Network) (i : ℕ) → 12 ≤ i → Passed r i → channels_in_shape r ≡ true
+unfolding channels_in_shape max_agents
+all-passed r i h p = to-all_to 12 _ (λ x a b. to-all_to 12 _ (λ y c d. p x y (omega arith)))

@@ -8,7 +8,7 @@ use native.Mathlib.Nat.{not-suc-le-zero}
 use native.Mathlib.Omega.{arith}
 use lib.Dec.{ltb, leb}
 use lib.ListN.{length, get_or}
-use borrow.Author.Tests.{lt-leb}
+use borrow.Author.Tests.{le-leb, lt-leb}
 use Rattle.base.specs.Finite.{from_one, every}
 use Rattle.base.proofs.Tests.{test, both}
 use Rattle.base.proofs.Arrays.{get_or-below}
@@ -112,15 +112,18 @@ last_fits r i j left asked h =
     ∙ last-fitting (network_of r) i j (start (left - 1)) (last_left r i j left) asked
 
 -- where the code finds it
-pub message-at : (r : Network) (i j head channel place ahead : ℕ) (d : Place) → length r.places ≡ 1056 → 1 ≤ i
-    → head ≡ assignment (get_or r.heads (i - 1) 0) j → channel ≡ channel_at i j → (place ≡ 8 * channel + (head + ahead) % 8) × (place < 1056)
-    → get_or r.places (8 * channel_at i j + (row_of r.heads i j + ahead) % 8) no_place ≡ get_or r.places place d
+pub row-at : (rows : List ℕ) (i j : ℕ) → 1 ≤ i → row_of rows i j ≡ assignment (get_or rows (i - 1) 0) j
 unfolding row_of from_one
-message-at r zero j head channel place ahead d l h e f g = absurd (not-suc-le-zero h)
-message-at r (suc i) j head channel place ahead d l h e f g =
-    let n : suc i - 1 ≡ i = omega arith in
-    let t : head ≡ assignment (get_or r.heads i 0) j = rw n at e in
-    rw (← t, ← f, ← g.0) (get_or-below r.places place no_place d (omega (arith, g.1)))
+row-at rows zero j h = absurd (not-suc-le-zero h)
+row-at rows (suc i) j h = let n : suc i - 1 ≡ i = omega arith in rw n
+
+pub last-read : (r : Network) (i j head channel place left : ℕ) (d : Place) → length r.places ≡ 1056 → 1 ≤ i
+    → head ≡ assignment (get_or r.heads (i - 1) 0) j → channel ≡ channel_at i j → (place ≡ 8 * channel + (head + (left - 1)) % 8) × (place < 1056)
+    → place_of (get_or r.places place d) ≡ last_left r i j left
+unfolding last_left
+last-read r i j head channel place left d l h e f g =
+    let t : head ≡ row_of r.heads i j = e ∙ sym (row-at r.heads i j h) in
+    rw (← t, ← f, ← g.0) (ap place_of (get_or-below r.places place d no_place (omega (arith, g.1))))
 
 -- ---- the shape of a channel
 
@@ -143,3 +146,14 @@ channel-fits r i j e =
     rw (channel-is r i j e, ring-length r.places (8 * channel_at i j) (row_of r.heads i j) (row_of r.counts i j))
     (and_assoc few (leb (number AddLinks ms) 1) (every (message_fits (network_of r) i j) ms)
     ∙ ap (λ (b : Bool). few && b) (all-fitting (network_of r) i j ms))
+
+-- more than eight, or none
+pub full-unfit : (r : Network) (i j : ℕ) → is_channel i j ≡ true → 8 < row_of r.counts i j → channel_in_shape (network_of r) i j ≡ false
+full-unfit r i j e h = channel-fits r i j e ∙ rw (lt-leb (row_of r.counts i j) 8 h)
+
+pub few-fit : (r : Network) (i j held : ℕ) → is_channel i j ≡ true → held ≡ row_of r.counts i j → held ≤ 8
+    → channel_in_shape (network_of r) i j ≡ left_fits r i j held (((network_of r).agents j).informs i)
+few-fit r i j held e q h = rw q (channel-fits r i j e ∙ rw (le-leb (row_of r.counts i j) 8 (rw (← q) h)))
+
+pub empty-fits : (r : Network) (i j : ℕ) → is_channel i j ≡ true → row_of r.counts i j ≡ 0 → channel_in_shape (network_of r) i j ≡ true
+empty-fits r i j e z = few-fit r i j 0 e (sym z) (omega arith) ∙ nothing_left r i j 0 _ refl

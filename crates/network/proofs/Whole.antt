@@ -1,13 +1,13 @@
 -- The whole shape, in the order in which the code tests it; and the masks that it takes of a network's agents are theirs.
 use Prim.Native.Nat.{ℕ, zero, suc, ◌+◌, ◌%◌, ◌≤◌, ◌<◌}
 use mathlib.Core.Path.{◌≡◌, refl, sym, ◌∙◌}
-use mathlib.Core.Bool.{Bool, true, false, ◌&&◌, and_comm, false≢true}
+use mathlib.Core.Bool.{Bool, true, false, ◌&&◌, and-false, false≢true}
 use mathlib.Core.List.{List, [], ◌∷◌, map}
 use lib.ListN.{length, get_or}
 use native.Mathlib.Omega.{arith}
-use borrow.Author.Tests.{eqb-true, eq-eqb}
+use borrow.Author.Tests.{eq-eqb}
 use Rattle.base.specs.Finite.{from_one, all_to}
-use Rattle.base.proofs.Tests.{test, eq_test, both}
+use Rattle.base.proofs.Tests.{test, eq_test}
 use Rattle.base.proofs.Search.{all_to-at, to-all_to}
 use Rattle.problem.specs.Problem.{max_agents, max_pairs, sized, domain, in_range}
 use Rattle.problem.proofs.Range.{ranged as in-range}
@@ -23,8 +23,8 @@ use Rattle.network.specs.declared.Network.{Network}
 use Rattle.packed.proofs.Sets.{no-members}
 use Rattle.clauses.proofs.Links.{agents-pass}
 use Rattle.clauses.proofs.Ranges.{small-domain}
-use Rattle.network.specs.Looking.{channels_in_shape, Linking, Framed}
-use Rattle.network.specs.declared.framing.Frame.{Frame}
+use Rattle.network.specs.Looking.{channels_in_shape}
+use Rattle.clauses.specs.Frames.{Framing}
 
 -- ---- the masks
 
@@ -46,14 +46,17 @@ module _ (set : Agent' → ℕ → Bool) (mask : Agent → ℕ) (is : (a : Agent
   sets-are agents zero = none j ∙ sym (no-members j)
   sets-are agents (suc k) = set-in agents k
 
-pub linking : (r : Network) (listeners informers : List ℕ) → listeners ≡ map listens_of r.agents → informers ≡ map informs_of r.agents
-    → Linking listeners informers (network_of r)
-unfolding network_of agent_of unused_agent
-linking r listeners informers e f =
+-- the frame is the network's
+pub framing : (r : Network) (domains : ℕ) (listeners informers : List ℕ) → ((k : ℕ) → assignment domains k ≡ domain (problem_of r) k % 16)
+    → listeners ≡ map listens_of r.agents → informers ≡ map informs_of r.agents → in_range (problem_of r) ≡ true
+    → Framing (network_of r) (record { count = r.count; verdict = r.verdict; domains = domains; listens = listeners; informs = informers })
+unfolding network_of problem_of agent_of unused_agent
+framing r domains listeners informers d e f t =
     rw (e, f)
-    (record {
-      listens = λ k j. sets-are (λ a. a.listens) listens_of (λ a i. refl) (λ i. refl) j r.agents k;
-      informs = λ k j. sets-are (λ a. a.informs) informs_of (λ a i. refl) (λ i. refl) j r.agents k;
+    (let owned : Domains (problem_of r) domains = λ k. d k ∙ small-domain (problem_of r) (in-range (problem_of r) t) k in
+    record {
+      agents = record { count-is = refl; verdict-is = refl; owned = owned; informs = λ k j. sets-are (λ a. a.informs) informs_of (λ a i. refl) (λ i. refl) j r.agents k };
+      messages = record { owned = owned; listens = λ k j. sets-are (λ a. a.listens) listens_of (λ a i. refl) (λ i. refl) j r.agents k };
     })
 
 -- ---- the arrays have their lengths
@@ -61,10 +64,6 @@ linking r listeners informers e f =
 pub lengths : (r : Network) → length r.domains ≡ 12 → length r.bans ≡ 66 → sized (problem_of r) ≡ true
 unfolding sized problem_of max_agents max_pairs
 lengths r d b = rw (eq-eqb (length r.domains) 12 d, eq-eqb (length r.bans) 66 b)
-
-pub wide-domains : (r : Network) → sized (problem_of r) ≡ true → length r.domains ≡ 12
-unfolding sized problem_of max_agents max_pairs
-wide-domains r h = eqb-true (length r.domains) 12 (both _ _ h).0
 
 -- ---- the problem and the rule, the agents, the channels
 
@@ -75,20 +74,20 @@ whole : (r : Network) → in_shape (network_of r) ≡ in_range (problem_of r) &&
 unfolding in_shape agents_in_shape channels_in_shape network_of
 whole r = refl
 
--- the rule and the problem, as the code tests them
-pub head-unfit : (r : Network) → is_rule r.rule && in_range (problem_of r) ≡ false → in_shape (network_of r) ≡ false
-head-unfit r e = whole r ∙ rw (and_comm (in_range (problem_of r)) (is_rule r.rule), e)
+-- the rule and the problem
+pub no-rule : (r : Network) → is_rule r.rule ≡ false → in_shape (network_of r) ≡ false
+no-rule r e = whole r ∙ rw (e, and-false (in_range (problem_of r)))
 
--- the problem and the rule are in range and the agents 1 to i pass; the word has the domains, the masks are the agents'
-pub record AgentsFit (r : Network) (domains : ℕ) (listens informs : List ℕ) (i : ℕ) : Type 0 where
-  pub few : i ≤ 12
+pub no-range : (r : Network) → in_range (problem_of r) ≡ false → in_shape (network_of r) ≡ false
+no-range r e = whole r ∙ rw e
+
+-- the problem and the rule are in range and the agents 1 to i pass
+pub record AgentsFit (r : Network) (i : ℕ) : Type 0 where
   pub ranged : in_range (problem_of r) ≡ true
   pub ruled : is_rule r.rule ≡ true
-  pub owned : Domains (problem_of r) domains
-  pub links : Linking listens informs (network_of r)
   pub agents : (x : ℕ) → 1 ≤ x → x ≤ i → agent_passes (network_of r) x ≡ true
 
-module _ (r : Network) (domains : ℕ) (listens informs : List ℕ) (i : ℕ) (a : AgentsFit r domains listens informs i) where
+module _ (r : Network) (i : ℕ) (a : AgentsFit r i) where
   passing : agents_in_shape r ≡ all_to 12 (agent_passes (network_of r))
   unfolding agents_in_shape max_agents network_of
   passing = agents-pass (network_of r) (in-range (problem_of r) a.ranged).high
@@ -102,63 +101,14 @@ module _ (r : Network) (domains : ℕ) (listens informs : List ℕ) (i : ℕ) (a
           (λ t. absurd (false≢true (sym e ∙ all_to-at 12 (agent_passes (network_of r)) t (i + 1) (omega arith) (omega arith))))
           (λ t. t)
 
-  pub agent-passed : i < 12 → agent_passes (network_of r) (i + 1) ≡ true → AgentsFit r domains listens informs (i + 1)
-  agent-passed h e =
+  pub agent-passed : agent_passes (network_of r) (i + 1) ≡ true → AgentsFit r (i + 1)
+  agent-passed e =
       record {
-        few = omega arith;
         ranged = a.ranged;
         ruled = a.ruled;
-        owned = a.owned;
-        links = a.links;
         agents = λ x l u. eq_test x (i + 1) (λ q. rw q e) (λ n. a.agents x l (omega (arith, n)));
       }
 
   -- only the channels are left
   pub agents-passed : 12 ≤ i → in_shape (network_of r) ≡ channels_in_shape r
   agents-passed h = whole r ∙ rw (a.ranged, a.ruled, passing, to-all_to 12 (agent_passes (network_of r)) (λ x l u. a.agents x l (omega arith)))
-
--- ---- all but the lines
-
--- so far all fits, or the shape is broken; the masks are the agents'
-pub record Fitting (r : Network) (domains : ℕ) (listens informs : List ℕ) (fits : Bool) (i : ℕ) : Type 0 where
-  pub yet : fits ≡ true → AgentsFit r domains listens informs i
-  pub broken : fits ≡ false → in_shape (network_of r) ≡ false
-  pub masks : Linking listens informs (network_of r)
-
--- the rule and the problem are tested
-pub headed : (r : Network) (domains : ℕ) (listens informs : List ℕ) (rule range : Bool) → is_rule r.rule ≡ rule → in_range (problem_of r) ≡ range
-    → ((k : ℕ) → assignment domains k ≡ domain (problem_of r) k % 16) → Linking listens informs (network_of r)
-    → Fitting r domains listens informs (rule && range) 0
-headed r domains listens informs rule range a b d l =
-    record {
-      yet = λ t. let q = both rule range t in record {
-        few = omega arith;
-        ranged = b ∙ q.1;
-        ruled = a ∙ q.0;
-        owned = λ k. d k ∙ small-domain (problem_of r) (in-range (problem_of r) (b ∙ q.1)) k;
-        links = l;
-        agents = λ x h u. absurd (omega arith);
-      };
-      broken = λ t. head-unfit r (rw (a, b) t);
-      masks = l;
-    }
-
--- the next agent is tested
-pub passes : (r : Network) (domains : ℕ) (listens informs : List ℕ) (i : ℕ) (b : Bool) → Fitting r domains listens informs true i → i < 12
-    → agent_passes (network_of r) (i + 1) ≡ b → Fitting r domains listens informs b (i + 1)
-passes r domains listens informs i b f h e =
-    record {
-      yet = λ t. agent-passed r domains listens informs i (f.yet refl) h (e ∙ t);
-      broken = λ t. agent-unfit r domains listens informs i (f.yet refl) h (e ∙ t);
-      masks = f.masks;
-    }
-
--- all are
-pub framed : (r : Network) (f : Frame) (i : ℕ) → Fitting r f.domains f.listens f.informs f.fits i → (f.fits ≡ true → 12 ≤ i) → Framed r f
-framed r f i q h =
-    record {
-      broken = q.broken;
-      lines = λ t. agents-passed r f.domains f.listens f.informs i (q.yet t) (h t);
-      owned = λ t. (q.yet t).owned;
-      links = q.masks;
-    }

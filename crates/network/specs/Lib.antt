@@ -1,3 +1,4 @@
 pub mod Abstract
 pub mod Empty
 pub mod Looking
+pub mod Asked

@@ -1,52 +1,48 @@
 // All of the shape but the lines.
-ghost use Rattle.network.specs.Looking.{Holding, Framed};
+ghost use Rattle.std.specs.Prelude.{◌≡◌, true, false, MatchOption};
+ghost use Rattle.problem.specs.Problem.{in_range};
+ghost use Rattle.protocol.specs.Shape.{in_shape};
+ghost use Rattle.clauses.specs.Frames.{Framing};
+ghost use Rattle.network.specs.Abstract.{problem_of, network_of};
+ghost use Rattle.network.specs.Looking.{Framed};
 
 use crate::{Network, is_rule};
-use agent::Agent;
-use clauses::agents::agent_passes;
+use clauses::frames::Frame;
 use clauses::range::{domain_digits, in_range};
 
-// Whether all but the lines is in shape, and what the test of the lines goes by: the domains as digits, and every agent's sets.
-#[derive(Clone, Copy)]
-pub struct Frame {
-    pub fits: bool,
-    pub domains: u64,
-    pub listens: [u16; 12],
-    pub informs: [u16; 12],
-}
+impl Network {
+    // What the tests of the agents and of the lines go by.
+    fn frame(&self) -> Frame
+        ensures { in_range (problem_of self.now) ≡ true → Framing (network_of self.now) result }
+    {
+        let mut listens = [0u16; 12];
+        let mut informs = [0u16; 12];
+        for (k, a) in self.agents.iter().enumerate() {
+            listens[k] = a.listens;
+            informs[k] = a.informs;
+        }
+        Frame {
+            count: self.count,
+            verdict: self.verdict,
+            domains: domain_digits(&self.domains),
+            listens,
+            informs,
+        }
+    }
 
-// The rule, the problem and the agents are tested, in this order.
-pub fn frame_of<'a>(
-    count: u8,
-    rule: u8,
-    verdict: bool,
-    domains: &'a [u8; 12],
-    bans: &'a [u64; 66],
-    agents: [Agent; 12],
-) -> Frame
-    ensures { (r : Network) → Holding r count rule verdict domains.now bans.now agents → Framed r result }
-{
-    let mut listens = [0u16; 12];
-    let mut informs = [0u16; 12];
-    let mut k: usize = 0;
-    while k < 12 {
-        let a = agents[k];
-        listens[k] = a.listens;
-        informs[k] = a.informs;
-        k += 1;
-    }
-    let digits = domain_digits(domains);
-    let mut fits = is_rule(rule) & in_range(count, domains, bans);
-    let mut i: u8 = 0;
-    while fits & (i < 12) {
-        let a = agents[i as usize];
-        i += 1;
-        fits = agent_passes(count, verdict, digits, &informs, bans, i, a);
-    }
-    Frame {
-        fits: fits,
-        domains: digits,
-        listens: listens,
-        informs: informs,
+    // The rule, the problem and the agents are tested, in this order. What the test of the lines goes by, where all of them are in shape.
+    pub(crate) fn framed(&self) -> Option<Frame>
+        ensures { MatchOption result (in_shape (network_of self.now) ≡ false) (λ f. Framed self.now f) }
+    {
+        if !is_rule(self.rule) || !in_range(self.count, &self.domains, &self.bans) {
+            return None;
+        }
+        let frame = self.frame();
+        for (k, a) in self.agents.iter().enumerate() {
+            if !frame.agent_passes(&self.bans, k as u8 + 1, *a) {
+                return None;
+            }
+        }
+        Some(frame)
     }
 }

@@ -6,16 +6,14 @@ ghost use Rattle.protocol.specs.Network.{empty_network, is_rule};
 ghost use Rattle.protocol.specs.Shape.{in_shape};
 ghost use Rattle.protocol.specs.Delivery.{answer_number, ask_value};
 ghost use Rattle.network.specs.Abstract.{network_of};
+ghost use Rattle.network.specs.Asked.{asked_number, asked_value};
 ghost use Rattle.network.specs.Empty.{empty_record};
 
-pub mod framing;
-pub mod sweeping;
+mod framing;
+mod lines;
 
-use crate::framing::frame_of;
-use crate::sweeping::Sweep;
 use agent::{Agent, Counts, Lhs, Message};
-use clauses::places::{channel_at, place_at};
-use packed::digit;
+use refusals::Refusal;
 
 // One place of a channel.
 #[derive(Clone, Copy)]
@@ -38,49 +36,39 @@ pub struct Network {
     pub places: [Place; 1056],
 }
 
-// Number 0 and the value, or a rejection's number and 0.
-#[derive(Clone, Copy)]
-pub struct Asked {
-    pub number: u8,
-    pub value: u8,
-}
-
 // The empty rail: n = 0, all else zero, and every place holds the same message.
 pub fn empty() -> Network
     ensures { (result ≡ empty_record) × (network_of result ≡ empty_network) }
 {
-    let nobody = Lhs { digits: 0 };
     let none = Counts {
         infos: 0,
         backs: 0,
         links: 0,
     };
-    let agent = Agent {
+    let nobody = Agent {
         value: 0,
         last: 0,
         stored: 0,
         listens: 0,
         informs: 0,
-        view: nobody,
+        view: Lhs { digits: 0 },
         nogoods: [0; 8],
         sent: none,
         received: none,
     };
-    let agents = [agent; 12];
-    let place = Place {
+    let nothing = Place {
         message: Message::Info(0),
     };
-    let places = [place; 1056];
     Network {
         count: 0,
         rule: 0,
         domains: [0; 12],
         bans: [0; 66],
         verdict: false,
-        agents: agents,
+        agents: [nobody; 12],
         heads: [0; 12],
         counts: [0; 12],
-        places: places,
+        places: [nothing; 1056],
     }
 }
 
@@ -88,53 +76,39 @@ pub fn empty() -> Network
 pub fn is_rule(rule: u8) -> bool
     ensures { result ≡ is_rule rule }
 {
-    (0 < rule) & (rule <= 2)
+    0 < rule && rule <= 2
 }
 
 // The shape of any network at all, forged ones included.
 pub fn in_shape(r: Network) -> bool
     ensures { result ≡ in_shape (network_of r) }
 {
-    let agents = r.agents;
-    let f = frame_of(r.count, r.rule, r.verdict, &r.domains, &r.bans, agents);
-    let mut s = Sweep::begin(f, &r.counts);
-    while !s.over {
-        let head = digit(r.heads[s.from as usize - 1], s.to);
-        let place = r.places[place_at(channel_at(s.from, s.to), head, s.left - 1)];
-        let m = place.message;
-        s = s.after(f, &r.counts, m);
+    r.is_in_shape()
+}
+
+impl Network {
+    // The shape of the network where it stands: it isn't copied.
+    pub fn is_in_shape(&self) -> bool
+        ensures { result ≡ in_shape (network_of self.now) }
+    {
+        match self.framed() {
+            Some(frame) => self.lines_fit(&frame),
+            None => false,
+        }
     }
-    s.fits
 }
 
 // ---- asking a value
 
-// The value of agent i: 0 and no rejection where the verdict left it without one.
-pub fn value(r: Network, i: u8) -> Asked
-    ensures { (result.number ≡ answer_number (ask_value (network_of r) i).answer) × (result.value ≡ (ask_value (network_of r) i).value) }
+// The value of agent i: 0 and no refusal where the verdict left it without one.
+pub fn value(r: Network, i: u8) -> Result<u8, Refusal>
+    ensures { let asked = ask_value (network_of r) i in (asked_number result ≡ answer_number asked.answer) × (asked_value result ≡ asked.value) }
 {
-    if !in_shape(r) {
-        return Asked {
-            number: 5,
-            value: 0,
-        };
-    }
-    if i == 0 {
-        return Asked {
-            number: 6,
-            value: 0,
-        };
-    }
-    if r.count < i {
-        return Asked {
-            number: 6,
-            value: 0,
-        };
-    }
-    let at = i as usize - 1;
-    let a = r.agents[at];
-    Asked {
-        number: 0,
-        value: a.value,
+    if !r.is_in_shape() {
+        Err(Refusal::BadShape)
+    } else if i == 0 || r.count < i {
+        Err(Refusal::BadNumbers)
+    } else {
+        Ok(r.agents[i as usize - 1].value)
     }
 }

@@ -1,9 +1,9 @@
 -- Reading a number, digit by digit: what is read so far, with the digits left, says the same number. A number only grows with its digits, so
 -- one that has come to the top stays there.
-use mathlib.Core.Path.{◌≡◌, refl, sym, ap, ◌∙◌}
+use mathlib.Core.Path.{◌≡◌, sym, ap, ◌∙◌}
 use mathlib.Core.Bool.{true, false, ◌&&◌}
 use mathlib.Core.List.{List, [], ◌∷◌}
-use Prim.Native.Nat.{ℕ, ◌+◌, ◌*◌, ◌-◌, ◌^◌, ◌≤◌, ◌<◌}
+use Prim.Native.Nat.{min, ℕ, ◌+◌, ◌*◌, ◌-◌, ◌^◌, ◌≤◌, ◌<◌}
 use native.Mathlib.Omega.{arith}
 use native.Mathlib.Numerals.{add-one}
 use lib.Dec.{ltb, leb}
@@ -12,20 +12,20 @@ use lib.Seq.{drop-cons, drop-length}
 use borrow.Author.Tests.{le-leb, lt-leb, lt-ltb, leb-true, ltb-true, ltb-false}
 use Rattle.base.specs.Finite.{every}
 use Rattle.base.proofs.Tests.{test}
-use Rattle.numerals.specs.declared.Number.TheVariants.{Of, Nothing}
+use Rattle.std.specs.Prelude.{Some, None}
 use Rattle.numerals.specs.Reading.{is_digit, value_from, top, capped, is_number, number_in}
 
 -- ---- what is a number
 
-pub no-digits : (s : List ℕ) → length s ≡ 0 → number_in s ≡ Nothing
+pub no-digits : (s : List ℕ) → length s ≡ 0 → number_in s ≡ None
 unfolding number_in is_number
 no-digits s e = rw (e, number_in)
 
-pub not-digits : (s : List ℕ) → every is_digit s ≡ false → number_in s ≡ Nothing
+pub not-digits : (s : List ℕ) → every is_digit s ≡ false → number_in s ≡ None
 unfolding number_in is_number
 not-digits s e = test (ltb 0 (length s)) (λ t. rw (t, e, number_in)) (λ t. rw (t, number_in))
 
-pub is-number : (s : List ℕ) → 0 < length s → every is_digit s ≡ true → number_in s ≡ Of (capped (value_from 0 s))
+pub is-number : (s : List ℕ) → 0 < length s → every is_digit s ≡ true → number_in s ≡ Some (capped (value_from 0 s))
 unfolding number_in is_number
 is-number s l d = rw (lt-ltb 0 (length s) l, d, number_in)
 
@@ -46,6 +46,12 @@ capped-high k h =
     test (leb k (2 ^ 64 - 1))
     (λ t. rw (t, capped) (omega (arith, leb-true k (2 ^ 64 - 1) t)))
     (λ t. rw (t, capped))
+
+pub capped-least : (k : ℕ) → capped k ≡ min k (2 ^ 64 - 1)
+capped-least k =
+    test (ltb k (2 ^ 64))
+    (λ t. let h = ltb-true k (2 ^ 64) t in omega (arith, capped-low k h))
+    (λ t. let h = ltb-false k (2 ^ 64) t in omega (arith, capped-high k (omega arith)))
 
 capped_fits : (k : ℕ) → capped k < 2 ^ 64
 capped_fits k =
@@ -73,9 +79,6 @@ pub record Reading (s : List ℕ) (value i : ℕ) : Type 0 where
   pub says : capped (value_from 0 s) ≡ capped (value_from value (drop i s))
   pub digits : every is_digit s ≡ every is_digit (drop i s)
 
-pub reading_begins : (s : List ℕ) → 0 < length s → Reading s 0 0
-reading_begins s l = record { few = omega arith; some = l; small = omega arith; says = refl; digits = refl }
-
 module _ (s : List ℕ) (value i : ℕ) (R : Reading s value i) (l : i < length s) where
   next : drop i s ≡ get_or s i 0 ∷ drop (i + 1) s
   next = rw add-one (drop-cons s i 0 l)
@@ -88,11 +91,11 @@ module _ (s : List ℕ) (value i : ℕ) (R : Reading s value i) (l : i < length 
   unfolding value_from
   value-next = R.says ∙ ap (λ (l : List ℕ). capped (value_from value l)) next
 
-  pub low_byte : get_or s i 0 < 48 → number_in s ≡ Nothing
+  pub low_byte : get_or s i 0 < 48 → number_in s ≡ None
   unfolding is_digit
   low_byte h = not-digits s (digits-next ∙ rw (lt-leb 48 (get_or s i 0) h))
 
-  pub high_byte : 48 ≤ get_or s i 0 → 57 < get_or s i 0 → number_in s ≡ Nothing
+  pub high_byte : 48 ≤ get_or s i 0 → 57 < get_or s i 0 → number_in s ≡ None
   unfolding is_digit
   high_byte k h = not-digits s (digits-next ∙ rw (le-leb 48 (get_or s i 0) k, lt-leb (get_or s i 0) 57 h))
 
@@ -107,10 +110,10 @@ module _ (s : List ℕ) (value i : ℕ) (R : Reading s value i) (l : i < length 
         digits = digits-next ∙ rw (le-leb 48 (get_or s i 0) k, le-leb (get_or s i 0) 57 h);
       }
 
-pub reading-ends : (s : List ℕ) (value i : ℕ) → Reading s value i → length s ≤ i → Of value ≡ number_in s
+pub reading-ends : (s : List ℕ) (value i : ℕ) → Reading s value i → length s ≤ i → Some value ≡ number_in s
 unfolding every value_from
 reading-ends s value i R l =
     let e : i ≡ length s = omega (arith, R.few) in
     let none : drop i s ≡ [] = rw e (drop-length s) in
     let v : capped (value_from 0 s) ≡ value = R.says ∙ ap (λ (l : List ℕ). capped (value_from value l)) none ∙ capped-low value R.small in
-    sym (is-number s R.some (R.digits ∙ ap (every is_digit) none) ∙ ap Of v)
+    sym (is-number s R.some (R.digits ∙ ap (every is_digit) none) ∙ ap Some v)

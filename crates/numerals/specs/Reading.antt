@@ -1,8 +1,6 @@
 -- What a word means as a number: "Numbers are digits only, of any length; leading zeros do no harm."
-use Rattle.std.specs.Prelude.{ℕ, ◌+◌, ◌*◌, ◌-◌, ◌^◌, Bool, true, false, ◌&&◌, List, [], ◌∷◌, ltb, leb, length}
+use Rattle.std.specs.Prelude.{ℕ, ◌+◌, ◌*◌, ◌-◌, ◌^◌, Bool, true, false, ◌&&◌, List, [], ◌∷◌, Option, Some, None, ltb, leb, length}
 use Rattle.base.specs.Finite.{every}
-use Rattle.numerals.specs.declared.Number.{Number}
-use Rattle.numerals.specs.declared.Number.TheVariants.{Of, Nothing}
 
 -- '0' to '9'
 unfoldable pub is_digit : ℕ → Bool
@@ -24,5 +22,5 @@ capped k = elim (leb k top) [ true ↦ k | false ↦ top ]
 unfoldable pub is_number : List ℕ → Bool
 is_number s = ltb 0 (length s) && every is_digit s
 
-unfoldable pub number_in : List ℕ → Number
-number_in s = elim (is_number s) [ true ↦ Of (capped (value_from 0 s)) | false ↦ Nothing ]
+unfoldable pub number_in : List ℕ → Option ℕ
+number_in s = elim (is_number s) [ true ↦ Some (capped (value_from 0 s)) | false ↦ None ]

@@ -1,28 +1,30 @@
 -- One turn of the loops through the choices, each by the definition of what is left to do; and the slots of a choice.
 use Prim.Native.Nat.{ℕ, zero, suc, ◌+◌, ◌-◌, ◌≤◌, ◌<◌}
-use mathlib.Core.Path.{◌≡◌, refl, ap}
-use mathlib.Core.Bool.{Bool, true, false}
+use mathlib.Core.Path.{◌≡◌, refl, ap, ◌∙◌}
+use mathlib.Core.Bool.{true, false}
 use mathlib.Core.List.{List}
 use native.Mathlib.Omega.{arith}
-use lib.Dec.{ltb}
+use lib.Dec.{leb}
 use lib.ListN.{length, get_or, set}
-use borrow.Author.Tests.{lt-ltb, le-ltb}
+use borrow.Author.Tests.{lt-ltb, le-ltb, leb-true, leb-false}
+use Rattle.base.proofs.Tests.{test}
 use Rattle.base.proofs.Arrays.{get_d_past}
 use Rattle.oracle.specs.Bytes.{slots_of}
 use Rattle.oracle.specs.Bans.{slot_in, obeys_all}
-use Rattle.oracle.specs.Choices.{with_slot, turned, carried_at, carried_from, next_choice, solvable_from}
+use Rattle.std.proofs.Common.{Some, None}
+use Rattle.oracle.specs.Choices.{with_slot, next_from, next_choice, solvable_from}
 use Rattle.oracle.specs.declared.choices.Choice.{Choice}
 
 -- ---- slots
 
-pub slot-none : (c : List ℕ) (i : ℕ) → i ≡ 0 → slot_in c i ≡ 0
+-- there is no scanner 0, and none past the last
+pub slot-none : (c : List ℕ) (i : ℕ) → (0 < i → i ≤ length c → ⊥) → slot_in c i ≡ 0
 unfolding slot_in
-slot-none c i e = rw e
-
-pub slot-past : (c : List ℕ) (i : ℕ) → length c < i → slot_in c i ≡ 0
-unfolding slot_in
-slot-past c zero l = refl
-slot-past c (suc k) l = get_d_past c k 0 (omega arith)
+slot-none c zero n = refl
+slot-none c (suc k) n = le_test (length c) k (λ l. get_d_past c k 0 l) (λ l. absurd (n (omega arith) (omega arith)))
+  where
+    le_test : {C : Type 0} (a b : ℕ) → (a ≤ b → C) → (b < a → C) → C
+    le_test a b f g = test (leb a b) (λ t. f (leb-true a b t)) (λ t. g (leb-false a b t))
 
 pub slot_at : (c : List ℕ) (i : ℕ) → 0 < i → slot_in c i ≡ get_or c (i - 1) 0
 unfolding slot_in
@@ -31,34 +33,22 @@ slot_at c (suc k) l = let e : suc k - 1 ≡ k = omega arith in rw e
 
 -- ---- the next choice
 
-pub carried-stays : (c : Choice) (i slots : ℕ) → c.over ≡ false → carried_at c i slots ≡ c
-unfolding carried_at
-carried-stays c i slots e = let made : Bool → Choice = λ b. record { of = c.of; over = b } in rw (e, carried_at) (ap made e)
+pub next_none : (left : ℕ) (s : List ℕ) (i : ℕ) (c : List ℕ) → left ≡ 0 → next_from left s i c ≡ None
+unfolding next_from
+next_none left s i c e = rw e
 
-pub carried-next : (c : Choice) (i slots : ℕ) → c.over ≡ true → 0 < i → get_or c.of (i - 1) 0 < slots
-    → carried_at c i slots ≡ record { of = set c.of (i - 1) (get_or c.of (i - 1) 0 + 1); over = false }
-unfolding with_slot turned carried_at
-carried-next c i slots e l h =
-    let more : ltb (slot_in c.of i) slots ≡ true = rw (slot_at c.of i l) (lt-ltb (get_or c.of (i - 1) 0) slots h) in
-    rw (e, carried_at, more, turned, slot_at c.of i l)
+pub next-here : (left : ℕ) (s : List ℕ) (i : ℕ) (c : List ℕ) → 0 < left → 0 < i → get_or c (i - 1) 0 < slots_of s i
+    → next_from left s i c ≡ Some (record { of = set c (i - 1) (get_or c (i - 1) 0 + 1) })
+unfolding with_slot next_from
+next-here zero s i c l n h = absurd (omega arith)
+next-here (suc left) s i c l n h = rw (next_from, slot_at c i n, lt-ltb (get_or c (i - 1) 0) (slots_of s i) h, slot_at c i n)
 
-pub carried-again : (c : Choice) (i slots : ℕ) → c.over ≡ true → 0 < i → slots ≤ get_or c.of (i - 1) 0
-    → carried_at c i slots ≡ record { of = set c.of (i - 1) 1; over = c.over }
-unfolding with_slot turned carried_at
-carried-again c i slots e l h =
-    let none : ltb (slot_in c.of i) slots ≡ false = rw (slot_at c.of i l) (le-ltb (get_or c.of (i - 1) 0) slots h) in
-    rw (e, carried_at, none, turned)
-
-pub carried_none : (left : ℕ) (s : List ℕ) (i : ℕ) (c : Choice) → left ≤ 0 → carried_from left s i c ≡ c
-unfolding carried_from
-carried_none zero s i c l = refl
-carried_none (suc left) s i c l = absurd (omega arith)
-
--- scanner i of twelve is gone through
-pub carried-goes : (i : ℕ) (s : List ℕ) (c : Choice) → i < 13
-    → carried_from (13 - i) s i c ≡ carried_from (13 - (i + 1)) s (i + 1) (carried_at c i (slots_of s i))
-unfolding carried_from
-carried-goes i s c l = let e : 13 - i ≡ suc (13 - (i + 1)) = omega arith in rw e
+pub next-later : (left : ℕ) (s : List ℕ) (i : ℕ) (c : List ℕ) → 0 < left → 0 < i → slots_of s i ≤ get_or c (i - 1) 0
+    → next_from left s i c ≡ next_from (left - 1) s (i + 1) (set c (i - 1) 1)
+unfolding with_slot next_from
+next-later zero s i c l n h = absurd (omega arith)
+next-later (suc left) s i c l n h =
+    let e : suc left - 1 ≡ left = omega arith in rw (e, next_from, slot_at c i n, le-ltb (get_or c (i - 1) 0) (slots_of s i) h)
 
 -- ---- the search
 
@@ -72,19 +62,13 @@ unfolding solvable_from
 solvable-ends zero s c l = refl
 solvable-ends (suc left) s c l = absurd (omega arith)
 
-pub solvable-over : (left : ℕ) (s : List ℕ) (c : Choice) → 0 < left → obeys_all s c.of ≡ false → (next_choice s c).over ≡ true
-    → solvable_from left s c ≡ false
-unfolding solvable_from
-solvable-over zero s c l e h = absurd (omega arith)
-solvable-over (suc left) s c l e h = rw (e, solvable_from, h)
+module _ (left : ℕ) (s : List ℕ) (c : Choice) (l : 0 < left) (e : obeys_all s c.of ≡ false) where
+  pub solvable-over : next_choice s c ≡ None → solvable_from left s c ≡ false
+  unfolding solvable_from
+  solvable-over h = let n : left ≡ suc (left - 1) = omega arith in rw (n, solvable_from, e, solvable_from, h)
 
-pub solvable-goes : (left : ℕ) (s : List ℕ) (c : Choice) → 0 < left → obeys_all s c.of ≡ false → (next_choice s c).over ≡ false
-    → solvable_from left s c ≡ solvable_from (left - 1) s (next_choice s c)
-unfolding solvable_from
-solvable-goes zero s c l e h = absurd (omega arith)
-solvable-goes (suc left) s c l e h =
-    let t : suc left - 1 ≡ left = omega arith in
-    rw (t, e, solvable_from) (kept (next_choice s c).over (solvable_from left s (next_choice s c)) h)
-  where
-    kept : (over found : Bool) → over ≡ false → elim over [ true ↦ false | false ↦ found ] ≡ found
-    kept over found h = rw h
+  pub solvable-goes : (next : Choice) → next_choice s c ≡ Some next → solvable_from left s c ≡ solvable_from (left - 1) s next
+  unfolding solvable_from
+  solvable-goes next h =
+      let n : left ≡ suc (left - 1) = omega arith in
+      ap (λ (m : ℕ). solvable_from m s c) n ∙ rw (solvable_from, e, solvable_from, h)

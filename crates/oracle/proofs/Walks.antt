@@ -1,90 +1,78 @@
 -- One turn of the loops of the second reading, each by the definition of what is left to do: the numbers 1 to n, the marked bytes, the chain.
 use Prim.Native.Nat.{ℕ, zero, suc, ◌+◌, ◌-◌, ◌≤◌, ◌<◌}
-use mathlib.Core.Path.{◌≡◌, refl}
-use mathlib.Core.Bool.{Bool, true, false, ◌&&◌, false≢true}
+use mathlib.Core.Path.{◌≡◌, refl, sym, ◌∙◌}
+use mathlib.Core.Bool.{Bool, true, false, and-false, false≢true}
 use mathlib.Core.List.{List, [], ◌∷◌}
 use native.Mathlib.Omega.{arith}
 use native.Mathlib.Numerals.{add-one}
-use lib.Dec.{ltb}
-use lib.ListN.{length, get_or, drop}
-use lib.Seq.{drop-cons}
-use borrow.Author.Tests.{ltb-true, lt-ltb, eq-eqb, ne_eqb}
-use Rattle.base.proofs.Tests.{both}
+use lib.ListN.{length, get_or}
+use borrow.Author.Tests.{eq-eqb, ne_eqb}
+use Rattle.std.proofs.Common.{MatchBool}
+use Rattle.std.specs.List.{HoldsAt, AllWithin}
+use Rattle.base.proofs.Tests.{test, eq_test, both}
 use Rattle.oracle.specs.Buffers.{all_marked}
 use Rattle.oracle.specs.Bytes.{next_of, each_to}
 use Rattle.oracle.specs.Faults.{record_right, chain_fault}
 use Rattle.oracle.specs.Bans.{chain_from, some_of}
 
--- ---- each of 1 to n, from n down
+-- ---- each of 1 to n, from 1 up
 
-pub each_none : (n : ℕ) (f : ℕ → Bool) → n ≤ 0 → each_to n f ≡ true
+pub each_more : (k : ℕ) (f : ℕ → Bool) → each_to k f ≡ true → f (k + 1) ≡ true → each_to (k + 1) f ≡ true
 unfolding each_to
-each_none zero f h = refl
-each_none (suc n) f h = absurd (omega arith)
+each_more k f t h = rw add-one (rw (rw add-one at h) t)
 
-pub each-fails : (n : ℕ) (f : ℕ → Bool) → 0 < n → f n ≡ false → each_to n f ≡ false
+each-one : (n : ℕ) (f : ℕ → Bool) → each_to n f ≡ true → (k : ℕ) → 1 ≤ k → k ≤ n → f k ≡ true
 unfolding each_to
-each-fails zero f l h = absurd (omega arith)
-each-fails (suc n) f l h = rw h
+each-one zero f t k l h = absurd (omega arith)
+each-one (suc n) f t k l h =
+    let b = both (f (suc n)) (each_to n f) t in
+    eq_test k (suc n) (λ e. rw e b.0) (λ e. each-one n f b.1 k l (omega (arith, e)))
 
-pub each_goes : (n : ℕ) (f : ℕ → Bool) → 0 < n → f n ≡ true → each_to n f ≡ each_to (n - 1) f
-unfolding each_to
-each_goes zero f l h = absurd (omega arith)
-each_goes (suc n) f l h = let e : suc n - 1 ≡ n = omega arith in rw (h, e)
+pub each-fails : (n : ℕ) (f : ℕ → Bool) (k : ℕ) → 1 ≤ k → k ≤ n → f k ≡ false → each_to n f ≡ false
+each-fails n f k l h e = test (each_to n f) (λ t. absurd (false≢true (sym e ∙ each-one n f t k l h))) (λ t. t)
 
--- ---- the marked bytes from byte i on
+-- ---- marked bytes: a search for one that isn't
 
-drop_past : (bytes : List ℕ) (i : ℕ) → length bytes ≤ i → drop i bytes ≡ []
-drop_past [] zero h = refl
-drop_past [] (suc i) h = refl
-drop_past (b ∷ bs) zero h = absurd (omega arith)
-drop_past (b ∷ bs) (suc i) h = drop_past bs i (omega arith)
-
-pub marks-end : (bytes : List ℕ) (i : ℕ) → length bytes ≤ i → all_marked (drop i bytes) ≡ true
+marks : (xs : List ℕ) → ((k : ℕ) → k < length xs → get_or xs k 0 ≡ 170) → all_marked xs ≡ true
 unfolding all_marked
-marks-end bytes i h = rw (drop_past bytes i h)
+marks [] h = refl
+marks (b ∷ bs) h = rw (eq-eqb b 170 (h 0 (omega arith))) (marks bs (λ k l. h (suc k) (omega arith)))
 
-pub marks-fail : (bytes : List ℕ) (i : ℕ) → i < length bytes → (get_or bytes i 0 ≡ 170 → ⊥) → all_marked (drop i bytes) ≡ false
+misses : (xs : List ℕ) (k : ℕ) → k < length xs → (get_or xs k 0 ≡ 170 → ⊥) → all_marked xs ≡ false
 unfolding all_marked
-marks-fail bytes i l h = rw (drop-cons bytes i 0 l, ne_eqb (get_or bytes i 0) 170 h)
+misses [] k l n = absurd (omega arith)
+misses (b ∷ bs) zero l n = rw (ne_eqb b 170 n)
+misses (b ∷ bs) (suc k) l n = rw (misses bs k (omega arith) n, and-false)
 
-pub marks-go : (bytes : List ℕ) (i : ℕ) → i < length bytes → get_or bytes i 0 ≡ 170 → all_marked (drop i bytes) ≡ all_marked (drop (i + 1) bytes)
-unfolding all_marked
-marks-go bytes i l h = rw (drop-cons bytes i 0 l, eq-eqb (get_or bytes i 0) 170 h, add-one i)
+pub all-looked_at : (r : Bool) (xs : List ℕ) → MatchBool r (AllWithin (λ b. b ≡ 170) xs 0 (length xs)) ((k : ℕ) × (k < length xs) × HoldsAt (λ b. b ≡ 170 → ⊥) xs k)
+    → r ≡ all_marked xs
+all-looked_at true xs h = sym (marks xs (λ k l. h k 0 (omega arith) l))
+all-looked_at false xs h = sym (misses xs h.0 h.1 (h.2 0))
 
--- ---- the chain from record r on: the test that the loop makes is whether there is another record
+-- ---- the chain from record r on
 
-pub more_left : (left r : ℕ) → ltb 0 left && ltb 0 r ≡ true → 0 < left
-more_left left r e = ltb-true 0 left (both (ltb 0 left) (ltb 0 r) e).0
-
-chain-ends : (left : ℕ) (s : List ℕ) (r : ℕ) → ltb 0 left && ltb 0 r ≡ false → chain_from left s r ≡ []
+chain-ends : (left : ℕ) (s : List ℕ) (r : ℕ) → (0 < left → (r ≡ 0 → ⊥) → ⊥) → chain_from left s r ≡ []
 unfolding chain_from
-chain-ends zero s r e = refl
-chain-ends (suc left) s zero e = refl
-chain-ends (suc left) s (suc r) e = absurd (false≢true (cc (lt-ltb 0 (suc left) (omega arith), lt-ltb 0 (suc r) (omega arith))))
+chain-ends zero s r n = refl
+chain-ends (suc left) s r n = eq_test r 0 (λ e. rw e) (λ e. absurd (n (omega arith) e))
 
-chain-goes : (left : ℕ) (s : List ℕ) (r : ℕ) → ltb 0 left && ltb 0 r ≡ true
-    → chain_from left s r ≡ r ∷ chain_from (left - 1) s (next_of s r)
+chain-goes : (left : ℕ) (s : List ℕ) (r : ℕ) → 0 < left → (r ≡ 0 → ⊥) → chain_from left s r ≡ r ∷ chain_from (left - 1) s (next_of s r)
 unfolding chain_from
-chain-goes zero s r e = absurd (let l = ltb-true 0 0 (both (ltb 0 0) (ltb 0 r) e).0 in omega arith)
-chain-goes (suc left) s r e =
-    let l = ltb-true 0 r (both (ltb 0 (suc left)) (ltb 0 r) e).1 in
-    let t : suc left - 1 ≡ left = omega arith in
-    rw (ne_eqb r 0 (λ q. omega (arith, l, q)), chain_from, t)
+chain-goes zero s r l n = absurd (omega arith)
+chain-goes (suc left) s r l n = let t : suc left - 1 ≡ left = omega arith in rw (ne_eqb r 0 n, chain_from, t)
 
-pub some-none : (f : ℕ → Bool) (left : ℕ) (s : List ℕ) (r : ℕ) → ltb 0 left && ltb 0 r ≡ false → some_of f (chain_from left s r) ≡ false
+pub some-none : (f : ℕ → Bool) (left : ℕ) (s : List ℕ) (r : ℕ) → (0 < left → (r ≡ 0 → ⊥) → ⊥) → some_of f (chain_from left s r) ≡ false
 unfolding some_of
-some-none f left s r e = rw (chain-ends left s r e)
+some-none f left s r n = rw (chain-ends left s r n)
 
-pub some-met : (f : ℕ → Bool) (left : ℕ) (s : List ℕ) (r : ℕ) → ltb 0 left && ltb 0 r ≡ true → f r ≡ true
-    → some_of f (chain_from left s r) ≡ true
+pub some-met : (f : ℕ → Bool) (left : ℕ) (s : List ℕ) (r : ℕ) → 0 < left → (r ≡ 0 → ⊥) → f r ≡ true → some_of f (chain_from left s r) ≡ true
 unfolding some_of
-some-met f left s r e h = rw (chain-goes left s r e, h)
+some-met f left s r l n h = rw (chain-goes left s r l n, h)
 
-pub some-passed : (f : ℕ → Bool) (left : ℕ) (s : List ℕ) (r : ℕ) → ltb 0 left && ltb 0 r ≡ true → f r ≡ false
+pub some-passed : (f : ℕ → Bool) (left : ℕ) (s : List ℕ) (r : ℕ) → 0 < left → (r ≡ 0 → ⊥) → f r ≡ false
     → some_of f (chain_from left s r) ≡ some_of f (chain_from (left - 1) s (next_of s r))
 unfolding some_of
-some-passed f left s r e h = rw (chain-goes left s r e, h)
+some-passed f left s r l n h = rw (chain-goes left s r l n, h)
 
 -- ---- the fault of the chain from record r on
 

@@ -1,37 +1,30 @@
 -- All choices of slots in order, and whether one of them obeys a sheet's bans.
-use Rattle.std.specs.Prelude.{ℕ, zero, suc, ◌+◌, ◌-◌, Bool, true, false, cond, ◌&&◌, List, eqb, ltb, leb, replicate, set}
+use Rattle.std.specs.Prelude.{ℕ, zero, suc, ◌+◌, ◌-◌, Bool, true, false, cond, ◌&&◌, List, Option, Some, None, eqb, ltb, leb, replicate, set}
 use Rattle.oracle.specs.Bytes.{slots_of, each_to}
 use Rattle.oracle.specs.Bans.{slot_in, obeys_all}
 use Rattle.oracle.specs.declared.choices.Choice.{Choice}
 
 -- each scanner has its first slot
 unfoldable pub first_choice : Choice
-first_choice = record { of = replicate 12 1; over = false }
+first_choice = record { of = replicate 12 1 }
 
 -- scanner i has slot v
 unfoldable pub with_slot : List ℕ → ℕ → ℕ → List ℕ
 with_slot c i v = set c (i - 1) v
 
--- the scanners before are through with their slots: scanner i of so many takes its next one, or begins again
-unfoldable pub turned : Choice → ℕ → ℕ → Choice
-turned c i slots =
-    elim (ltb (slot_in c.of i) slots) [
-      | true ↦ record { of = with_slot c.of i (slot_in c.of i + 1); over = false }
-      | false ↦ record { of = with_slot c.of i 1; over = true }
+-- where the scanners before i are through with their slots: the first of the `left` scanners from scanner i on that isn't takes its next one, and those
+-- before it begin again; none behind the last choice
+unfoldable pub next_from : ℕ → List ℕ → ℕ → List ℕ → Option Choice
+next_from zero s i c = None
+next_from (suc left) s i c =
+    elim (ltb (slot_in c i) (slots_of s i)) [
+      | true ↦ Some (record { of = with_slot c i (slot_in c i + 1) })
+      | false ↦ next_from left s (i + 1) (with_slot c i 1)
     ]
 
--- it does so only where those before are through
-unfoldable pub carried_at : Choice → ℕ → ℕ → Choice
-carried_at c i slots = elim c.over [ true ↦ turned c i slots | false ↦ c ]
-
--- the same for `left` scanners from scanner i on
-unfoldable pub carried_from : ℕ → List ℕ → ℕ → Choice → Choice
-carried_from zero s i c = c
-carried_from (suc left) s i c = carried_from left s (i + 1) (carried_at c i (slots_of s i))
-
--- the next choice, which is `over` behind the last one: a scanner takes its next slot where all before it are through
-unfoldable pub next_choice : List ℕ → Choice → Choice
-next_choice s c = carried_from 12 s 1 (record { of = c.of; over = true })
+-- the next choice, and none behind the last one
+unfoldable pub next_choice : List ℕ → Choice → Option Choice
+next_choice s c = next_from 12 s 1 c.of
 
 -- one of the choices from c on obeys all bans, or there are more than `left` of them
 unfoldable pub solvable_from : ℕ → List ℕ → Choice → Bool
@@ -39,9 +32,9 @@ solvable_from zero s c = true
 solvable_from (suc left) s c =
     elim (obeys_all s c.of) [
       | true ↦ true
-      | false ↦ elim (next_choice s c).over [
-        | true ↦ false
-        | false ↦ solvable_from left s (next_choice s c)
+      | false ↦ elim (next_choice s c) [
+        | None ↦ false
+        | Some next ↦ solvable_from left s next
       ]
     ]
 

@@ -9,12 +9,5 @@ pub const MARK: u8 = 170;
 pub fn untouched(bytes: &[u8], from: usize) -> bool
     ensures { result ≡ marked_from bytes.now from }
 {
-    let mut i = from;
-    while i < bytes.len() {
-        if bytes[i] != MARK {
-            return false;
-        }
-        i += 1;
-    }
-    true
+    bytes.iter().skip(from).all(|b| *b == MARK)
 }

@@ -1,30 +1,26 @@
 -- The lowest agent of a set, and the lowest and the highest that a packed word names, by the zeros at the word's ends.
 use Prim.Native.Nat.{ℕ, zero, suc, ◌+◌, ◌*◌, ◌-◌, ◌/◌, ◌%◌, ◌^◌, ◌≤◌, ◌<◌}
 use mathlib.Core.Path.{◌≡◌, ◌∙◌}
-use mathlib.Core.Bool.{Bool, true, false}
-use mathlib.Core.Option.{some}
+use mathlib.Core.Bool.{true, false}
+use mathlib.Core.Option.{none, some}
 use native.Mathlib.Nat.{not-suc-le-zero, le-div_iff_mul-le, lt_of_lt_of_le, pow-suc}
 use native.Mathlib.Numerals.{add-one}
 use native.Mathlib.Omega.{arith}
 use lib.Count.{count_trailing_zeros, count_leading_zeros, leading_length}
 use lib.Pow.{pow_pos, pow_mono, shr_mod}
-use Rattle.base.specs.Finite.{from_one, lowest, highest}
+use Rattle.base.specs.Finite.{from_one, highest}
 use Rattle.base.specs.Bits.{bit}
 use Rattle.base.proofs.Bits.{bit-positive}
 use Rattle.base.proofs.Peeling.{zero_bits}
 use Rattle.agent_rules.specs.Message.{known, nobody}
 use Rattle.agent_rules.specs.Shape.{max_named}
-use Rattle.packed.specs.Packed.{digit, assignment, members, number_of}
+use Rattle.packed.specs.Packed.{digit, assignment, members, Lowest}
 use Rattle.packed.proofs.Known.{known_from}
 use Rattle.base.proofs.Searches.{lowest-is, highest-is, highest-empty}
 use Rattle.base.proofs.Zeros.{trailing-set, trailing-clear}
 use Rattle.packed.proofs.Digits.{pow16, digit-shr, digit_lt, digit-bit, digit-above, nobody-assigned}
 
 -- ---- the lowest agent of a set
-
--- agent r is the lowest that passes
-abbrev pub Lowest : (ℕ → Bool) → ℕ → Type 0
-Lowest p r = (lowest max_named 1 p ≡ some r) × (p r ≡ true) × (1 ≤ r) × (r ≤ 16)
 
 pub first_member : (m : ℕ) → 1 ≤ m → m < 2 ^ 16 → Lowest (members m) (count_trailing_zeros 16 m + 1)
 unfolding members from_one max_named
@@ -85,21 +81,22 @@ module _ (x q : ℕ) (long : 2 ^ (4 * q) ≤ x) (short : x < 2 ^ (4 + 4 * q)) wh
   top h = highest-is 16 (λ k. known (assignment x k)) (suc q) (omega arith) h top-named (λ j a b. none_above j a)
 
 -- a word of m bits has (m + 3) / 4 digits
-top_digit : (x m : ℕ) → x < 2 ^ m → 2 ^ m ≤ 2 * x + 1 → m ≤ 64
-    → (3 + m) / 4 ≡ number_of (highest max_named (λ k. known (assignment x k)))
-unfolding number_of
-top_digit x zero h l few =
-    let e : x ≡ 0 = omega arith in
-    rw (e, highest-empty max_named (λ k. known (assignment 0 k)) (λ j a b. none_named j))
-top_digit x (suc m) h l few =
+top_digit : (x m : ℕ) → 1 ≤ x → x < 2 ^ m → 2 ^ m ≤ 2 * x + 1 → m ≤ 64
+    → (highest max_named (λ k. known (assignment x k)) ≡ some ((3 + m) / 4)) × (1 ≤ (3 + m) / 4) × ((3 + m) / 4 ≤ 16)
+top_digit x zero some_named h l few = absurd (omega arith)
+top_digit x (suc m) some_named h l few =
     let q : (3 + suc m) / 4 ≡ suc (m / 4) = omega arith in
     let long : 2 ^ (4 * (m / 4)) ≤ 2 ^ m = pow_mono (omega arith) in
     let short : 2 ^ suc m ≤ 2 ^ (4 + 4 * (m / 4)) = pow_mono (omega arith) in
-    rw (q, top x (m / 4) (omega (arith, pow-suc 2 m)) (lt_of_lt_of_le h short) (omega arith))
+    rw q (top x (m / 4) (omega (arith, pow-suc 2 m)) (lt_of_lt_of_le h short) (omega arith), omega arith, omega arith)
 
-pub last-named : (x : ℕ) → x < 2 ^ 64
-    → ((67 - count_leading_zeros 64 x) / 4 ≡ number_of (highest max_named (λ k. known (assignment x k)))) × ((67 - count_leading_zeros 64 x) / 4 ≤ 16)
-last-named x h =
+pub last-named : (x : ℕ) → 1 ≤ x → x < 2 ^ 64
+    → let k = (67 - count_leading_zeros 64 x) / 4 in
+    (highest max_named (λ j. known (assignment x j)) ≡ some k) × (1 ≤ k) × (k ≤ 16)
+last-named x l h =
     let (m, e, s, t) = leading_length 64 x h in
     let d : 67 - count_leading_zeros 64 x ≡ 3 + m = omega arith in
-    rw d (top_digit x m s t (omega arith), omega arith)
+    rw d (top_digit x m l s t (omega arith))
+
+pub nobody-named : highest max_named (λ k. known (assignment 0 k)) ≡ none
+nobody-named = highest-empty max_named (λ k. known (assignment 0 k)) (λ j a b. none_named j)

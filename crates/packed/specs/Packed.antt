@@ -1,7 +1,7 @@
 -- Packed words as maps on agents 1, 2, ..
-use Rattle.std.specs.Prelude.{ℕ, zero, suc, ◌+◌, ◌*◌, ◌/◌, ◌%◌, ◌^◌, ◌≤◌, ◌≡◌, Bool, true, false, cond}
+use Rattle.std.specs.Prelude.{ℕ, zero, suc, ◌+◌, ◌*◌, ◌/◌, ◌%◌, ◌^◌, ◌≤◌, ◌≡◌, Bool, true, false, cond, Option as Option', Some, None}
 use Rattle.std.proofs.Math.Option.{Option, none, some}
-use Rattle.base.specs.Finite.{from_one}
+use Rattle.base.specs.Finite.{at, from_one, lowest, sum}
 use Rattle.base.specs.Bits.{bit}
 use Rattle.agent_rules.specs.Message.{Assignment, known}
 use Rattle.agent_rules.specs.Shape.{max_named}
@@ -18,10 +18,33 @@ assignment x = from_one 0 (digit x)
 unfoldable pub members : ℕ → ℕ → Bool
 members m = from_one false (bit m)
 
+-- the code's option as the definitions'
+abbrev pub option_of : Option' ℕ → Option ℕ
+option_of None = none
+option_of (Some k) = some k
+
 -- an agent's number, 0 for none
 unfoldable pub number_of : Option ℕ → ℕ
 number_of none = 0
 number_of (some k) = k
+
+-- agent r is the lowest that passes
+abbrev pub Lowest : (ℕ → Bool) → ℕ → Type 0
+Lowest p r = (lowest max_named 1 p ≡ some r) × (p r ≡ true) × (1 ≤ r) × (r ≤ 16)
+
+-- how many agents a word names
+unfoldable pub naming : ℕ → ℕ
+naming x = sum max_named (λ k. cond (known (assignment x k)) 1 0)
+
+-- a step of a walk over word x: the lowest agent that it names, with its digit, and the word without it; none where it names nobody
+abbrev pub EntryTaken : ℕ → Option' (ℕ × ℕ) → ℕ → Type 0
+EntryTaken x None y = x ≡ 0
+EntryTaken x (Some e) y = Lowest (λ k. known (assignment x k)) e.0 × (e.1 ≡ assignment x e.0) × (assignment y ≡ at (assignment x) e.0 0)
+
+-- .. and of one over set x
+abbrev pub MemberTaken : ℕ → Option' ℕ → ℕ → Type 0
+MemberTaken x None y = x ≡ 0
+MemberTaken x (Some k) y = Lowest (members x) k × (members y ≡ at (members x) k false)
 
 -- two partial assignments have no agent at two values
 abbrev pub Compatible : Assignment → Assignment → Type 0

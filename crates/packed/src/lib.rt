@@ -1,12 +1,13 @@
-// Packed words: digits in base 16, and sets of agents.
+// Packed words: digits in base 16, and sets of agents. A place or an agent is a plain number from 1 to 16, as the clauses ask: callers come to it by
+// arithmetic on other numbers, and a type of its own with that invariant would have to be made, and shown, at each of their calls.
 #![tactic(auto)]
 
-ghost use Rattle.std.specs.Prelude.{◌≡◌, ℕ, ◌+◌, ◌*◌, ◌-◌, ◌≤◌, ◌<◌, true, false, not, cond, ◌||◌, eqb, leb};
-ghost use Rattle.std.proofs.Math.Option.{some};
-ghost use Rattle.base.specs.Finite.{at, lowest, highest, all_to};
+ghost use Rattle.std.specs.Prelude.{◌≡◌, ℕ, ◌+◌, ◌*◌, ◌-◌, ◌≤◌, ◌<◌, true, false, not, cond, ◌||◌, eqb, leb, IfSome};
+ghost use Rattle.std.specs.Iterator.{at_most};
+ghost use Rattle.base.specs.Finite.{at, highest, all_to};
 ghost use Rattle.agent_rules.specs.Message.{known};
 ghost use Rattle.agent_rules.specs.Shape.{max_named};
-ghost use Rattle.packed.specs.Packed.{assignment, members, number_of};
+ghost use Rattle.packed.specs.Packed.{assignment, members, option_of, Lowest, naming, EntryTaken, MemberTaken};
 
 // ---- digits
 
@@ -46,16 +47,43 @@ pub fn one_less(x: u64, k: u8) -> u64
 // The lowest digit of a word that is not 0, where there is one.
 pub fn first_digit(x: u64) -> u8
     requires { 1 ≤ x }
-    ensures { (lowest max_named 1 (λ k. known (assignment x k)) ≡ some result) × (known (assignment x result) ≡ true) × (1 ≤ result) × (result ≤ 16) }
+    ensures { Lowest (λ k. known (assignment x k)) result }
 {
-    u64::trailing_zeros(x) as u8 / 4 + 1
+    x.trailing_zeros() as u8 / 4 + 1
 }
 
-// The highest digit of a word that is not 0; 0 where there is none.
-pub fn last_digit(x: u64) -> u8
-    ensures { (result ≡ number_of (highest max_named (λ k. known (assignment x k)))) × (result ≤ 16) }
+// The highest digit of a word that is not 0, where there is one.
+pub fn last_digit(x: u64) -> Option<u8>
+    ensures found { option_of result ≡ highest max_named (λ k. known (assignment x k)) }
+    ensures in_range { IfSome result (λ k. (1 ≤ k) × (k ≤ 16)) }
 {
-    (67 - u64::leading_zeros(x)) as u8 / 4
+    if x == 0 {
+        None
+    } else {
+        Some((67 - x.leading_zeros()) as u8 / 4)
+    }
+}
+
+// The agents that a word names, upward, each with its digit: `for (k, v) in Entries(x)`.
+#[derive(Clone, Debug, Drop)]
+pub struct Entries(pub u64);
+
+impl Iterator for Entries {
+    type Item = (u8, u8);
+
+    ghost next_gives = { λ s r t. EntryTaken s.0 r t.0 };
+
+    ghost remaining = { λ s. at_most (naming s.0) };
+
+    fn next(&mut self) -> Option<(u8, u8)> {
+        if self.0 == 0 {
+            return None;
+        }
+        let k = first_digit(self.0);
+        let v = digit(self.0, k);
+        self.0 = with_digit(self.0, k, 0);
+        Some((k, v))
+    }
 }
 
 // The word with 15 as each digit that is not 0 in x.
@@ -120,9 +148,9 @@ pub fn add(set: u16, k: u8) -> u16
 // The lowest-numbered agent of a set that has one.
 pub fn first(set: u16) -> u8
     requires { 1 ≤ set }
-    ensures { (lowest max_named 1 (members set) ≡ some result) × (members set result ≡ true) × (1 ≤ result) × (result ≤ 16) }
+    ensures { Lowest (members set) result }
 {
-    u16::trailing_zeros(set) as u8 + 1
+    set.trailing_zeros() as u8 + 1
 }
 
 // The set without agent k, which is in it.
@@ -131,4 +159,25 @@ pub fn without(set: u16, k: u8) -> u16
     ensures { (members result ≡ at (members set) k false) × (result < set) }
 {
     set - (1u16 << (k - 1))
+}
+
+// The agents of a set, upward: `for k in Members(set)`.
+#[derive(Clone, Debug, Drop)]
+pub struct Members(pub u16);
+
+impl Iterator for Members {
+    type Item = u8;
+
+    ghost next_gives = { λ s r t. MemberTaken s.0 r t.0 };
+
+    ghost remaining = { λ s. at_most s.0 };
+
+    fn next(&mut self) -> Option<u8> {
+        if self.0 == 0 {
+            return None;
+        }
+        let k = first(self.0);
+        self.0 = without(self.0, k);
+        Some(k)
+    }
 }

@@ -11,7 +11,8 @@ pub fn draw(state: u64, below: u8) -> u8
     ensures { result ≤ below - 1 }
 {
     if below == 0 {
-        return 0;
+        0
+    } else {
+        (state % u64::from(below)) as u8
     }
-    (state % below as u64) as u8
 }

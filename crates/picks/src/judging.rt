@@ -1,189 +1,106 @@
 // What a pick must do, worked out a second time: the lines have numbers 0 to 131, and the round goes on from the number behind the place's, modulo 132.
 ghost use Rattle.std.specs.Prelude.{◌≤◌, ◌<◌};
 
-use dispatch::{Dispatcher, Picked};
+use dispatch::{Dispatcher, Line, Picked};
 use network::Network;
-
-pub const TOP: u64 = 18446744073709551615;
-
-// Sender and receiver of a line; 0 and 0 for none.
-#[derive(Clone, Copy)]
-pub struct Ends {
-    pub from: u8,
-    pub to: u8,
-}
+use refusals::Refusal;
 
 // The line that has this number, by sender, then receiver.
-pub fn ends_of(line: usize) -> Ends
-    requires { line < 132 }
-    ensures { (1 ≤ result.from) × (result.from ≤ 12) × (1 ≤ result.to) × (result.to ≤ 12) }
+pub fn line_of(number: usize) -> Line
+    requires { number < 132 }
 {
-    let from = (line / 11 + 1) as u8;
-    let other = (line % 11 + 1) as u8;
-    if other < from {
-        return Ends { from, to: other };
-    }
-    Ends {
-        from,
-        to: other + 1,
-    }
+    let from = (number / 11 + 1) as u8;
+    let other = (number % 11 + 1) as u8;
+    let to = if other < from { other } else { other + 1 };
+    Line { from, to }
 }
 
 // Both are of n scanners.
-pub fn among(n: u8, e: Ends) -> bool {
-    (e.from <= n) & (e.to <= n)
+pub fn among(n: u8, line: Line) -> bool {
+    line.from <= n && line.to <= n
 }
 
 // The number behind that of a line of n scanners; 0 where there is no such line.
-fn behind(n: u8, from: u8, to: u8) -> usize
+fn behind(n: u8, place: Line) -> usize
     ensures { result ≤ 132 }
 {
-    if 12 < n {
-        return 0;
+    let Line { from, to } = place;
+    let is_line = n <= 12 && (1..=n).contains(&from) && (1..=n).contains(&to) && from != to;
+    if !is_line {
+        0
+    } else if to < from {
+        11 * (from as usize - 1) + to as usize
+    } else {
+        11 * (from as usize - 1) + to as usize - 1
     }
-    if from == 0 {
-        return 0;
-    }
-    if n < from {
-        return 0;
-    }
-    if to == 0 {
-        return 0;
-    }
-    if n < to {
-        return 0;
-    }
-    if from == to {
-        return 0;
-    }
-    let row = 11 * (from as usize - 1);
-    if to < from {
-        return row + to as usize;
-    }
-    row + to as usize - 1
 }
 
 // A delivery there would be accepted.
-pub fn can(r: Network, e: Ends) -> bool {
-    let a = run::deliver(r, e.from, e.to);
-    a.number == 0
+pub fn can(r: Network, line: Line) -> bool {
+    run::deliver(r, line.from, line.to).refusal.is_none()
 }
 
 // The first line that can be delivered, from the one behind the place on.
-fn in_turn(r: Network, from: u8, to: u8) -> Ends {
-    let first = behind(r.count, from, to);
+fn in_turn(r: Network, place: Line) -> Option<Line> {
+    let first = behind(r.count, place);
     for k in 0..132 {
-        let e = ends_of((first + k) % 132);
-        if among(r.count, e) {
-            if can(r, e) {
-                return e;
-            }
+        let line = line_of((first + k) % 132);
+        if among(r.count, line) && can(r, line) {
+            return Some(line);
         }
     }
-    Ends { from: 0, to: 0 }
+    None
 }
 
 // The pick takes the wish: it is odd, and the wish can be delivered.
-fn wish_met(d: Dispatcher, wish: Ends) -> bool {
-    if d.picks == TOP {
-        return false;
-    }
-    if d.picks % 2 == 1 {
-        return false;
-    }
-    let r = d.network;
-    can(r, wish)
+fn wish_met(d: Dispatcher, wish: Line) -> bool {
+    d.picks != u64::MAX && d.picks % 2 == 0 && can(d.network, wish)
 }
 
 // ---- what is left
 
-fn same_words(a: &[u64], b: &[u64]) -> bool {
-    if a.len() != b.len() {
-        return false;
-    }
-    let mut k: usize = 0;
-    while k < a.len() {
-        if a[k] != b[k] {
-            return false;
-        }
-        k += 1;
-    }
-    true
-}
-
 // The same lines hold as many messages from the same places on, under the same verdict.
 fn same_lines(a: Network, b: Network) -> bool {
-    if (a.count != b.count) | (a.verdict != b.verdict) {
-        return false;
-    }
-    if !same_words(&a.counts, &b.counts) {
-        return false;
-    }
-    same_words(&a.heads, &b.heads)
+    a.count == b.count && a.verdict == b.verdict && a.counts == b.counts && a.heads == b.heads
 }
 
 // The state is the one given, and no line was served.
 pub fn unchanged(d: Dispatcher, p: Picked) -> bool {
-    let state = p.state;
-    if (state.picks != d.picks) | (state.from != d.from) | (state.to != d.to) {
-        return false;
-    }
-    if (p.from != 0) | (p.to != 0) {
-        return false;
-    }
-    let r = d.network;
-    let left = state.network;
-    same_lines(r, left)
-}
-
-// The count behind one delivery more.
-fn counted(picks: u64) -> u64 {
-    if picks == TOP { TOP } else { picks + 1 }
+    p.answer.is_err()
+        && p.state.picks == d.picks
+        && p.state.place == d.place
+        && same_lines(d.network, p.state.network)
 }
 
 // The pick served this line, and this is the place now.
-fn serves(d: Dispatcher, p: Picked, e: Ends, place: Ends) -> bool {
-    let state = p.state;
-    if (p.number != 0) | (p.from != e.from) | (p.to != e.to) {
-        return false;
-    }
-    if (state.picks != counted(d.picks)) | (state.from != place.from) | (state.to != place.to) {
-        return false;
-    }
-    let r = d.network;
-    let a = run::deliver(r, e.from, e.to);
-    let after = a.network;
-    let left = state.network;
-    same_lines(after, left)
+fn serves(d: Dispatcher, p: Picked, line: Line, place: Line) -> bool {
+    p.answer == Ok(line)
+        && p.state.picks == d.picks.saturating_add(1)
+        && p.state.place == place
+        && same_lines(
+            run::deliver(d.network, line.from, line.to).network,
+            p.state.network,
+        )
 }
 
-// Something waits: a row of counts is not zero. (A rail that a start leads to has no digits but its lines'.)
-fn waits(r: Network) -> bool {
-    let none = [0u64; 12];
-    !same_words(&r.counts, &none)
-}
-
-// The number where no line can be delivered.
-fn refusal(r: Network) -> u8 {
+// The refusal where no line can be delivered. Something waits where a row of counts is not zero. (A rail that a start leads to has no digits but its lines'.)
+fn refusal(r: Network) -> Refusal {
     if r.verdict {
-        return 7;
+        Refusal::VerdictStands
+    } else if r.counts.iter().any(|row| *row != 0) {
+        Refusal::NoRoom
+    } else {
+        Refusal::EmptyChannel
     }
-    if waits(r) { 10 } else { 8 }
 }
 
 // The pick did what it must.
-pub fn right(d: Dispatcher, wish: Ends, p: Picked) -> bool {
-    let place = Ends {
-        from: d.from,
-        to: d.to,
-    };
+pub fn right(d: Dispatcher, wish: Line, p: Picked) -> bool {
     if wish_met(d, wish) {
-        return serves(d, p, wish, place);
+        return serves(d, p, wish, d.place);
     }
-    let r = d.network;
-    let e = in_turn(r, d.from, d.to);
-    if e.from == 0 {
-        return (p.number == refusal(r)) & unchanged(d, p);
+    match in_turn(d.network, d.place) {
+        Some(line) => serves(d, p, line, line),
+        None => p.answer == Err(refusal(d.network)) && unchanged(d, p),
     }
-    serves(d, p, e, e)
 }

@@ -9,9 +9,10 @@ mod sheets;
 mod watching;
 mod worked;
 
-use dispatch::Dispatcher;
+use dispatch::{Dispatcher, Line};
 use draws::{draw, next};
-use judging::{Ends, TOP, right};
+use judging::right;
+use refusals::Refusal;
 use sheets::{rail, random_sheet};
 use watching::{Watch, none_waited, with_pick};
 use words::printing::Out;
@@ -45,44 +46,29 @@ fn blank_tally() -> Tally {
 
 // One more, where it holds.
 fn more(n: u64, holds: bool) -> u64 {
-    if holds {
-        if n < 1000000000 {
-            return n + 1;
-        }
-    }
-    n
+    n.saturating_add(u64::from(holds))
 }
 
-// A pick by its number and by whether it served the wish; and whether it was right.
-fn with_answer(t: Tally, number: u8, wished: bool, good: bool) -> Tally {
+// A pick by its answer and by whether it served the wish; and whether it was right.
+fn with_answer(t: Tally, answer: Result<Line, Refusal>, wished: bool, good: bool) -> Tally {
     Tally {
-        rails: t.rails,
-        wishes: more(t.wishes, (number == 0) & wished),
-        rounds: more(t.rounds, (number == 0) & !wished),
-        verdicts: more(t.verdicts, number == 7),
-        rests: more(t.rests, number == 8),
-        stuck: more(t.stuck, number == 10),
+        wishes: more(t.wishes, answer.is_ok() && wished),
+        rounds: more(t.rounds, answer.is_ok() && !wished),
+        verdicts: more(t.verdicts, answer == Err(Refusal::VerdictStands)),
+        rests: more(t.rests, answer == Err(Refusal::EmptyChannel)),
+        stuck: more(t.stuck, answer == Err(Refusal::NoRoom)),
         failures: more(t.failures, !good),
-        longest: t.longest,
+        ..t
     }
 }
 
 // A rail is done with; one whose line was served too late has failed.
 fn with_rail(t: Tally, w: Watch) -> Tally {
-    let longest = if t.longest < w.longest {
-        w.longest
-    } else {
-        t.longest
-    };
     Tally {
         rails: more(t.rails, true),
-        wishes: t.wishes,
-        rounds: t.rounds,
-        verdicts: t.verdicts,
-        rests: t.rests,
-        stuck: t.stuck,
         failures: more(t.failures, w.late),
-        longest: longest,
+        longest: t.longest.max(w.longest),
+        ..t
     }
 }
 
@@ -99,48 +85,42 @@ struct Play {
 }
 
 // Two of n scanners, which may be one; one time in eight any two numbers from 0 to 7.
-fn wish(n: u8, state: u64) -> Ends {
+fn wish(n: u8, state: u64) -> Line {
     let second = next(state);
     let third = next(second);
     if draw(third, 8) == 0 {
-        return Ends {
+        Line {
             from: draw(state, 8),
             to: draw(second, 8),
-        };
-    }
-    Ends {
-        from: draw(state, n) + 1,
-        to: draw(second, n) + 1,
+        }
+    } else {
+        Line {
+            from: draw(state, n) + 1,
+            to: draw(second, n) + 1,
+        }
     }
 }
 
 fn picked(p: Play) -> Play {
     let d = p.dispatcher;
-    let r = d.network;
-    let e = wish(r.count, p.state);
-    let a = dispatch::pick(d, e.from, e.to);
-    let served = Ends {
-        from: a.from,
-        to: a.to,
-    };
-    let wished = (d.picks % 2 == 0) & (a.from == e.from) & (a.to == e.to);
-    let good = right(d, e, a);
-    let left = a.state;
+    let line = wish(d.network.count, p.state);
+    let a = dispatch::pick(d, line);
+    let wished = d.picks % 2 == 0 && a.answer == Ok(line);
     Play {
-        dispatcher: left,
-        watch: with_pick(p.watch, r, served),
-        tally: with_answer(p.tally, a.number, wished, good),
+        dispatcher: a.state,
+        watch: with_pick(p.watch, d.network, a.answer.ok()),
+        tally: with_answer(p.tally, a.answer, wished, right(d, line, a)),
         state: next(next(next(p.state))),
-        over: a.number != 0,
+        over: a.answer.is_err(),
     }
 }
 
 // Up to `most` picks, up to one that is refused.
 fn played(play: Play, most: usize) -> Play {
     let mut p = play;
-    for k in 0..most {
+    for _ in 0..most {
         if p.over {
-            return p;
+            break;
         }
         p = picked(p);
     }
@@ -150,9 +130,9 @@ fn played(play: Play, most: usize) -> Play {
 // Where a dispatcher's count begins: most often at zero or one, else at the top or just below.
 fn first_count(state: u64) -> u64 {
     match draw(state, 8) {
-        0 => TOP,
-        1 => TOP - 1,
-        2 => TOP - 2,
+        0 => u64::MAX,
+        1 => u64::MAX - 1,
+        2 => u64::MAX - 2,
         3 => 1,
         _ => 0,
     }
@@ -170,31 +150,28 @@ struct Trial {
 // A random rail by either rule, from any place on.
 fn with_random(t: Trial) -> Trial {
     let d = random_sheet(t.state);
-    let draft = d.draft;
     let a = next(d.state);
     let b = next(a);
     let c = next(b);
     let e = next(c);
-    let r = rail(draft, draw(e, 2) + 1);
-    let tally = t.tally;
-    let p = played(
-        Play {
-            dispatcher: Dispatcher {
-                network: r,
-                picks: first_count(a),
-                from: draw(b, 8),
-                to: draw(c, 8),
-            },
-            watch: none_waited(),
-            tally: tally,
-            state: next(e),
-            over: false,
+    let dispatcher = Dispatcher {
+        network: rail(d.draft, draw(e, 2) + 1),
+        picks: first_count(a),
+        place: Line {
+            from: draw(b, 8),
+            to: draw(c, 8),
         },
-        150,
-    );
-    let after = with_rail(p.tally, p.watch);
+    };
+    let begun = Play {
+        dispatcher,
+        watch: none_waited(),
+        tally: t.tally,
+        state: next(e),
+        over: false,
+    };
+    let p = played(begun, 150);
     Trial {
-        tally: after,
+        tally: with_rail(p.tally, p.watch),
         state: p.state,
     }
 }
@@ -205,7 +182,7 @@ fn tried(rails: usize) -> Tally {
         tally: blank_tally(),
         state: 20030139,
     };
-    for k in 0..rails {
+    for _ in 0..rails {
         t = with_random(t);
     }
     t.tally

@@ -22,21 +22,20 @@ fn byte_at(d: Draft, at: usize) -> u8 {
 }
 
 // So many scanners, with no slots and no bans yet.
-pub fn blank(n: u8) -> Draft {
-    let d = Draft {
-        bytes: [0u8; 256],
-        records: 0,
-    };
-    with_byte(with_byte(d, 0, n), 1, 1)
+fn blank(n: u8) -> Draft {
+    let mut bytes = [0; 256];
+    bytes[0] = n;
+    bytes[1] = 1;
+    Draft { bytes, records: 0 }
 }
 
 // Scanner i has so many slots.
-pub fn with_slots(d: Draft, i: u8, slots: u8) -> Draft {
+fn with_slots(d: Draft, i: u8, slots: u8) -> Draft {
     with_byte(d, 7 + i as usize, slots)
 }
 
 // One record more, at the end of the chain; at most 28.
-pub fn with_ban(d: Draft, lower: u8, slot: u8, higher: u8, other: u8) -> Draft {
+fn with_ban(d: Draft, lower: u8, slot: u8, higher: u8, other: u8) -> Draft {
     let k = d.records;
     if 28 <= k {
         return d;
@@ -50,23 +49,24 @@ pub fn with_ban(d: Draft, lower: u8, slot: u8, higher: u8, other: u8) -> Draft {
     o
 }
 
-// The rail that the start gives for the first bytes; the empty one where they are refused.
-fn started(rule: u8, bytes: &[u8], length: usize) -> Network {
-    if bytes.len() < length {
-        return network::empty();
+// A sheet of scanners with so many slots each, and of bans: scanner, slot, scanner, slot.
+pub fn drafted(slots: &[u8], bans: &[(u8, u8, u8, u8)]) -> Draft {
+    let mut d = blank(slots.len().min(12) as u8);
+    for (i, most) in (1..=12).zip(slots) {
+        d = with_slots(d, i, *most);
     }
-    let s = start::start(rule, &bytes[..length]);
-    s.network
+    for (lower, slot, higher, other) in bans {
+        d = with_ban(d, *lower, *slot, *higher, *other);
+    }
+    d
 }
 
-// The rail that a sheet starts.
+// The rail that a sheet starts; the empty one where it is refused.
 pub fn rail(d: Draft, rule: u8) -> Network {
-    let k = d.records;
-    if 28 < k {
-        return network::empty();
+    match d.bytes.get(..24 + 8 * d.records.min(28)) {
+        Some(sheet) => start::start(rule, sheet).unwrap_or(network::empty()),
+        None => network::empty(),
     }
-    let bytes = d.bytes;
-    started(rule, &bytes, 24 + 8 * k)
 }
 
 // ---- random sheets
@@ -80,21 +80,17 @@ pub struct Drawn {
 
 // Scanner i has up to `most` slots.
 fn with_scanner(d: Drawn, i: u8, most: u8) -> Drawn {
-    let draft = d.draft;
     let state = next(d.state);
     let slots = draw(state, most) % 8 + 1;
-    let o = with_slots(draft, i, slots);
     Drawn {
-        draft: o,
-        state: state,
+        draft: with_slots(d.draft, i, slots),
+        state,
     }
 }
 
 fn with_scanners(d: Drawn, n: u8, most: u8) -> Drawn {
     let mut o = d;
-    let mut i: u8 = 0;
-    while i < n {
-        i += 1;
+    for i in 1..=n {
         o = with_scanner(o, i, most);
     }
     o
@@ -110,26 +106,24 @@ fn with_random(d: Drawn, n: u8) -> Drawn {
     if n < 2 {
         return d;
     }
-    let draft = d.draft;
-    let a = next(d.state);
+    let Drawn { draft, state } = d;
+    let a = next(state);
     let b = next(a);
     let e = next(b);
     let f = next(e);
     let lower = 1 + draw(a, n - 1);
     let higher = lower + 1 + draw(b, n - lower);
-    let o = with_ban(
-        draft,
-        lower,
-        slot_of(draft, lower, e),
-        higher,
-        slot_of(draft, higher, f),
-    );
-    Drawn { draft: o, state: f }
+    let slot = slot_of(draft, lower, e);
+    let other = slot_of(draft, higher, f);
+    Drawn {
+        draft: with_ban(draft, lower, slot, higher, other),
+        state: f,
+    }
 }
 
 fn with_bans(d: Drawn, n: u8, bans: u8) -> Drawn {
     let mut o = d;
-    for k in 0..bans {
+    for _ in 0..bans {
         o = with_random(o, n);
     }
     o

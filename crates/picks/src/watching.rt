@@ -1,7 +1,8 @@
 // How long each line has waited, though it could be delivered.
 ghost use Rattle.std.specs.Prelude.{◌<◌};
 
-use crate::judging::{Ends, among, can, ends_of};
+use crate::judging::{among, can, line_of};
+use dispatch::Line;
 use network::Network;
 
 // For each line the picks in a row before which it could be delivered, and which did not serve it; and the greatest of them so far.
@@ -14,7 +15,7 @@ pub struct Watch {
 
 pub fn none_waited() -> Watch {
     Watch {
-        waited: [0u64; 132],
+        waited: [0; 132],
         longest: 0,
         late: false,
     }
@@ -32,48 +33,29 @@ fn limit(n: u8) -> u64 {
     }
 }
 
-// The line with this number has waited for so many picks.
-fn with_wait(w: Watch, line: usize, picks: u64, n: u8) -> Watch
-    requires { line < 132 }
+// One line, on the rail before a pick that served another one or this one.
+fn with_line(w: Watch, r: Network, number: usize, served: Option<Line>) -> Watch
+    requires { number < 132 }
 {
+    let line = line_of(number);
     let mut o = w;
-    o.waited[line] = picks;
-    if o.longest < picks {
-        o.longest = picks;
+    if served == Some(line) || !can(r, line) {
+        o.waited[number] = 0;
+        return o;
     }
-    if limit(n) <= picks {
-        o.late = true;
-    }
+    let picks = w.waited[number].saturating_add(1);
+    o.waited[number] = picks;
+    o.longest = o.longest.max(picks);
+    o.late = o.late || limit(r.count) <= picks;
     o
 }
 
-// One line, on the rail before a pick that served another one or this one.
-fn with_line(w: Watch, r: Network, line: usize, served: Ends) -> Watch
-    requires { line < 132 }
-{
-    let e = ends_of(line);
-    let mut o = w;
-    if (e.from == served.from) & (e.to == served.to) {
-        o.waited[line] = 0;
-        return o;
-    }
-    if !can(r, e) {
-        o.waited[line] = 0;
-        return o;
-    }
-    let picks = w.waited[line];
-    if 1000 < picks {
-        return w;
-    }
-    with_wait(w, line, picks + 1, r.count)
-}
-
 // All lines, on the rail before a pick that served this line.
-pub fn with_pick(w: Watch, r: Network, served: Ends) -> Watch {
+pub fn with_pick(w: Watch, r: Network, served: Option<Line>) -> Watch {
     let mut o = w;
-    for line in 0..132 {
-        if among(r.count, ends_of(line)) {
-            o = with_line(o, r, line, served);
+    for number in 0..132 {
+        if among(r.count, line_of(number)) {
+            o = with_line(o, r, number, served);
         }
     }
     o

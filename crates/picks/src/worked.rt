@@ -1,292 +1,193 @@
 // Worked picks, each printed with its wish, its answer, the count and the place.
-use crate::judging::{Ends, TOP, right, unchanged};
-use crate::sheets::{blank, rail, with_ban, with_slots};
-use dispatch::{Dispatcher, Picked};
+use crate::judging::{right, unchanged};
+use crate::sheets::{drafted, rail};
+use dispatch::{Dispatcher, Line, NO_LINE, Picked};
 use network::Network;
+use refusals::Refusal;
 use words::printing::Out;
 
 // ---- rails
 
 // Three scanners, each content with its first slot: news waits on 1 to 2, 1 to 3 and 2 to 3, and calls for no answer.
 fn three() -> Network {
-    let slots = with_slots(with_slots(with_slots(blank(3), 1, 2), 2, 2), 3, 2);
-    let bans = with_ban(with_ban(slots, 1, 1, 2, 2), 1, 1, 3, 2);
-    rail(with_ban(bans, 2, 1, 3, 2), 1)
+    rail(
+        drafted(&[2, 2, 2], &[(1, 1, 2, 2), (1, 1, 3, 2), (2, 1, 3, 2)]),
+        1,
+    )
 }
 
 // Two scanners that cannot agree.
 fn two() -> Network {
-    let slots = with_slots(with_slots(blank(2), 1, 1), 2, 1);
-    rail(with_ban(slots, 1, 1, 2, 1), 1)
+    rail(drafted(&[1, 1], &[(1, 1, 2, 1)]), 1)
 }
 
 fn one() -> Network {
-    rail(with_slots(blank(1), 1, 1), 1)
-}
-
-// 2 to 3 and 3 to 2 are delivered.
-fn turned(r: Network) -> Network {
-    let a = run::deliver(r, 2, 3);
-    let left = a.network;
-    let b = run::deliver(left, 3, 2);
-    b.network
+    rail(drafted(&[1], &[]), 1)
 }
 
 // Four scanners; with 2 to 3 and 3 to 2 delivered in turn, seven times, line 2 to 4 holds eight, and a delivery 1 to 2 has no room.
 fn crowded() -> Network {
-    let slots = with_slots(
-        with_slots(with_slots(with_slots(blank(4), 1, 1), 2, 8), 3, 1),
-        4,
-        1,
-    );
-    let d = with_ban(
-        with_ban(with_ban(slots, 1, 1, 2, 8), 2, 1, 3, 1),
-        2,
-        2,
-        3,
-        1,
-    );
-    let e = with_ban(with_ban(with_ban(d, 2, 3, 3, 1), 2, 4, 3, 1), 2, 5, 3, 1);
-    let f = with_ban(with_ban(with_ban(e, 2, 6, 3, 1), 2, 7, 3, 1), 2, 1, 4, 1);
-    let r = turned(turned(turned(rail(f, 1))));
-    turned(turned(turned(turned(r))))
+    let bans = [
+        (1, 1, 2, 8),
+        (2, 1, 3, 1),
+        (2, 2, 3, 1),
+        (2, 3, 3, 1),
+        (2, 4, 3, 1),
+        (2, 5, 3, 1),
+        (2, 6, 3, 1),
+        (2, 7, 3, 1),
+        (2, 1, 4, 1),
+    ];
+    let mut r = rail(drafted(&[1, 8, 1, 1], &bans), 1);
+    for _ in 0..7 {
+        r = run::deliver(r, 2, 3).network;
+        r = run::deliver(r, 3, 2).network;
+    }
+    r
 }
 
 // Six scanners whose run jams: messages wait, and none can be delivered.
 fn stuck() -> Network {
-    let first = with_slots(with_slots(with_slots(blank(6), 1, 4), 2, 1), 3, 1);
-    let slots = with_slots(with_slots(with_slots(first, 4, 2), 5, 2), 6, 2);
-    let ones = with_ban(
-        with_ban(
-            with_ban(with_ban(slots, 1, 1, 4, 1), 1, 2, 4, 1),
-            1,
-            3,
-            4,
-            1,
-        ),
-        1,
-        4,
-        4,
-        2,
-    );
-    let threes = with_ban(with_ban(with_ban(ones, 2, 1, 5, 1), 3, 1, 4, 2), 3, 1, 6, 1);
-    let a = run::run(
-        rail(with_ban(with_ban(threes, 4, 2, 5, 2), 4, 2, 6, 2), 1),
-        100,
-    );
-    a.network
+    let bans = [
+        (1, 1, 4, 1),
+        (1, 2, 4, 1),
+        (1, 3, 4, 1),
+        (1, 4, 4, 2),
+        (2, 1, 5, 1),
+        (3, 1, 4, 2),
+        (3, 1, 6, 1),
+        (4, 2, 5, 2),
+        (4, 2, 6, 2),
+    ];
+    run::run(rail(drafted(&[4, 1, 1, 2, 2, 2], &bans), 1), 100).network
 }
 
 fn judged(r: Network) -> Network {
-    let mut o = r;
-    o.verdict = true;
-    o
+    Network { verdict: true, ..r }
 }
 
 // Out of shape.
 fn broken(r: Network) -> Network {
-    let mut o = r;
-    o.rule = 3;
-    o
+    Network { rule: 3, ..r }
 }
 
 // ---- printing
 
-// The dispatcher behind the picks so far.
-#[derive(Clone, Copy)]
-struct Hosted {
-    dispatcher: Dispatcher,
-    out: Out,
-}
-
-fn put_line(o: Out, before: &[u8], from: u8, to: u8) -> Out {
+fn put_line(o: Out, before: &[u8], line: Line) -> Out {
     o.put(before)
-        .number(from as u64)
+        .number(u64::from(line.from))
         .put(b" ")
-        .number(to as u64)
+        .number(u64::from(line.to))
 }
 
 // What is left of a refused pick.
-fn put_refused(o: Out, d: Dispatcher, p: Picked) -> Out {
-    let said = o.put(b": refused ").number(p.number as u64);
+fn put_refused(o: Out, d: Dispatcher, p: Picked, refusal: Refusal) -> Out {
+    let said = o.put(b": refused ").number(u64::from(refusal.number()));
     if unchanged(d, p) {
-        return said.put(b", unchanged");
+        said.put(b", unchanged")
+    } else {
+        said.put(b", CHANGED")
     }
-    said.put(b", CHANGED")
 }
 
-fn put_served(o: Out, d: Dispatcher, wish: Ends, p: Picked) -> Out {
-    let said = put_line(o, b": delivered ", p.from, p.to);
+fn put_served(o: Out, d: Dispatcher, wish: Line, p: Picked, line: Line) -> Out {
+    let said = put_line(o, b": delivered ", line);
     if right(d, wish, p) {
-        return said;
+        said
+    } else {
+        said.put(b", WRONG")
     }
-    said.put(b", WRONG")
 }
 
 // A pick with this wish.
-fn shown(s: Hosted, from: u8, to: u8) -> Hosted {
-    let d = s.dispatcher;
-    let o = s.out;
-    let p = dispatch::pick(d, from, to);
-    let wish = Ends { from, to };
-    let said = put_line(o, b"  wish ", from, to);
-    let answered = if p.number != 0 {
-        put_refused(said, d, p)
-    } else {
-        put_served(said, d, wish, p)
+fn put_pick(o: Out, d: Dispatcher, wish: Line, p: Picked) -> Out {
+    let said = put_line(o, b"  wish ", wish);
+    let answered = match p.answer {
+        Ok(line) => put_served(said, d, wish, p, line),
+        Err(refusal) => put_refused(said, d, p, refusal),
     };
-    let left = p.state;
-    let counted = answered.put(b", count ").number(left.picks);
-    let out = put_line(counted, b", place ", left.from, left.to);
-    Hosted {
-        dispatcher: left,
-        out: out.put(b"\n"),
+    let counted = answered.put(b", count ").number(p.state.picks);
+    put_line(counted, b", place ", p.state.place).put(b"\n")
+}
+
+// Picks with these wishes one behind the other.
+fn put_picks(o: Out, name: &[u8], dispatcher: Dispatcher, wishes: &[(u8, u8)]) -> Out {
+    let mut out = o.put(name).put(b"\n");
+    let mut d = dispatcher;
+    for (from, to) in wishes {
+        let wish = Line {
+            from: *from,
+            to: *to,
+        };
+        let p = dispatch::pick(d, wish);
+        out = put_pick(out, d, wish, p);
+        d = p.state;
     }
+    out
 }
 
 // A dispatcher above a rail, with this count and this place.
-fn at(o: Out, name: &[u8], r: Network, picks: u64, from: u8, to: u8) -> Hosted {
-    Hosted {
-        dispatcher: Dispatcher {
-            network: r,
-            picks,
-            from,
-            to,
-        },
-        out: o.put(name).put(b"\n"),
+fn at(network: Network, picks: u64, from: u8, to: u8) -> Dispatcher {
+    Dispatcher {
+        network,
+        picks,
+        place: Line { from, to },
     }
+}
+
+// Zero picks, at no line.
+fn fresh(network: Network) -> Dispatcher {
+    at(network, 0, NO_LINE.from, NO_LINE.to)
 }
 
 // ---- cases
 
 fn put_wishes(o: Out) -> Out {
-    let met = shown(
-        at(
-            o,
-            b"a wish met, then an even pick, then an empty wish",
-            three(),
-            0,
-            0,
-            0,
-        ),
-        1,
-        3,
-    );
-    let all = shown(shown(shown(met, 1, 3), 1, 3), 1, 3);
-    let bad = shown(at(all.out, b"bad numbers", three(), 0, 0, 0), 0, 7);
-    let equal = shown(at(bad.out, b"equal numbers", three(), 0, 0, 0), 1, 1);
-    let high = shown(
-        at(equal.out, b"the highest numbers", three(), 0, 0, 0),
-        255,
-        255,
-    );
-    high.out
+    let d = fresh(three());
+    let name = b"a wish met, then an even pick, then an empty wish";
+    let met = put_picks(o, name, d, &[(1, 3), (1, 3), (1, 3), (1, 3)]);
+    let bad = put_picks(met, b"bad numbers", d, &[(0, 7)]);
+    let equal = put_picks(bad, b"equal numbers", d, &[(1, 1)]);
+    put_picks(equal, b"the highest numbers", d, &[(255, 255)])
 }
 
 fn put_rooms(o: Out) -> Out {
-    let first = shown(at(o, b"a wish without room", crowded(), 0, 0, 0), 1, 2);
-    let freed = shown(shown(first, 1, 2), 1, 2);
-    let none = shown(at(freed.out, b"nothing has room", stuck(), 0, 0, 0), 1, 2);
-    let bad = shown(none, 0, 0);
-    bad.out
+    let wishes = [(1, 2), (1, 2), (1, 2)];
+    let first = put_picks(o, b"a wish without room", fresh(crowded()), &wishes);
+    let none = [(1, 2), (0, 0)];
+    put_picks(first, b"nothing has room", fresh(stuck()), &none)
 }
 
 fn put_places(o: Out) -> Out {
-    let behind = shown(at(o, b"behind the place", three(), 1, 1, 2), 1, 2);
-    let round = shown(
-        at(
-            behind.out,
-            b"past the last line to the first",
-            three(),
-            1,
-            2,
-            3,
-        ),
-        2,
-        3,
-    );
-    let even = shown(
-        at(
-            round.out,
-            b"an odd pick between two even ones",
-            three(),
-            1,
-            3,
-            1,
-        ),
-        2,
-        3,
-    );
-    let between = shown(shown(even, 2, 3), 2, 3);
-    let high = shown(at(between.out, b"a place beyond n", three(), 1, 1, 9), 2, 3);
-    let equal = shown(at(high.out, b"a place from 3 to 3", three(), 1, 3, 3), 2, 3);
-    equal.out
+    let r = three();
+    let behind = put_picks(o, b"behind the place", at(r, 1, 1, 2), &[(1, 2)]);
+    let name = b"past the last line to the first";
+    let round = put_picks(behind, name, at(r, 1, 2, 3), &[(2, 3)]);
+    let name = b"an odd pick between two even ones";
+    let wishes = [(2, 3), (2, 3), (2, 3)];
+    let between = put_picks(round, name, at(r, 1, 3, 1), &wishes);
+    let high = put_picks(between, b"a place beyond n", at(r, 1, 1, 9), &[(2, 3)]);
+    put_picks(high, b"a place from 3 to 3", at(r, 1, 3, 3), &[(2, 3)])
 }
 
 fn put_counts(o: Out) -> Out {
-    let top = shown(
-        shown(at(o, b"the count at its top", three(), TOP, 0, 0), 2, 3),
-        2,
-        3,
-    );
-    let below = shown(
-        shown(
-            at(top.out, b"the count one below", three(), TOP - 1, 0, 0),
-            2,
-            3,
-        ),
-        1,
-        3,
-    );
-    below.out
+    let top = at(three(), u64::MAX, 0, 0);
+    let said = put_picks(o, b"the count at its top", top, &[(2, 3), (2, 3)]);
+    let below = at(three(), u64::MAX - 1, 0, 0);
+    put_picks(said, b"the count one below", below, &[(2, 3), (1, 3)])
 }
 
 fn put_refusals(o: Out) -> Out {
-    let alone = shown(at(o, b"one scanner", one(), 0, 0, 0), 1, 1);
-    let none = shown(
-        shown(
-            shown(at(alone.out, b"to the verdict", two(), 0, 0, 0), 1, 2),
-            1,
-            2,
-        ),
-        1,
-        2,
-    );
-    let over = shown(
-        at(
-            none.out,
-            b"a verdict where news waits",
-            judged(three()),
-            0,
-            0,
-            0,
-        ),
-        1,
-        3,
-    );
-    let shape = shown(
-        at(over.out, b"out of shape", broken(three()), 5, 2, 3),
-        1,
-        3,
-    );
-    let both = shown(
-        at(
-            shape.out,
-            b"out of shape under a verdict",
-            broken(judged(three())),
-            0,
-            0,
-            0,
-        ),
-        1,
-        3,
-    );
-    let empty = shown(
-        at(both.out, b"the empty rail", network::empty(), 0, 0, 0),
-        1,
-        2,
-    );
-    empty.out
+    let alone = put_picks(o, b"one scanner", fresh(one()), &[(1, 1)]);
+    let wishes = [(1, 2), (1, 2), (1, 2)];
+    let none = put_picks(alone, b"to the verdict", fresh(two()), &wishes);
+    let name = b"a verdict where news waits";
+    let over = put_picks(none, name, fresh(judged(three())), &[(1, 3)]);
+    let d = at(broken(three()), 5, 2, 3);
+    let shape = put_picks(over, b"out of shape", d, &[(1, 3)]);
+    let d = fresh(broken(judged(three())));
+    let both = put_picks(shape, b"out of shape under a verdict", d, &[(1, 3)]);
+    put_picks(both, b"the empty rail", fresh(network::empty()), &[(1, 2)])
 }
 
 pub fn put_worked(o: Out) -> Out {

@@ -14,11 +14,7 @@ use oracle::taken::taken;
 use random_rails::drafts::drawn;
 use random_rails::draws::{next, pick};
 use random_rails::rails::{at_rest, listed};
-use tallies::{
-    AT_REST, AT_VERDICT, CUT_SHORT, DELIVERIES, GAPS, JAMMED, NONES, OPEN, PLANS, REFUSALS, SHEETS,
-    Tally, judged, report, under, with_more, with_one,
-};
-use words::printing::Out;
+use tallies::{Tally, Trial};
 
 // The rounds that a run may use: 1,000, or one time in eight up to seven.
 fn allowed(state: u64) -> u64 {
@@ -29,111 +25,85 @@ fn allowed(state: u64) -> u64 {
     }
 }
 
-// How a run ended: right where a plan settles the sheet, and where the search finds nothing for `none`.
-fn ended(t: Tally, e: Ending, settled: bool, found: bool, s: &[u8]) -> Tally {
-    match e {
-        Ending::Plan => judged(t, PLANS, settled, b"a plan that breaks a ban:", s),
-        Ending::None => judged(t, NONES, !found, b"none, where there is a plan:", s),
-        Ending::Jammed => with_one(t, JAMMED),
-        Ending::Open => with_one(t, OPEN),
-        Ending::Broken => judged(t, OPEN, false, b"a start out of shape:", s),
-    }
-}
-
-fn with_run(t: Tally, rail: Network, state: u64, found: bool, s: &[u8]) -> Tally {
+// How a run ends: right where a plan settles the sheet, and where the search finds nothing for `none`.
+fn try_run(t: &mut Tally, trial: Trial, rail: Network, state: u64, found: bool) {
     let out = run::run(rail, allowed(state));
-    let after = out.network;
-    let ending = out.ending;
-    ended(t, ending, settles(s, taken(after)), found, s)
+    match out.ending {
+        Ending::Plan => {
+            t.plans.add(1);
+            let right = settles(trial.sheet, taken(out.network));
+            t.judge(trial, right, b"a plan that breaks a ban:");
+        }
+        Ending::None => {
+            t.nones.add(1);
+            t.judge(trial, !found, b"none, where there is a plan:");
+        }
+        Ending::Jammed => t.jammed.add(1),
+        Ending::Open => t.open.add(1),
+        Ending::Broken => {
+            t.open.add(1);
+            t.judge(trial, false, b"a start out of shape:");
+        }
+    }
 }
 
-// Where a list of deliveries has come to.
-fn list_ended(t: Tally, rail: Network, found: bool, s: &[u8]) -> Tally {
-    if rail.verdict {
-        return judged(
-            t,
-            AT_VERDICT,
-            !found,
-            b"a verdict, where there is a plan:",
-            s,
-        );
-    }
-    if at_rest(rail) {
-        return judged(
-            t,
-            AT_REST,
-            settles(s, taken(rail)),
-            b"a rest that breaks a ban:",
-            s,
-        );
-    }
-    with_one(t, CUT_SHORT)
-}
-
-fn with_list(t: Tally, rail: Network, state: u64, found: bool, s: &[u8]) -> Tally {
+// Where a list of deliveries comes to.
+fn try_list(t: &mut Tally, trial: Trial, rail: Network, state: u64, found: bool) {
     let l = listed(rail, state, 200);
-    let after = l.rail;
-    let t = with_more(with_more(t, DELIVERIES, l.accepted), REFUSALS, l.refused);
-    let t = list_ended(t, after, found, s);
-    if l.wrong == 0 {
-        return t;
+    t.accepted.add(l.accepted);
+    t.refusals.add(l.refused);
+    if l.rail.verdict {
+        t.at_verdict.add(1);
+        t.judge(trial, !found, b"a verdict, where there is a plan:");
+    } else if at_rest(l.rail) {
+        t.at_rest.add(1);
+        let right = settles(trial.sheet, taken(l.rail));
+        t.judge(trial, right, b"a rest that breaks a ban:");
+    } else {
+        t.cut_short.add(1);
     }
-    judged(t, 16, false, b"a delivery with a wrong number:", s)
+    t.judge(trial, l.wrong == 0, b"a delivery with a wrong number:");
 }
 
-// A sheet under the tally's rule, which is refused with the right number, or whose rail is run and delivered on.
-fn with_sheet(t: Tally, state: u64, s: &[u8]) -> Tally {
-    let out = start::start(t.rule, s);
-    let rail = out.network;
-    let number = fault(s);
-    let t = judged(
-        t,
-        SHEETS,
-        out.number == number,
+// A sheet under a rule, which is refused with the right number, or whose rail is run and delivered on.
+fn try_sheet(t: &mut Tally, trial: Trial, state: u64) {
+    let started = start::start(trial.rule, trial.sheet);
+    let number = started.map_or_else(|e| e.number(), |_| 0);
+    t.sheets.add(1);
+    t.judge(
+        trial,
+        number == fault(trial.sheet),
         b"a sheet that is not refused as it must be:",
-        s,
     );
-    if number != 0 {
-        return with_one(t, number as usize);
+    match started {
+        Ok(rail) => {
+            if of_gaps(trial.sheet) {
+                t.gaps.add(1);
+            }
+            let found = solvable(trial.sheet);
+            try_run(t, trial, rail, state, found);
+            try_list(t, trial, rail, next(state), found);
+        }
+        Err(_) => t.refuse(number),
     }
-    let t = if of_gaps(s) { with_one(t, GAPS) } else { t };
-    let found = solvable(s);
-    with_list(
-        with_run(t, rail, state, found, s),
-        rail,
-        next(state),
-        found,
-        s,
-    )
 }
 
-// The sheet that is the first `length` bytes, under either rule.
-fn with_bytes(t: Tally, state: u64, bytes: &[u8], length: usize) -> Tally {
-    if length <= bytes.len() {
-        let s = &bytes[..length];
-        let first = with_sheet(under(t, 1), state, s);
-        return with_sheet(under(first, 2), state, s);
-    }
-    t
-}
-
-// So many sheets, from a fixed seed.
+// So many sheets, from a fixed seed, each under either rule.
 fn tried(sheets: usize) -> Tally {
-    let mut t = Tally {
-        of: [0u64; 16],
-        rule: 1,
-        out: Out::new(),
-    };
+    let mut t = Tally::new();
     let mut state: u64 = 20030139;
-    for k in 0..sheets {
+    for _ in 0..sheets {
         let d = drawn(state);
-        let bytes = d.bytes;
         state = d.state;
-        t = with_bytes(t, state, &bytes, d.length);
+        if let Some(sheet) = d.bytes.get(..d.length) {
+            for rule in 1..=2 {
+                try_sheet(&mut t, Trial { rule, sheet }, state);
+            }
+        }
     }
     t
 }
 
 fn main() {
-    report(tried(10000));
+    tried(10000).report();
 }

@@ -1,13 +1,15 @@
 -- The lines by their numbers: their ends, what waits on them, and a search that goes round them all.
 use Prim.Native.Nat.{ℕ, zero, suc, ◌+◌, ◌-◌, ◌*◌, ◌/◌, ◌%◌, ◌≤◌, ◌<◌}
-use mathlib.Core.Path.{◌≡◌, refl, sym, ◌∙◌}
-use mathlib.Core.Bool.{true, false, and-false}
+use mathlib.Core.Path.{◌≡◌, refl, sym, ap, ◌∙◌}
+use mathlib.Core.Bool.{Bool, true, not, false, and-false}
 use mathlib.Core.List.{List}
+use Rattle.std.proofs.Common.{Option, Some, None}
+use Rattle.std.specs.Option.{is_some}
 use native.Mathlib.Omega.{arith}
-use lib.Dec.{eqb, leb}
+use lib.Dec.{leb}
 use lib.ListN.{get_or}
 use borrow.Author.Tests.{lt-ltb, le-ltb, leb-true, leb-false, eq-eqb, ne_eqb}
-use Rattle.base.proofs.Tests.{test, eq_test}
+use Rattle.base.proofs.Tests.{test, eq_test, not-not}
 use Rattle.packed.specs.Packed.{assignment}
 use Rattle.clauses.proofs.Numbering.{channel-up, channel-down}
 use Rattle.random_rails.specs.Lines.{sender_of, receiver_of, EndsOf, held_on, rests_below, rests_on, Waiting}
@@ -46,24 +48,17 @@ held_by counts line from to n e h = rw (← e.sender, ← e.receiver) h
 
 -- ---- round all lines
 
-pub met : (counts : List ℕ) (line : ℕ) → line < 132 → (held_on counts line ≡ 0 → ⊥) → Waiting counts line
-met counts line l h = record { range = omega arith; held = λ _. h; none = λ e. absurd (omega (arith, e)) }
-
-pub none-met : (counts : List ℕ) (from : ℕ) → ((q : ℕ) → q < 132 → held_on counts ((from % 132 + q) % 132) ≡ 0) → Waiting counts 132
-none-met counts from h =
-    record {
-      range = omega arith;
-      held = λ l. absurd (omega (arith, l));
-      none = λ _ k l. test (leb (from % 132) k)
-          (λ e.
-          let u = leb-true (from % 132) k e in
-          let q : (from % 132 + (k - from % 132)) % 132 ≡ k = omega arith in
-          rw q at (h (k - from % 132) (omega arith)))
-          (λ e.
-          let u = leb-false (from % 132) k e in
-          let q : (from % 132 + (k + 132 - from % 132)) % 132 ≡ k = omega arith in
-          rw q at (h (k + 132 - from % 132) (omega arith)));
-    }
+pub none-met : (counts : List ℕ) (from : ℕ) → ((q : ℕ) → q < 132 → held_on counts ((from % 132 + q) % 132) ≡ 0) → Waiting counts None
+none-met counts from h k l =
+    test (leb (from % 132) k)
+    (λ e.
+    let u = leb-true (from % 132) k e in
+    let q : (from % 132 + (k - from % 132)) % 132 ≡ k = omega arith in
+    rw q at (h (k - from % 132) (omega arith)))
+    (λ e.
+    let u = leb-false (from % 132) k e in
+    let q : (from % 132 + (k + 132 - from % 132)) % 132 ≡ k = omega arith in
+    rw q at (h (k + 132 - from % 132) (omega arith)))
 
 -- ---- at rest
 
@@ -81,11 +76,7 @@ rests-not (suc n) counts k l h =
     (λ e. rw (ne_eqb (held_on counts n) 0 (rw e at h)))
     (λ e. rw (rests-not n counts k (omega (arith, e)) h, and-false))
 
-pub at_rest : (counts : List ℕ) (line : ℕ) → Waiting counts line → eqb line 132 ≡ rests_on counts
+pub at_rest : (counts : List ℕ) (found : Option ℕ) (none : Bool) → Waiting counts found → is_some found ≡ not none → none ≡ rests_on counts
 unfolding rests_on
-at_rest counts line w =
-    eq_test line 132
-    (λ e. rw (eq-eqb line 132 e) (sym (rests-all 132 counts (w.none e))))
-    (λ e.
-    let l : line < 132 = omega (arith, e, w.range) in
-    rw (ne_eqb line 132 e) (sym (rests-not 132 counts line l (w.held l))))
+at_rest counts (Some line) b w h = sym (not-not b) ∙ ap not (sym h) ∙ sym (rests-not 132 counts line w.0 w.1)
+at_rest counts None b w h = sym (not-not b) ∙ ap not (sym h) ∙ sym (rests-all 132 counts w)

@@ -1,5 +1,5 @@
 -- The 132 lines by their numbers, from 0: by sender, then receiver. What waits on them is read off the rows of counts, one for each sender.
-use Rattle.std.specs.Prelude.{ℕ, zero, suc, ◌+◌, ◌-◌, ◌/◌, ◌%◌, ◌≤◌, ◌<◌, ◌≡◌, Bool, true, cond, ◌&&◌, List, eqb, ltb, get_or}
+use Rattle.std.specs.Prelude.{ℕ, zero, suc, ◌+◌, ◌-◌, ◌/◌, ◌%◌, ◌≤◌, ◌<◌, ◌≡◌, Bool, true, cond, ◌&&◌, List, Option, Some, None, eqb, ltb, get_or}
 use Rattle.packed.specs.Packed.{assignment}
 use Rattle.network.specs.Abstract.{channel_at}
 
@@ -32,8 +32,7 @@ rests_below (suc n) counts = eqb (held_on counts n) 0 && rests_below n counts
 unfoldable pub rests_on : List ℕ → Bool
 rests_on counts = rests_below 132 counts
 
--- a search for a line that holds something: one that does, or 132 where none does
-pub record Waiting (counts : List ℕ) (line : ℕ) : Type 0 where
-  pub range : line ≤ 132
-  pub held : line < 132 → held_on counts line ≡ 0 → ⊥
-  pub none : line ≡ 132 → (k : ℕ) → k < 132 → held_on counts k ≡ 0
+-- a search for a line that holds something: one that does, or none where all are at rest
+abbrev pub Waiting : List ℕ → Option ℕ → Type 0
+Waiting counts (Some line) = (line < 132) × (held_on counts line ≡ 0 → ⊥)
+Waiting counts None = (k : ℕ) → k < 132 → held_on counts k ≡ 0

@@ -1,5 +1,5 @@
 // Random sheets of every kind: both editions, chains out of order, spare records, bans that stand twice, damaged ones.
-ghost use Rattle.std.specs.Prelude.{◌≡◌, ◌+◌, ◌≤◌, ◌<◌};
+ghost use Rattle.std.specs.Prelude.{◌+◌, ◌-◌, ◌≤◌, ◌<◌};
 
 use crate::draws::{next, pick};
 use oracle::reading::wide;
@@ -11,65 +11,243 @@ pub struct Draft {
     pub length: usize,
     pub chained: [bool; 128],
     pub state: u64,
+    ghost fits: { length ≤ 1024 },
 }
 
-fn blank(state: u64) -> Draft
-    ensures { result.length ≡ 24 }
-{
-    Draft {
-        bytes: [0u8; 1024],
-        length: 24,
-        chained: [false; 128],
-        state,
+impl Draft {
+    fn blank(state: u64) -> Draft {
+        Draft {
+            bytes: [0; 1024],
+            length: 24,
+            chained: [false; 128],
+            state,
+        }
     }
-}
 
-// ---- bytes
+    // ---- bytes
 
-// The generator has gone on.
-fn stirred(d: Draft) -> Draft
-    ensures { result.length ≡ d.length }
-{
-    let mut o = d;
-    o.state = next(d.state);
-    o
-}
-
-fn byte_at(d: Draft, at: usize) -> usize
-    ensures { result < 256 }
-{
-    if at < 1024 { wide(d.bytes[at]) } else { 0 }
-}
-
-fn with_byte(d: Draft, at: usize, b: usize) -> Draft
-    ensures { result.length ≡ d.length }
-{
-    let mut o = d;
-    if at < 1024 {
-        o.bytes[at] = (b % 256) as u8;
+    // The generator goes on: a number below `below`, and 0 where there is none.
+    fn pick(&mut self, below: usize) -> usize
+        ensures { result ≤ below - 1 }
+    {
+        self.state = next(self.state);
+        pick(self.state, below)
     }
-    o
-}
 
-// Two bytes, little-endian.
-fn with_word(d: Draft, at: usize, word: usize) -> Draft
-    ensures { result.length ≡ d.length }
-{
-    if 1023 < at {
-        return d;
+    fn byte(&self, at: usize) -> usize
+        ensures { result < 256 }
+    {
+        if at < 1024 { wide(self.bytes[at]) } else { 0 }
     }
-    with_byte(with_byte(d, at, word), at + 1, word / 256)
-}
 
-fn with_length(d: Draft, length: usize) -> Draft
-    requires { d.length ≤ 1024 }
-    ensures { result.length ≤ 1024 }
-{
-    let mut o = d;
-    if length <= 1024 {
-        o.length = length;
+    fn set_byte(&mut self, at: usize, b: usize) {
+        if at < 1024 {
+            self.bytes[at] = (b % 256) as u8;
+        }
     }
-    o
+
+    // Two bytes, little-endian.
+    fn set_word(&mut self, at: usize, word: usize) {
+        if at < 1024 {
+            self.set_byte(at, word);
+            self.set_byte(at + 1, word / 256);
+        }
+    }
+
+    fn set_length(&mut self, length: usize) {
+        if length <= 1024 {
+            self.length = length;
+        }
+    }
+
+    // ---- the header
+
+    // Each scanner gets 1 to `most` slots.
+    fn set_scanners(&mut self, n: usize, most: usize)
+        requires { n ≤ 12 }
+    {
+        self.set_byte(0, n);
+        self.set_byte(1, 1);
+        for i in 0..n {
+            let slots = 1 + self.pick(most) % 8;
+            self.set_byte(8 + i, slots);
+        }
+    }
+
+    // Half of the sheets with up to six scanners have no more than three slots each.
+    fn headed(state: u64) -> Draft {
+        let mut d = Draft::blank(state);
+        let scanners = most_scanners(d.pick(4));
+        let n = 1 + d.pick(scanners);
+        let few = d.pick(2) == 0;
+        let most = if n <= 6 && few { 3 } else { most_slots(n) };
+        d.set_scanners(n, most);
+        d
+    }
+
+    // One sheet in three bans gaps.
+    fn set_edition(&mut self) {
+        if self.pick(3) == 0 {
+            self.set_byte(1, 2);
+        }
+    }
+
+    // ---- the records
+
+    // Two scanners, the higher behind the lower, for the record that begins here.
+    fn set_pair(&mut self, at: usize)
+        requires { at ≤ 976 }
+    {
+        let n = self.byte(0);
+        if n >= 2 {
+            let lower = 1 + self.pick(n - 1);
+            let higher = lower + 1 + self.pick(n - lower);
+            self.set_byte(at, lower);
+            self.set_byte(at + 1, higher);
+        }
+    }
+
+    // A slot for the scanner that is named at `at`, two bytes behind it.
+    fn set_slot(&mut self, at: usize)
+        requires { at ≤ 977 }
+    {
+        let scanner = self.byte(at);
+        let slots = self.byte(7 + scanner);
+        let slot = 1 + self.pick(slots);
+        self.set_byte(at + 2, slot);
+    }
+
+    // A least gap and a greatest one, up to three above it: 0 to 14 stand for -7 to 7, and a byte is 7 less. No gap is above 7, for which 14 stands.
+    fn set_gaps(&mut self, at: usize)
+        requires { at ≤ 976 }
+    {
+        let least = self.pick(15);
+        let greatest = (least + self.pick(4)).min(14);
+        self.set_byte(at + 2, 249 + least);
+        self.set_byte(at + 3, 249 + greatest);
+    }
+
+    // Record r bans a slot of one scanner with a slot of another, higher one, or gaps between them.
+    fn set_ban(&mut self, r: usize) {
+        let at = record_at(r);
+        self.set_pair(at);
+        if self.byte(1) == 2 {
+            self.set_gaps(at);
+        } else {
+            self.set_slot(at);
+            self.set_slot(at + 1);
+        }
+    }
+
+    // Record r says what record q says.
+    fn set_copy(&mut self, r: usize, q: usize) {
+        let from = record_at(q);
+        self.bytes.copy_within(from..from + 4, record_at(r));
+    }
+
+    // Record r is spare: any bytes.
+    fn set_noise(&mut self, r: usize) {
+        let at = record_at(r);
+        for k in 0..8 {
+            let b = self.pick(256);
+            self.set_byte(at + k, b);
+        }
+    }
+
+    fn is_chained(&self, r: usize) -> bool {
+        r < 128 && self.chained[r]
+    }
+
+    // Record r goes into the chain: behind some record of it, or to its front.
+    fn link(&mut self, r: usize) {
+        let q = self.pick(r);
+        let before = if self.is_chained(q) {
+            record_at(q) + 4
+        } else {
+            2
+        };
+        let after = self.byte(before);
+        self.set_word(record_at(r) + 4, after);
+        self.set_word(before, r);
+        if r < 128 {
+            self.chained[r] = true;
+        }
+    }
+
+    // One record in eight is spare, as are all where there is one scanner; one in eight says what an earlier one says, if that one is on the chain.
+    fn set_record(&mut self, r: usize) {
+        let kind = self.pick(8);
+        if self.byte(0) < 2 || kind == 0 {
+            self.set_noise(r);
+        } else {
+            let q = self.pick(r);
+            if kind == 1 && self.is_chained(q) {
+                self.set_copy(r, q);
+            } else {
+                self.set_ban(r);
+            }
+            self.link(r);
+        }
+    }
+
+    // Half of the sheets have up to 120 records, the others up to 60.
+    fn set_records(&mut self) {
+        let most = if self.pick(2) == 0 { 120 } else { 60 };
+        let m = self.pick(most + 1);
+        self.set_word(4, m);
+        self.set_length(24 + 8 * m);
+        for r in 1..=m {
+            self.set_record(r);
+        }
+    }
+
+    // ---- damage
+
+    // Some byte of those from `first` on becomes some number below `below`.
+    fn hit(&mut self, first: usize, bytes: usize, below: usize)
+        requires { first + bytes ≤ 65536 }
+    {
+        let at = first + self.pick(bytes);
+        let b = self.pick(below);
+        self.set_byte(at, b);
+    }
+
+    // The index of the next record of some record, or of the first one, becomes another, up to one beyond the last.
+    fn detour(&mut self) {
+        let m = self.byte(4);
+        let q = self.pick(m + 1);
+        let before = if q == 0 { 2 } else { record_at(q) + 4 };
+        let next = self.pick(m + 2);
+        self.set_word(before, next);
+    }
+
+    fn cut(&mut self) {
+        let length = self.pick(self.length);
+        self.set_length(length);
+    }
+
+    fn lengthen(&mut self) {
+        let more = 1 + self.pick(16);
+        if self.length <= 1000 {
+            self.set_length(self.length + more);
+        }
+    }
+
+    // Half of the sheets are damaged; some damage is harmless.
+    fn damage(&mut self) {
+        let records = 8 * self.byte(4);
+        match self.pick(15) {
+            0 => self.hit(0, 24, 256),
+            1 => self.hit(0, 24, 16),
+            2 => self.hit(24, records, 16),
+            3 => self.hit(24, records, 4),
+            4 => self.detour(),
+            5 => self.cut(),
+            6 => self.lengthen(),
+            7 => self.hit(24, records, 256),
+            _ => {}
+        }
+    }
 }
 
 // Where record r begins, 1 to 120.
@@ -79,34 +257,13 @@ fn record_at(r: usize) -> usize
     if r <= 120 { 16 + 8 * r } else { 16 }
 }
 
-// ---- the header
-
 // The most slots that n scanners have: never more than 4,096 choices in all.
 fn most_slots(n: usize) -> usize {
-    if n <= 4 {
-        return 8;
+    match n {
+        0..=4 => 8,
+        5 | 6 => 4,
+        _ => 2,
     }
-    if n <= 6 { 4 } else { 2 }
-}
-
-// Scanner i + 1 gets 1 to `most` slots.
-fn with_scanner(d: Draft, i: usize, most: usize) -> Draft
-    requires { i < 12 }
-    ensures { result.length ≡ d.length }
-{
-    let o = stirred(d);
-    with_byte(o, 8 + i, 1 + pick(o.state, most) % 8)
-}
-
-fn with_scanners(d: Draft, n: usize, most: usize) -> Draft
-    requires { n ≤ 12 }
-    ensures { result.length ≡ d.length }
-{
-    let mut o = with_byte(with_byte(d, 0, n), 1, 1);
-    for i in 0..n {
-        o = with_scanner(o, i, most);
-    }
-    o
 }
 
 // One sheet in four has up to four scanners, one in four up to twelve, the others up to six.
@@ -120,253 +277,13 @@ fn most_scanners(k: usize) -> usize
     }
 }
 
-// Half of the sheets with up to six scanners have no more than three slots each.
-fn headed(state: u64) -> Draft
-    ensures { result.length ≡ 24 }
-{
-    let d = stirred(blank(state));
-    let scanners = most_scanners(pick(d.state, 4));
-    let d = stirred(d);
-    let n = 1 + pick(d.state, scanners);
-    let d = stirred(d);
-    if n <= 6 {
-        if pick(d.state, 2) == 0 {
-            return with_scanners(d, n, 3);
-        }
-    }
-    with_scanners(d, n, most_slots(n))
-}
-
-// One sheet in three bans gaps.
-fn of_edition(d: Draft) -> Draft
-    ensures { result.length ≡ d.length }
-{
-    let o = stirred(d);
-    if pick(o.state, 3) == 0 {
-        return with_byte(o, 1, 2);
-    }
-    o
-}
-
-// ---- the records
-
-// Two scanners, the higher behind the lower, for the record that begins here.
-fn with_pair(d: Draft, at: usize) -> Draft
-    requires { at ≤ 976 }
-    ensures { result.length ≡ d.length }
-{
-    let n = byte_at(d, 0);
-    if n < 2 {
-        return d;
-    }
-    let d = stirred(d);
-    let lower = 1 + pick(d.state, n - 1);
-    let d = stirred(d);
-    let higher = lower + 1 + pick(d.state, n - lower);
-    with_byte(with_byte(d, at, lower), at + 1, higher)
-}
-
-// A slot for the scanner that is named at `at`, two bytes behind it.
-fn with_slot(d: Draft, at: usize) -> Draft
-    requires { at ≤ 977 }
-    ensures { result.length ≡ d.length }
-{
-    let d = stirred(d);
-    let scanner = byte_at(d, at);
-    with_byte(d, at + 2, 1 + pick(d.state, byte_at(d, 7 + scanner)))
-}
-
-// No gap is above 7, for which 14 stands.
-fn capped(gap: usize) -> usize
-    ensures { result ≤ 14 }
-{
-    if gap < 15 { gap } else { 14 }
-}
-
-// A least gap and a greatest one, up to three above it: 0 to 14 stand for -7 to 7, and a byte is 7 less.
-fn with_gaps(d: Draft, at: usize) -> Draft
-    requires { at ≤ 976 }
-    ensures { result.length ≡ d.length }
-{
-    let d = stirred(d);
-    let least = pick(d.state, 15);
-    let d = stirred(d);
-    let greatest = capped(least + pick(d.state, 4));
-    with_byte(with_byte(d, at + 2, 249 + least), at + 3, 249 + greatest)
-}
-
-// Record r bans a slot of one scanner with a slot of another, higher one, or gaps between them.
-fn with_ban(d: Draft, r: usize) -> Draft
-    ensures { result.length ≡ d.length }
-{
-    let at = record_at(r);
-    let o = with_pair(d, at);
-    if byte_at(o, 1) == 2 {
-        return with_gaps(o, at);
-    }
-    with_slot(with_slot(o, at), at + 1)
-}
-
-// Record r says what record q says.
-fn with_copy(d: Draft, r: usize, q: usize) -> Draft
-    ensures { result.length ≡ d.length }
-{
-    let mut o = d;
-    let from = record_at(q);
-    let to = record_at(r);
-    for k in 0..4 {
-        o = with_byte(o, to + k, byte_at(d, from + k));
-    }
-    o
-}
-
-// Record r is spare: any bytes.
-fn with_noise(d: Draft, r: usize) -> Draft
-    ensures { result.length ≡ d.length }
-{
-    let mut o = d;
-    let at = record_at(r);
-    for k in 0..8 {
-        o = stirred(o);
-        o = with_byte(o, at + k, pick(o.state, 256));
-    }
-    o
-}
-
-fn on_chain(d: Draft, r: usize) -> bool {
-    if r < 128 { d.chained[r] } else { false }
-}
-
-fn marked(d: Draft, r: usize) -> Draft
-    ensures { result.length ≡ d.length }
-{
-    let mut o = d;
-    if r < 128 {
-        o.chained[r] = true;
-    }
-    o
-}
-
-// Record r goes into the chain: behind some record of it, or to its front.
-fn linked(d: Draft, r: usize) -> Draft
-    ensures { result.length ≡ d.length }
-{
-    let d = stirred(d);
-    let q = pick(d.state, r);
-    let before = if on_chain(d, q) { record_at(q) + 4 } else { 2 };
-    let after = byte_at(d, before);
-    marked(
-        with_word(with_word(d, record_at(r) + 4, after), before, r),
-        r,
-    )
-}
-
-// One record in eight is spare, as are all where there is one scanner; one in eight says what an earlier one says, if that one is on the chain.
-fn with_record(d: Draft, r: usize) -> Draft
-    ensures { result.length ≡ d.length }
-{
-    let d = stirred(d);
-    let kind = pick(d.state, 8);
-    if byte_at(d, 0) < 2 || kind == 0 {
-        return with_noise(d, r);
-    }
-    let d = stirred(d);
-    let q = pick(d.state, r);
-    if kind == 1 && on_chain(d, q) {
-        return linked(with_copy(d, r, q), r);
-    }
-    linked(with_ban(d, r), r)
-}
-
-// Half of the sheets have up to 120 records, the others up to 60.
-fn most_records(k: usize) -> usize
-    ensures { result ≤ 120 }
-{
-    if k == 0 { 120 } else { 60 }
-}
-
-fn with_records(d: Draft) -> Draft
-    requires { d.length ≤ 1024 }
-    ensures { result.length ≤ 1024 }
-{
-    let d = stirred(d);
-    let most = most_records(pick(d.state, 2));
-    let d = stirred(d);
-    let m = pick(d.state, most + 1);
-    let mut o = with_length(with_word(d, 4, m), 24 + 8 * m);
-    for r in 0..m {
-        o = with_record(o, r + 1);
-    }
-    o
-}
-
-// ---- damage
-
-// Some byte of those from `first` on becomes some number below `below`.
-fn with_hit(d: Draft, first: usize, bytes: usize, below: usize) -> Draft
-    requires { first + bytes ≤ 65536 }
-    ensures { result.length ≡ d.length }
-{
-    let d = stirred(d);
-    let at = first + pick(d.state, bytes);
-    let d = stirred(d);
-    with_byte(d, at, pick(d.state, below))
-}
-
-// The index of the next record of some record, or of the first one, becomes another, up to one beyond the last.
-fn with_detour(d: Draft) -> Draft
-    ensures { result.length ≡ d.length }
-{
-    let m = byte_at(d, 4);
-    let d = stirred(d);
-    let q = pick(d.state, m + 1);
-    let before = if q == 0 { 2 } else { record_at(q) + 4 };
-    let d = stirred(d);
-    with_word(d, before, pick(d.state, m + 2))
-}
-
-fn with_cut(d: Draft) -> Draft
-    requires { d.length ≤ 1024 }
-    ensures { result.length ≤ 1024 }
-{
-    let d = stirred(d);
-    with_length(d, pick(d.state, d.length))
-}
-
-fn with_more(d: Draft) -> Draft
-    requires { d.length ≤ 1024 }
-    ensures { result.length ≤ 1024 }
-{
-    let d = stirred(d);
-    if d.length <= 1000 {
-        return with_length(d, d.length + 1 + pick(d.state, 16));
-    }
-    d
-}
-
-// Half of the sheets are damaged; some damage is harmless.
-fn damaged(d: Draft) -> Draft
-    requires { d.length ≤ 1024 }
-    ensures { result.length ≤ 1024 }
-{
-    let d = stirred(d);
-    let records = 8 * byte_at(d, 4);
-    match pick(d.state, 15) {
-        0 => with_hit(d, 0, 24, 256),
-        1 => with_hit(d, 0, 24, 16),
-        2 => with_hit(d, 24, records, 16),
-        3 => with_hit(d, 24, records, 4),
-        4 => with_detour(d),
-        5 => with_cut(d),
-        6 => with_more(d),
-        7 => with_hit(d, 24, records, 256),
-        _ => d,
-    }
-}
-
 // A sheet for this state of the generator: it fits its buffer. Behind a sheet that was cut short stands what was cut off.
 pub fn drawn(state: u64) -> Draft
     ensures { result.length ≤ 1024 }
 {
-    damaged(with_records(of_edition(headed(state))))
+    let mut d = Draft::headed(state);
+    d.set_edition();
+    d.set_records();
+    d.damage();
+    d
 }

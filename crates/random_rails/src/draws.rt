@@ -10,11 +10,13 @@ pub fn next(state: u64) -> u64
 }
 
 // A number below `below`, and 0 where there is none.
+#[tactic(auto, unfolding(crate::specs::Draws::picked))]
 pub fn pick(state: u64, below: usize) -> usize
     ensures { (result ≡ picked state below) × (result ≤ below - 1) }
 {
     if below == 0 {
-        return 0;
+        0
+    } else {
+        (state % below as u64) as usize
     }
-    (state % below as u64) as usize
 }

@@ -1,5 +1,5 @@
 // Rails tried: a run, and a list of deliveries in random order.
-ghost use Rattle.std.specs.Prelude.{◌≡◌, true, cond, ◌||◌, ◌+◌, ◌≤◌, ◌<◌};
+ghost use Rattle.std.specs.Prelude.{◌≡◌, true, ◌||◌, ◌+◌, ◌≤◌, ◌<◌};
 ghost use Rattle.network.specs.Abstract.{network_of};
 ghost use Rattle.random_rails.specs.Lines.{EndsOf, rests_on, Waiting};
 ghost use Rattle.random_rails.specs.Listing.{Goes, Listed};
@@ -7,6 +7,7 @@ ghost use Rattle.random_rails.specs.Listing.{Goes, Listed};
 use crate::draws::{next, pick};
 use network::Network;
 use packed::digit;
+use refusals::Refusal;
 
 // ---- lines
 
@@ -24,54 +25,36 @@ pub fn ends_of(line: usize) -> Ends
 {
     let from = (line / 11 + 1) as u8;
     let other = (line % 11 + 1) as u8;
-    if other < from {
-        return Ends { from, to: other };
-    }
-    Ends {
-        from,
-        to: other + 1,
-    }
+    let to = if other < from { other } else { other + 1 };
+    Ends { from, to }
 }
 
-// The first line that holds something, from line `from` on and round; 132 where nothing waits.
-fn waiting_line(counts: [u64; 12], from: usize) -> usize
-    ensures { Waiting counts result }
+// The first line that holds something, from this line on and round.
+fn waiting_line(counts: &[u64; 12], first: usize) -> Option<usize>
+    ensures { Waiting counts.now result }
 {
     for k in 0..132 {
-        let c = (from % 132 + k) % 132;
-        let e = ends_of(c);
-        if digit(counts[e.from as usize - 1], e.to) != 0 {
-            return c;
+        let line = (first % 132 + k) % 132;
+        let Ends { from, to } = ends_of(line);
+        if digit(counts[from as usize - 1], to) != 0 {
+            return Some(line);
         }
     }
-    132
+    None
 }
 
 // Nothing waits on any line.
 pub fn at_rest(rail: Network) -> bool
     ensures { result ≡ rests_on rail.counts }
 {
-    let counts = rail.counts;
-    waiting_line(counts, 0) == 132
+    waiting_line(&rail.counts, 0).is_none()
 }
 
 // There is a line between two of n scanners.
 fn is_line(n: u8, from: u8, to: u8) -> bool
     ensures { result ≡ true → (1 ≤ from) × (1 ≤ to) × (from ≤ n) × (to ≤ n) }
 {
-    if from == 0 {
-        return false;
-    }
-    if n < from {
-        return false;
-    }
-    if to == 0 {
-        return false;
-    }
-    if n < to {
-        return false;
-    }
-    from != to
+    0 < from && from <= n && 0 < to && to <= n && from != to
 }
 
 // ---- deliveries
@@ -87,68 +70,50 @@ pub struct List {
 }
 
 // Some line that holds something; one time in eight any two numbers from 0 to 13.
-fn chosen(counts: [u64; 12], state: u64) -> Ends {
+fn chosen(counts: &[u64; 12], state: u64) -> Ends {
     let second = next(state);
-    let third = next(second);
     if pick(second, 8) == 0 {
-        return Ends {
+        Ends {
             from: pick(state, 14) as u8,
-            to: pick(third, 14) as u8,
-        };
+            to: pick(next(second), 14) as u8,
+        }
+    } else {
+        match waiting_line(counts, pick(state, 132)) {
+            Some(line) => ends_of(line),
+            None => Ends { from: 1, to: 1 },
+        }
     }
-    let line = waiting_line(counts, pick(state, 132));
-    if line == 132 {
-        return Ends { from: 1, to: 1 };
-    }
-    ends_of(line)
 }
 
-// The number that a delivery must give: 6, 7 or 8, or else 0 or 10.
-fn number_right(rail: Network, e: Ends, number: u8) -> bool {
+// Whether a delivery may be refused so, or accepted: where no other refusal must come, there may be no room.
+fn refusal_right(rail: &Network, e: Ends, refusal: Option<Refusal>) -> bool {
     if !is_line(rail.count, e.from, e.to) {
-        return number == 6;
+        refusal == Some(Refusal::BadNumbers)
+    } else if rail.verdict {
+        refusal == Some(Refusal::VerdictStands)
+    } else if 12 < e.from || 12 < e.to {
+        false
+    } else if digit(rail.counts[e.from as usize - 1], e.to) == 0 {
+        refusal == Some(Refusal::EmptyChannel)
+    } else {
+        matches!(refusal, None | Some(Refusal::NoRoom))
     }
-    if rail.verdict {
-        return number == 7;
-    }
-    if 12 < e.from {
-        return false;
-    }
-    if 12 < e.to {
-        return false;
-    }
-    if digit(rail.counts[e.from as usize - 1], e.to) == 0 {
-        return number == 8;
-    }
-    number == 0 || number == 10
-}
-
-// One more where it holds.
-fn more(n: u64, holds: bool) -> u64
-    requires { n < 18446744073709551615 }
-    ensures { result ≡ cond holds (n + 1) n }
-{
-    if holds {
-        return n + 1;
-    }
-    n
 }
 
 fn delivered(l: List) -> List
     requires { (l.accepted + l.refused < 18446744073709551615) × (l.wrong ≤ l.accepted + l.refused) }
     ensures { Goes l result }
 {
-    let rail = l.rail;
-    let counts = rail.counts;
-    let ends = chosen(counts, l.state);
-    let out = run::deliver(rail, ends.from, ends.to);
-    let after = out.network;
+    let ends = chosen(&l.rail.counts, l.state);
+    let out = run::deliver(l.rail, ends.from, ends.to);
+    let accepted = out.refusal.is_none();
+    let wrong = !refusal_right(&l.rail, ends, out.refusal);
     List {
-        rail: after,
+        rail: out.network,
         state: next(next(next(l.state))),
-        accepted: more(l.accepted, out.number == 0),
-        refused: more(l.refused, out.number != 0),
-        wrong: more(l.wrong, !number_right(rail, ends, out.number)),
+        accepted: l.accepted + u64::from(accepted),
+        refused: l.refused + u64::from(!accepted),
+        wrong: l.wrong + u64::from(wrong),
     }
 }
 
@@ -156,7 +121,7 @@ fn delivered(l: List) -> List
 fn over(rail: Network) -> bool
     ensures { result ≡ rail.verdict || rests_on rail.counts }
 {
-    rail.verdict | at_rest(rail)
+    rail.verdict || at_rest(rail)
 }
 
 // Up to `most` deliveries, in random order.
@@ -170,10 +135,9 @@ pub fn listed(rail: Network, state: u64, most: usize) -> List
         refused: 0,
         wrong: 0,
     };
-    for k in 0..most {
-        let now = l.rail;
-        if over(now) {
-            return l;
+    for _ in 0..most {
+        if over(l.rail) {
+            break;
         }
         l = delivered(l);
     }

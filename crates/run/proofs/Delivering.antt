@@ -1,6 +1,12 @@
 -- The entries over the engine: what the work comes to for one delivery and for a run.
 use Prim.Native.Nat.{ℕ}
-use mathlib.Core.Bool.{true, false}
+use native.Mathlib.Omega.{arith}
+use lib.Dec.{leb}
+use borrow.Author.Tests.{leb-true, leb-false}
+use Rattle.std.proofs.Math.Nat.{min-eq_left, min-eq_right}
+use Rattle.refusals.specs.declared.Refusal.{Refusal}
+use mathlib.Core.Bool.{true, false, false≢true}
+use Rattle.std.specs.Prelude.{Option, Some, None, is_some, min}
 use mathlib.Core.Path.{◌≡◌, refl, sym, ◌∙◌}
 use mathlib.Core.Logic.{◌≢◌}
 use mathlib.Core.List.{List, [], ◌∷◌}
@@ -19,6 +25,7 @@ use Rattle.protocol.specs.Run.{
   ending_number,
   Ran as Ran',
   run_from,
+  max_rounds,
   allowed,
   run,
 }
@@ -26,6 +33,8 @@ use Rattle.network.specs.declared.Network.{Network}
 use Rattle.network.specs.Abstract.{network_of}
 use Rattle.network_laws.proofs.Rejecting.{bad-shape, bad-numbers, stands, tries, jams, goes}
 use Rattle.engine.specs.declared.Answer.{Answer as Answered}
+use Rattle.engine.specs.Refused.{refused_number}
+use Rattle.refusals.proofs.Numbers.{refusal-some}
 use Rattle.engine.specs.Working.{ends_by, stopped_with, delivered_as, ran_as, work_by}
 use Rattle.engine.specs.Answers.{ending_of, WorksAs}
 use Rattle.run.specs.Answers.{DeliversAs, standing, RunsAs}
@@ -58,24 +67,30 @@ rejected-kept w i j =
 -- ---- one delivery
 
 module _ (r : Network) (i j k : ℕ) (a : Answered) (w : WorksAs (work_by true i j k (network_of r)) a) where
-  abbrev d : Delivery
-  d = deliver (network_of r) i j
-
-  number : a.number ≡ answer_number d.answer
+  number : refused_number a.refusal ≡ answer_number (deliver (network_of r) i j).answer
   unfolding work_by delivered_as stopped_with
   number = w.number
 
-  pub delivered : a.number ≡ 0 → DeliversAs r (deliver (network_of r) i j) a.number a.network
+  pub delivered : refused_number a.refusal ≡ 0 → DeliversAs r (deliver (network_of r) i j) (refused_number a.refusal) a.network
   unfolding work_by delivered_as stopped_with
   delivered z = record { network = w.network; number = number; untouched = λ n. absurd (n z) }
 
-  pub rejected : a.number ≢ 0 → DeliversAs r (deliver (network_of r) i j) a.number r
+  pub rejected : refused_number a.refusal ≢ 0 → DeliversAs r (deliver (network_of r) i j) (refused_number a.refusal) r
   rejected z =
       record { network = sym (rejected-kept (network_of r) i j (λ e. z (number ∙ e))); number = number; untouched = λ n. refl }
 
   pub stood : (a.rounds ≡ 0) × (ending_of a.ending ≡ standing (deliver (network_of r) i j))
   unfolding work_by delivered_as stopped_with standing
   stood = (w.rounds, w.ending)
+
+-- what is refused has a number
+pub some-number : (o : Option Refusal) → is_some o ≡ true → refused_number o ≢ 0
+some-number None e = absurd (false≢true e)
+some-number (Some x) e = refusal-some x
+
+pub none-number : (o : Option Refusal) → is_some o ≡ false → refused_number o ≡ 0
+none-number None e = refl
+none-number (Some x) e = absurd (false≢true (sym e))
 
 -- ---- a run
 
@@ -88,7 +103,7 @@ number-five Jammed' n = absurd (n refl)
 number-five Open' n = absurd (n refl)
 number-five Broken' n = refl
 
-module _ (r : Network) (x : Answered) (u : x.number ≡ 5 → x.network ≡ r) where
+module _ (r : Network) (x : Answered) (u : refused_number x.refusal ≡ 5 → x.network ≡ r) where
   runs : (d : Ran') → WorksAs (ran_as d) x → RunsAs r d x
   unfolding ran_as
   runs d w =
@@ -106,10 +121,16 @@ module _ (r : Network) (x : Answered) (u : x.number ≡ 5 → x.network ≡ r) w
   broken w =
       record { network = w.network; rounds = w.rounds; number = w.number; ending = w.ending; untouched = λ n. u w.number }
 
-pub ran : (r : Network) (k a : ℕ) (x : Answered) → a ≡ allowed k → WorksAs (work_by false 0 0 a (network_of r)) x → (x.number ≡ 5 → x.network ≡ r)
-    → RunsAs r (run k (network_of r)) x
+-- "more is taken as 1,000,000"
+allowed-is : (k : ℕ) → min k 1000000 ≡ allowed k
+unfolding allowed max_rounds
+allowed-is k = test (leb k 1000000) (λ t. rw (t, allowed) (min-eq_left (leb-true k 1000000 t))) (λ t. rw (t, allowed) (min-eq_right (let h = leb-false k 1000000 t in omega arith)))
+
+pub ran : (r : Network) (k a : ℕ) (x : Answered) → a ≡ min k 1000000 → WorksAs (work_by false 0 0 a (network_of r)) x
+    → (refused_number x.refusal ≡ 5 → x.network ≡ r) → RunsAs r (run k (network_of r)) x
 unfolding run work_by rejection_number
-ran r k a x e w u =
+ran r k a x m w u =
+    let e = m ∙ allowed-is k in
     test (in_shape (network_of r))
     (λ s. rw (s, run, ← e) (runs r x u (run_from a 0 [] (network_of r)) (rw (s, work_by) at w)))
     (λ s. rw (s, run) (broken r x u (rw (s, work_by) at w)))

@@ -7,6 +7,7 @@ use Rattle.network.specs.Abstract.{network_of}
 use Rattle.engine.specs.declared.Answer.{Answer}
 use Rattle.engine.specs.Working.{delivered_as}
 use Rattle.engine.specs.Answers.{ending_of}
+use Rattle.engine.specs.Refused.{refused_number}
 
 -- a delivery on r is answered, by this number and this network, as the definitions' delivery d. A rejected one hands back the very network given, unused
 -- places and all.
@@ -19,10 +20,10 @@ pub record DeliversAs (r : Network) (d : Delivery) (answered : ℕ) (left : Netw
 unfoldable pub standing : Delivery → Ending'
 standing d = (delivered_as d).ending
 
--- a run on r is answered as the definitions' run d. A rejected one hands back the very network given.
+-- a run on r is answered as the definitions' run d. A refused one hands back the very network given.
 pub record RunsAs (r : Network) (d : Ran') (answer : Answer) : Type 0 where
   pub network : network_of answer.network ≡ d.network
   pub rounds : answer.rounds ≡ d.made
-  pub number : answer.number ≡ ending_number d.ending
+  pub number : refused_number answer.refusal ≡ ending_number d.ending
   pub ending : ending_of answer.ending ≡ d.ending
-  pub untouched : (answer.number ≡ 0 → ⊥) → answer.network ≡ r
+  pub untouched : (refused_number answer.refusal ≡ 0 → ⊥) → answer.network ≡ r

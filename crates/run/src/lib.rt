@@ -1,47 +1,32 @@
 // The network (rail) at work: one delivery, and the run.
 #![tactic(auto)]
 
-ghost use Rattle.std.specs.Prelude.{◌≡◌, ◌≤◌};
+ghost use Rattle.std.specs.Prelude.{◌≡◌};
 ghost use Rattle.protocol.specs.Delivery.{deliver as deliver_by};
-ghost use Rattle.protocol.specs.Run.{allowed as allowed_by, run as run_by};
+ghost use Rattle.protocol.specs.Run.{run as run_by};
 ghost use Rattle.network.specs.Abstract.{network_of};
 ghost use Rattle.engine.specs.Answers.{ending_of};
+ghost use Rattle.engine.specs.Refused.{refused_number};
 ghost use Rattle.run.specs.Answers.{DeliversAs, standing, RunsAs};
 
 use engine::{Answer, work};
 use network::Network;
 
-// A delivery tests 5 to 10, in that order. A rejected one hands back the very network given.
+// A delivery tests 5 to 10, in that order. A refused one hands back the very network given.
 pub fn deliver(r: Network, from: u8, to: u8) -> Answer
-    ensures delivers_as { DeliversAs r (deliver_by (network_of r) from to) result.number result.network }
+    ensures delivers_as { DeliversAs r (deliver_by (network_of r) from to) (refused_number result.refusal) result.network }
     ensures rounds_value { (result.rounds ≡ 0) × (ending_of result.ending ≡ standing (deliver_by (network_of r) from to)) }
 {
-    let a = work(r, true, from, to, 0);
-    if a.number != 0 {
-        let ending = a.ending;
-        return Answer {
-            network: r,
-            rounds: a.rounds,
-            number: a.number,
-            ending: ending,
-        };
+    let mut answer = work(r, true, from, to, 0);
+    if answer.refusal.is_some() {
+        answer.network = r;
     }
-    a
+    answer
 }
 
-// "0 to 1,000,000, and more is taken as 1,000,000"
-fn at_most_a_million(rounds: u64) -> u64
-    ensures { (result ≡ allowed_by rounds) × (result ≤ 1000000) }
-{
-    if rounds <= 1000000 {
-        return rounds;
-    }
-    1000000
-}
-
-// The run tests the shape once, and rejects only with 5.
+// The run tests the shape once, and is refused only with 5. Its rounds: "0 to 1,000,000, and more is taken as 1,000,000"
 pub fn run(r: Network, allowed: u64) -> Answer
     ensures { RunsAs r (run_by allowed (network_of r)) result }
 {
-    work(r, false, 0, 0, at_most_a_million(allowed))
+    work(r, false, 0, 0, allowed.min(1000000))
 }

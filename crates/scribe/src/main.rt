@@ -1,12 +1,11 @@
 // Writes the sheet of a text on standard input, or the text of a sheet, on standard output: `scribe sheet`, `scribe text`.
 #![tactic(auto)]
 
-ghost use Rattle.std.specs.Prelude.{◌≡◌, ◌≤◌, length};
+ghost use Rattle.std.specs.Prelude.{◌≡◌, length};
 
-use lent::Written;
-use scribe_drafts::Fault;
+use refusals::Refusal;
 use scribe_faults::fault_text;
-use scribe_reader::read_sheet;
+use scribe_reader::{Faulty, Unread, read_sheet};
 use scribe_writer::write_text;
 use std::rt::Env;
 use tool::{
@@ -15,23 +14,19 @@ use tool::{
 };
 
 // What was answered: the bytes that were written, or a refusal.
-fn finish(w: Written, bytes: &[u8]) {
-    if w.number != 0 {
-        say_refused(w.number);
-        return;
-    }
-    let n = w.length;
-    if n <= bytes.len() {
-        written(&bytes[..n]);
+fn finish(answer: Result<usize, Refusal>, bytes: &[u8]) {
+    match answer {
+        Ok(n) => {
+            written(bytes.get(..n).unwrap_or(bytes));
+        }
+        Err(refusal) => say_refused(refusal),
     }
 }
 
 // The line that says what is wrong, and where.
-fn say_fault(line: u64, f: Fault)
-    requires { 1 ≤ f.number }
-{
+fn say_fault(Faulty { line, fault }: Faulty) {
     let mut text = [0u8; 89];
-    let n = fault_text(line, f, &mut text);
+    let n = fault_text(line, fault, &mut text);
     io::write_all(STDERR_FILENO, &text[..n]);
 }
 
@@ -47,14 +42,11 @@ fn sheet() {
     let mut given = room();
     let n = io::read_full(STDIN_FILENO, &mut given);
     let mut bytes = [0u8; 33816];
-    let r = read_sheet(&given[..n], &mut bytes);
-    let f = r.fault;
-    if f.number != 0 {
-        say_fault(r.line, f);
-        return;
+    match read_sheet(&given[..n], &mut bytes) {
+        Ok(n) => finish(Ok(n), &bytes),
+        Err(Unread::Refused(refusal)) => finish(Err(refusal), &bytes),
+        Err(Unread::Faulty(faulty)) => say_fault(faulty),
     }
-    let w = r.written;
-    finish(w, &bytes);
 }
 
 // The longest sheet, with one byte more that tells likewise. The longest text that is told has 67,614 bytes.
@@ -62,26 +54,21 @@ fn text() {
     let mut given = [0u8; 33817];
     let n = io::read_full(STDIN_FILENO, &mut given);
     let mut bytes = [0u8; 67614];
-    let w = write_text(&given[..n], &mut bytes);
-    finish(w, &bytes);
+    finish(write_text(&given[..n], &mut bytes), &bytes);
 }
 
 // The command, if it is one and no word stands behind it. Nothing is read before that is clear.
 fn follow(rt: &impl Env, word: &[u8]) {
-    let to_sheet = check::same(word, b"sheet");
-    if !to_sheet & !check::same(word, b"text") {
+    let to_sheet = word == b"sheet".as_slice();
+    if !to_sheet && word != b"text".as_slice() {
         say(b"command not understood: ", word);
-        return;
-    }
-    if 2 < argument_count(rt) {
+    } else if 2 < argument_count(rt) {
         say_surplus(rt, 2);
-        return;
-    }
-    if to_sheet {
+    } else if to_sheet {
         sheet();
-        return;
+    } else {
+        text();
     }
-    text();
 }
 
 fn main(rt: HostRuntime) {

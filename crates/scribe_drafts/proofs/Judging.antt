@@ -1,52 +1,64 @@
 -- Tests in a row: a fault is that of the first one that does not hold.
 -- One test more in front, and tests behind others.
-use Prim.Native.Nat.{ℕ, pred}
 use mathlib.Core.Path.{◌≡◌, refl, sym, ap, ◌∙◌}
 use mathlib.Core.Bool.{Bool, true, false}
 use mathlib.Core.List.{List, [], ◌∷◌, ◌++◌}
-use native.Mathlib.Omega.{arith}
-use lib.Dec.{eqb}
-use lib.ListN.{get_or}
-use borrow.Author.Tests.{ne_eqb, eqb-false}
+use Rattle.std.specs.Option.{ok_or}
+use Rattle.std.specs.Prelude.{Option, None, Result, Ok, Err, IfOk}
 use Rattle.base.proofs.Tests.{test}
-use Rattle.scribe_rules.specs.Drafts.{Fault as Fault', LongText, Draft as Draft', Test, Need, Next, Wrong, tested}
-use Rattle.scribe_drafts.specs.declared.Fault.{Fault}
-use Rattle.scribe_drafts.specs.Drafting.{faults, fault_of, judged, Judges}
+use Rattle.scribe_rules.specs.Drafts.{Fault as Fault', Draft as Draft', Test, Need, Next, Wrong, tested}
+use Rattle.scribe_drafts.specs.declared.fault.Fault.{Fault}
+use Rattle.scribe_drafts.specs.Faults.{fault_of, needed}
+use Rattle.scribe_drafts.specs.Drafting.{judged, Judges}
 
--- ---- one fault
+-- ---- one test
 
-pub no-fault : (f : Fault) → f.number ≡ 0 → (d : Draft') → judged f d ≡ Next d
-unfolding judged
-no-fault f e d = rw (e, judged)
+need-wrong : (good : Bool) (f e : Fault) → needed good f ≡ Err e → (good ≡ false) × (f ≡ e)
+unfolding needed
+need-wrong true f e h = let z : ⊥ = cc in absurd z
+need-wrong false f e h = (refl, cc)
 
-pub some-fault : (f : Fault) → (f.number ≡ 0 → ⊥) → (d : Draft') → judged f d ≡ Wrong (fault_of f)
-unfolding judged
-some-fault f n d = rw (ne_eqb f.number 0 n, judged)
+pub need-right : (good : Bool) (f : Fault) {u : Unit {0}} → needed good f ≡ Ok u → good ≡ true
+unfolding needed
+need-right true f h = refl
+need-right false f h = let z : ⊥ = cc in absurd z
 
-pub names : (f : Fault) (n : ℕ) (g : Fault') → f.number ≡ n → eqb n 0 ≡ false → get_or (faults f.agent f.value) (pred n) LongText ≡ g
-    → (d : Draft') → judged f d ≡ Wrong g
-unfolding fault_of
-names f n g h z e d =
-    some-fault f (λ q. eqb-false n 0 z (sym h ∙ q)) d
-    ∙ ap Wrong (ap (λ (k : ℕ). get_or (faults f.agent f.value) (pred k) LongText) h ∙ e)
-
--- ---- tests
-
-module _ (good : Bool) (g : Fault') (tests : List Test) (f : Fault) where
-  pub holds : good ≡ true → Judges tests f → Judges (Need good g ∷ tests) f
-  unfolding tested
-  holds e J d = rw (e, tested) (J d)
-
-  pub fails : good ≡ false → ((d : Draft') → judged f d ≡ Wrong g) → Judges (Need good g ∷ tests) f
-  unfolding tested
-  fails e s d = rw (e, tested) (sym (s d))
-
-pub passed : (f : Fault) → f.number ≡ 0 → Judges [] f
+-- `good` is what the code tests
+pub passes : {good holds : Bool} {g : Fault'} {tests : List Test} {r : Result (Unit {0}) Fault} {u : Unit {0}} (f : Fault)
+    → good ≡ holds → needed good f ≡ Ok u → Judges tests r → Judges (Need holds g ∷ tests) r
 unfolding tested
-passed f e d = sym (no-fault f e d)
+passes {good} f t h K = record { same = λ d. rw (sym t ∙ need-right good f h, tested) (K.same d) }
+
+pub stops-at : {good holds : Bool} {e : Fault} {g : Fault'} {tests : List Test} (f : Fault)
+    → good ≡ holds → fault_of f ≡ g → needed good f ≡ Err e → Judges (Need holds g ∷ tests) (Err e)
+unfolding tested judged
+stops-at {good} {e = e} f t q h =
+    let n = need-wrong good f e h in
+    record { same = λ d. rw (sym t ∙ n.0, tested) (ap Wrong (sym q ∙ ap fault_of n.1)) }
+
+pub passed : {u : Unit {0}} → Judges [] (Ok u)
+unfolding tested judged
+passed = record { same = λ d. refl }
+
+-- a last test
+pub last : {good holds : Bool} {g : Fault'} (f : Fault) → good ≡ holds → fault_of f ≡ g → (r : Result (Unit {0}) Fault) → r ≡ needed good f
+    → Judges (Need holds g ∷ []) r
+last f t q (Ok u) e = passes f t (sym e) passed
+last f t q (Err x) e = stops-at f t q (sym e)
+
+-- an error in place of what is not there
+pub absent : {A : Type 0} (o : Option A) (e f : Fault) → o ≡ None → Err e ≡ ok_or o f → e ≡ f
+absent o e f n h = let q = rw n at h in cc
+
+-- what holds in any case
+pub always : {P : Type 0} → P → (r : Result (Unit {0}) Fault) → IfOk r (λ _. P)
+always p (Ok u) = p
+always p (Err f) = tt
+
+-- ---- tests behind others
 
 not-next : {X : Type 0} {g : Fault'} {d : Draft'} → Wrong g ≡ Next d → X
-not-next e = let z : ◌≡◌ {A = ℕ} 0 1 = cc in absurd (omega arith)
+not-next e = let z : ⊥ = cc in absurd z
 
 tested-then : (xs ys : List Test) (d : Draft') → tested xs d ≡ Next d → tested (xs ++ ys) d ≡ tested ys d
 unfolding tested
@@ -64,9 +76,10 @@ tested-stop (Need good k ∷ xs) ys d g h =
     (λ e. rw (e, tested) (tested-stop xs ys d g (rw (e, tested) at h)))
     (λ e. rw (e, tested) (rw (e, tested) at h))
 
-module _ (xs ys : List Test) (f : Fault) (J : Judges xs f) where
-  pub goes_on : f.number ≡ 0 → (h : Fault) → Judges ys h → Judges (xs ++ ys) h
-  goes_on e h K d = tested-then xs ys d (J d ∙ no-fault f e d) ∙ K d
+pub goes_on : {xs ys : List Test} {r : Result (Unit {0}) Fault} {u : Unit {0}} → Judges xs (Ok u) → Judges ys r → Judges (xs ++ ys) r
+unfolding judged
+goes_on {xs} {ys} K L = record { same = λ d. tested-then xs ys d (K.same d) ∙ L.same d }
 
-  pub stops : (f.number ≡ 0 → ⊥) → Judges (xs ++ ys) f
-  stops n d = tested-stop xs ys d (fault_of f) (J d ∙ some-fault f n d) ∙ sym (some-fault f n d)
+pub stops : {xs : List Test} {f : Fault} (ys : List Test) → Judges xs (Err f) → Judges (xs ++ ys) (Err f)
+unfolding judged
+stops {xs} {f} ys K = record { same = λ d. tested-stop xs ys d (fault_of f) (K.same d) }

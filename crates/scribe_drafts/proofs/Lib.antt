@@ -1,4 +1,4 @@
 pub mod Judging
-mod Signs
 mod Testing
-pub mod Taking
+mod Signs
+mod Taking

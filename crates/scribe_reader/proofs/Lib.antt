@@ -1,2 +1,1 @@
 mod Walked
-mod Answers

@@ -1,81 +1,33 @@
--- Line by line: what is read so far, with the lines left, comes to the same. The first line of what is left ends at the first newline, and what
--- stands behind that is read on.
-use Prim.Native.Nat.{ℕ, suc, ◌+◌, ◌-◌, ◌≤◌, ◌<◌}
+-- Line by line: the first line of what is left ends at the first newline, and what stands behind that is read on.
+use Prim.Native.Nat.{min, ℕ, suc, ◌+◌, ◌≤◌, ◌<◌}
 use mathlib.Core.Path.{◌≡◌, refl, sym, ap, ◌∙◌}
-use mathlib.Core.Bool.{Bool, true, false, cond, ◌&&◌}
+use mathlib.Core.Bool.{Bool, true, false, ◌&&◌}
 use mathlib.Core.List.{List, [], ◌∷◌}
 use native.Mathlib.Numerals.{add-one}
 use native.Mathlib.Omega.{arith}
-use lib.Dec.{eqb, ltb, leb}
-use lib.ListN.{length, get_or, take, drop, length-drop, drop_of_length-le}
-use lib.Seq.{drop-cons, drop-drop, drop-length}
-use borrow.Author.Tests.{eqb-true, eqb-false, ne_eqb, leb-false, leb-true, ltb-true, ltb-false}
-use Rattle.base.proofs.Tests.{test, both}
+use lib.Dec.{ltb}
+use borrow.Author.Tests.{ltb-true, ltb-false}
+use lib.ListN.{length, take, drop, length-take, length-drop, drop_of_length-le}
+use lib.Seq.{take_all}
+use Rattle.base.proofs.Tests.{test}
+use lib.Pointwise.{pointwise}
+use Rattle.std.specs.Prelude.{nat_eq, Ok, Err}
 use Rattle.base.specs.Same.{same_numbers}
-use Rattle.base.proofs.Same.{other-numbers}
-use Rattle.scribe_rules.specs.Words.{is_newline, is_blank, first_at, count_of, pieces_of, filled, lines_of, whole_lines, without_return, without_comment, words_of}
-use Rattle.scribe_rules.specs.Statements.{Said, Empty, Unclear, slots_word, ban_word, gap_word, slots_said, ban_said, gap_said, words_say, line_says}
-use Rattle.scribe_rules.specs.Drafts.{Draft as Draft', no_draft, Taken, Next, Wrong, with_said, with_line}
-use Rattle.scribe_rules.specs.Reading.{Outcome, Faulty, at_end, read_lines, read_from}
-use Rattle.scribe_statements.specs.declared.parts.Word.{Word}
-use Rattle.scribe_drafts.specs.declared.Draft.{Draft}
-use Rattle.scribe_drafts.specs.declared.Fault.{Fault}
-use Rattle.scribe_drafts.specs.declared.Step.{Step}
-use Rattle.scribe_reader.specs.declared.lines.Walk.{Walk}
-use Rattle.scribe_statements.specs.Parts.{part, words_in, NextWord}
-use Rattle.scribe_drafts.specs.Drafting.{fault_of, draft_in, taken_of, Fit, Takes}
-use Rattle.scribe_reader.specs.Walking.{outcome_at, Walks, Ready, Advances, end_of}
+use Rattle.scribe_rules.specs.Words.{is_newline, is_blank, filled, without_return, without_comment, words_of, first_at, count_of, pieces_of, lines_of, whole_lines}
+use Rattle.scribe_rules.specs.Statements.{slots_word, ban_word, gap_word, slots_said, ban_said, gap_said, words_say, line_says}
+use Rattle.scribe_rules.specs.Drafts.{NotStatement as NotStatement', Draft as Draft', no_draft, Next, Wrong, begun, with_said, with_line}
+use Rattle.scribe_statements.specs.Parts.{words_in}
+use Rattle.scribe_drafts.specs.declared.draft.Draft.{Draft}
+use Rattle.scribe_drafts.specs.declared.fault.Fault.{Fault}
+use Rattle.scribe_drafts.specs.declared.fault.Fault.TheVariants.{SlotsFirst, LongText}
+use Rattle.scribe_drafts.specs.Faults.{fault_of}
+use Rattle.scribe_drafts.specs.Drafting.{draft_in, judged, taken_of}
+use Rattle.scribe_rules.specs.Reading.{longest_text, Outcome, Faulty, at_end, read_lines, read_from, sheet_of}
+use Rattle.scribe_reader.specs.Walking.{lines_in, outcome_of}
 use Rattle.scribe_statements.proofs.Searching.{first-here, first-later, first-within}
-use Rattle.scribe_statements.proofs.Pieces.{piece-first, rest_of}
-use Rattle.scribe_drafts.proofs.Judging.{no-fault, some-fault}
+use Rattle.scribe_statements.proofs.Pieces.{piece-first}
 
--- ---- what a line's words say
-
-module _ (words args : List (List ℕ)) (word : List ℕ) (e : words ≡ word ∷ args) where
-  pub says-slots : word ≡ slots_word → words_say words ≡ slots_said args
-  unfolding words_say same_numbers slots_word
-  says-slots q = ap words_say e ∙ ap (λ (x : List ℕ). words_say (x ∷ args)) q
-
-  pub says-ban : word ≡ ban_word → words_say words ≡ ban_said args
-  unfolding words_say same_numbers slots_word ban_word
-  says-ban q = ap words_say e ∙ ap (λ (x : List ℕ). words_say (x ∷ args)) q
-
-  pub says-gap : word ≡ gap_word → words_say words ≡ gap_said args
-  unfolding words_say same_numbers slots_word ban_word gap_word
-  says-gap q = ap words_say e ∙ ap (λ (x : List ℕ). words_say (x ∷ args)) q
-
-  pub says_nothing : (word ≡ slots_word → ⊥) → (word ≡ ban_word → ⊥) → (word ≡ gap_word → ⊥) → words_say words ≡ Unclear
-  unfolding words_say
-  says_nothing a b c = ap words_say e ∙ rw (other-numbers word slots_word a, other-numbers word ban_word b, other-numbers word gap_word c, words_say) refl
-
-module _ (s : List ℕ) (w : Word) (N : NextWord s 0 w) where
-  pub no_words : w.end ≤ w.start → words_say (words_in s) ≡ Empty
-  unfolding words_say
-  no_words h = ap words_say (N.leads.none h).0
-
-  pub first_word : w.start < w.end → words_in s ≡ part s w.start w.end ∷ words_in (part s w.end (length s))
-  first_word h = N.leads.some h ∙ ap (λ (r : List ℕ). part s w.start w.end ∷ words_in r) (sym (rest_of s w.end))
-
-pub takes-as : (old : List ℕ) (d : Draft) (said other : Said) (new : List ℕ) (s : Step) → said ≡ other → Takes old d other new s → Takes old d said new s
-takes-as old d said other new s e T = rw e T
-
-pub takes-empty : (old : List ℕ) (d : Draft) (said : Said) (s : Step) → Fit old d → said ≡ Empty → s.draft ≡ d → s.fault.number ≡ 0
-    → Takes old d said old s
-unfolding taken_of with_said
-takes-empty old d said s F e q z =
-    record {
-      fit = rw q F;
-      taken = no-fault s.fault z (draft_in s.draft old) ∙ ap (λ (x : Draft). Next (draft_in x old)) q ∙ sym (ap (with_said (draft_in d old)) e);
-    }
-
-pub line-says : (line : List ℕ) (n : ℕ) → take n line ≡ without_comment (without_return line) → line_says line ≡ words_say (words_in (take n line))
-unfolding line_says words_of words_in
-line-says line n e = ap (λ (x : List ℕ). words_say (filled (pieces_of is_blank x))) (sym e)
-
--- ---- lines
-
-lines_in : Bool → List ℕ → List (List ℕ)
-lines_in cut t = cond cut (whole_lines t) (lines_of t)
+-- ---- the first line
 
 count_next : (p : ℕ → Bool) (t : List ℕ) → first_at p t < length t → count_of p t ≡ suc (count_of p (drop (suc (first_at p t)) t))
 unfolding first_at count_of
@@ -108,184 +60,148 @@ unfolding lines_in lines_of whole_lines pieces_of count_of
 no_lines true = refl
 no_lines false = refl
 
-reads : (cut : Bool) (n : ℕ) (d : Draft') (t : List ℕ) → read_from cut n d t ≡ read_lines cut n d (lines_in cut t)
+pub empty_none : (cut : Bool) (text : List ℕ) → length text ≡ 0 → lines_in cut text ≡ []
+empty_none cut [] e = no_lines cut
+empty_none cut (b ∷ t) e = absurd (omega arith)
+
+pub next-ended : (cut : Bool) (text : List ℕ) (end : ℕ) (behind : List ℕ) → (end ≡ first_at is_newline text) × (end < length text)
+    → behind ≡ drop (end + 1) text → (lines_in cut text ≡ take end text ∷ lines_in cut behind) × (length behind < length text)
+next-ended cut [] end behind e b = absurd (omega (arith, e.1))
+next-ended cut (b ∷ t) end behind e r =
+    (rw (r, add-one, e.0) (line_first cut b t (λ _. omega (arith, e.0, e.1))), omega (arith, ap length r, e.1, length-drop (end + 1) (b ∷ t)))
+
+pub next-cut : (cut : Bool) (text : List ℕ) → cut ≡ true → length text ≤ first_at is_newline text → lines_in cut text ≡ []
+next-cut cut text c h = rw c (line-cut text h)
+
+pub next-last : (cut : Bool) (text line behind : List ℕ) → cut ≡ false → (length text ≡ 0 → ⊥) → length text ≤ first_at is_newline text
+    → line ≡ take (length text) text → behind ≡ drop (length text) text
+    → (lines_in cut text ≡ line ∷ lines_in cut behind) × (length behind < length text)
+next-last cut [] line behind c n h l r = absurd (n refl)
+next-last cut (b ∷ t) line behind c n h l r =
+    let e : first_at is_newline (b ∷ t) ≡ length (b ∷ t) = omega (arith, h, first-within is_newline (b ∷ t)) in
+    let f = line_first false b t (λ q. let z : ⊥ = cc in absurd z) in
+    let d : drop (suc (length (b ∷ t))) (b ∷ t) ≡ [] = drop_of_length-le (b ∷ t) {i = suc (length (b ∷ t))} (omega arith) in
+    let m : drop (length (b ∷ t)) (b ∷ t) ≡ [] = drop_of_length-le (b ∷ t) {i = length (b ∷ t)} (omega arith) in
+    (rw (c, l, r, m) (rw (e, d) at f), omega (arith, ap length (r ∙ m)))
+
+-- ---- line by line
+
+pub reads : (cut : Bool) (n : ℕ) (d : Draft') (text : List ℕ) → read_from cut n d text ≡ read_lines cut n d (lines_in cut text)
 unfolding read_from lines_in
-reads cut n d t = refl
+reads cut n d text = refl
 
-reads_none : (cut : Bool) (n : ℕ) (d : Draft') → read_from cut n d [] ≡ at_end cut n d
-unfolding read_lines
-reads_none cut n d = reads cut n d [] ∙ ap (read_lines cut n d) (no_lines cut)
-
-module _ (cut : Bool) (n : ℕ) (d : Draft') (b : ℕ) (t : List ℕ) (h : cut ≡ true → first_at is_newline (b ∷ t) < length (b ∷ t)) where
-  reads-wrong : (f : _) → with_line d (take (first_at is_newline (b ∷ t)) (b ∷ t)) ≡ Wrong f → read_from cut n d (b ∷ t) ≡ Faulty n f
+module _ (cut : Bool) (n : ℕ) (d : Draft') (lines : List (List ℕ)) where
+  pub reads-none : lines ≡ [] → read_lines cut n d lines ≡ at_end cut n d
   unfolding read_lines
-  reads-wrong f e = reads cut n d (b ∷ t) ∙ ap (read_lines cut n d) (line_first cut b t h) ∙ rw (e, read_lines) refl
+  reads-none e = rw (e, read_lines) refl
 
-  reads-next : (o : Draft') → with_line d (take (first_at is_newline (b ∷ t)) (b ∷ t)) ≡ Next o
-      → read_from cut n d (b ∷ t) ≡ read_from cut (suc n) o (drop (suc (first_at is_newline (b ∷ t))) (b ∷ t))
-  unfolding read_lines
-  reads-next o e =
-      reads cut n d (b ∷ t) ∙ ap (read_lines cut n d) (line_first cut b t h) ∙ rw (e, read_lines) (sym (reads cut (suc n) o _))
+  module _ (line : List ℕ) (more : List (List ℕ)) (e : lines ≡ line ∷ more) where
+    pub reads-wrong : (f : _) → Wrong f ≡ with_line d line → Faulty n f ≡ read_lines cut n d lines
+    unfolding read_lines
+    reads-wrong f w = sym (rw (e, read_lines, ← w) refl)
 
--- ---- one line more
+    pub reads-next : (o : Draft') → Next o ≡ with_line d line → read_lines cut n d lines ≡ read_lines cut (n + 1) o more
+    unfolding read_lines
+    reads-next o w = rw (e, read_lines, ← w, add-one n) refl
 
-module _ (w : Walk) (cut : Bool) (text rows : List ℕ) where
-  outcome-good : w.fault.number ≡ 0 → outcome_at cut text w rows ≡ read_from cut w.line (draft_in w.draft rows) (drop w.at text)
-  unfolding outcome_at
-  outcome-good z = rw (z, outcome_at) refl
+-- what is read so far, with the lines left, comes to the same
+pub record Walks (cut : Bool) (text : List ℕ) (first : Draft) (line : ℕ) (d : Draft) (rest : List ℕ) : Type 0 where
+  pub comes : read_from cut 1 (draft_in first) text ≡ read_lines cut line (draft_in d) (lines_in cut rest)
+  pub numbered : line + length rest ≤ suc (length text)
 
-  outcome-wrong : (w.fault.number ≡ 0 → ⊥) → outcome_at cut text w rows ≡ Faulty w.line (fault_of w.fault)
-  unfolding outcome_at
-  outcome-wrong n = rw (ne_eqb w.fault.number 0 n, outcome_at) refl
+pub walks-none : (cut : Bool) (text : List ℕ) (d : Draft) → Walks cut text d 1 d text
+walks-none cut text d = record { comes = reads cut 1 (draft_in d) text; numbered = omega arith }
 
-  -- at the end
-  pub end_is : w.at ≡ length text → outcome_at cut text w rows ≡ end_of cut w rows
-  unfolding end_of
-  end_is e =
-      test (eqb w.fault.number 0)
-      (λ z. outcome-good (eqb-true w.fault.number 0 z)
-      ∙ ap (read_from cut w.line (draft_in w.draft rows)) (ap (λ (k : ℕ). drop k text) e ∙ drop-length text)
-      ∙ reads_none cut w.line (draft_in w.draft rows) ∙ sym (rw (z, end_of) refl))
-      (λ z. outcome-wrong (eqb-false w.fault.number 0 z) ∙ sym (rw (z, end_of) refl))
+module _ (cut : Bool) (text : List ℕ) (first : Draft) (n : ℕ) (d : Draft) (rest : List ℕ) (S : Walks cut text first n d rest) where
+  module _ (line behind : List ℕ) (N : lines_in cut rest ≡ line ∷ lines_in cut behind) (o : Draft) where
+    pub walks-one : {u : Unit {0}} → length behind < length rest → taken_of (Ok u) o ≡ with_line (draft_in d) line
+        → Walks cut text first (n + 1) o behind
+    unfolding taken_of judged
+    walks-one l T =
+        record {
+          comes = S.comes ∙ reads-next cut n (draft_in d) (lines_in cut rest) line (lines_in cut behind) N (draft_in o) T;
+          numbered = omega (arith, S.numbered, l);
+        }
 
-module _ (cut : Bool) (text : List ℕ) (w : Walk) (old : List ℕ) (R : Ready text w old) (k end : ℕ)
-    (f : k ≡ first_at is_newline (part text w.at (length text))) (e : end ≡ w.at + k) where
-  rest : drop w.at text ≡ get_or text w.at 0 ∷ drop (suc w.at) text
-  rest = drop-cons text w.at 0 R.left
+    pub walks-wrong : (f : Fault) → taken_of (Err f) o ≡ with_line (draft_in d) line
+        → outcome_of (Err (record { line = n; fault = f })) o ≡ read_from cut 1 (draft_in first) text
+    unfolding taken_of judged outcome_of
+    walks-wrong f T = reads-wrong cut n (draft_in d) (lines_in cut rest) line (lines_in cut behind) N (fault_of f) T ∙ sym S.comes
 
-  found : first_at is_newline (get_or text w.at 0 ∷ drop (suc w.at) text) ≡ k
-  found = ap (first_at is_newline) (sym (rest_of text w.at ∙ rest)) ∙ sym f
+  module _ (N : lines_in cut rest ≡ []) where
+    ends : at_end cut n (draft_in d) ≡ read_from cut 1 (draft_in first) text
+    ends = sym (reads-none cut n (draft_in d) (lines_in cut rest) N) ∙ sym S.comes
 
-  k-within : k ≤ length text - w.at
-  k-within =
-      omega (arith, f, first-within is_newline (part text w.at (length text)), ap length (rest_of text w.at), length-drop w.at text)
+    pub ends-cut : cut ≡ true → outcome_of (Err (record { line = n; fault = LongText })) d ≡ read_from cut 1 (draft_in first) text
+    unfolding outcome_of at_end
+    ends-cut c = sym (rw (c, at_end) refl) ∙ ends
 
-  pub advance-broken : cut && leb (length text) end ≡ true → (o : Walk) → o.draft ≡ w.draft → o.fault.number ≡ 0 → o.at ≡ end → o.line ≡ w.line
-      → Advances cut text w old o old
-  advance-broken b o d z a l =
-      let c = both cut (leb (length text) end) b in
-      let m = k-within in
-      let q = leb-true (length text) end c.1 in
-      let s : end ≡ length text = omega (arith, R.left) in
-      let none : lines_in cut (drop w.at text) ≡ [] =
-      rw c.0 (line-cut (drop w.at text) (omega (arith, ap (first_at is_newline) (sym (rest_of text w.at)), f, length-drop w.at text))) in
-      record {
-        walks = record {
-          fit = rw d R.fit;
-          inside = omega arith;
-          numbered = omega (arith, R.numbered, R.left);
-          comes =
-              outcome-good o cut text old z
-              ∙ rw (d, l, a, s, drop-length text) (reads cut w.line (draft_in w.draft old) []
-              ∙ ap (read_lines cut w.line (draft_in w.draft old)) (no_lines cut ∙ sym none)
-              ∙ sym (reads cut w.line (draft_in w.draft old) (drop w.at text)));
-          over = λ n. absurd (n z);
-        };
-        further = omega (arith, R.left);
-      }
+    pub ends-early : cut ≡ false → begun (draft_in d) ≡ false
+        → outcome_of (Err (record { line = n; fault = SlotsFirst })) d ≡ read_from cut 1 (draft_in first) text
+    unfolding outcome_of at_end
+    ends-early c b = sym (rw (c, b, at_end) refl) ∙ ends
 
-  module _ (b : cut && leb (length text) end ≡ false) (new : List ℕ) (s : Step) (T : Takes old w.draft (line_says (part text w.at end)) new s) where
-    whole : cut ≡ true → first_at is_newline (get_or text w.at 0 ∷ drop (suc w.at) text) < length (get_or text w.at 0 ∷ drop (suc w.at) text)
-    whole c =
-        let n : leb (length text) end ≡ false = rw c at b in
-        omega (arith, found, leb-false (length text) end n, e, ap length rest, length-drop w.at text, R.left)
+    pub ends-made : {u : Unit {0}} → cut ≡ false → begun (draft_in d) ≡ true → outcome_of (Ok u) d ≡ read_from cut 1 (draft_in first) text
+    unfolding outcome_of at_end
+    ends-made c b = sym (rw (c, b, at_end) refl) ∙ ends
 
-    line-is : part text w.at end ≡ take (first_at is_newline (get_or text w.at 0 ∷ drop (suc w.at) text)) (get_or text w.at 0 ∷ drop (suc w.at) text)
-    line-is =
-        let q : end - w.at ≡ k = omega arith in rw (found, ← rest, q) refl
+-- ---- a line
 
-    taken : (r : Taken) → taken_of s new ≡ r
-        → with_line (draft_in w.draft old) (take (first_at is_newline (get_or text w.at 0 ∷ drop (suc w.at) text)) (get_or text w.at 0 ∷ drop (suc w.at) text)) ≡ r
+pub same-words : (xs ys : List ℕ) → pointwise nat_eq xs ys ≡ same_numbers xs ys
+unfolding same_numbers
+same-words [] [] = refl
+same-words [] (y ∷ ys) = refl
+same-words (x ∷ xs) [] = refl
+same-words (x ∷ xs) (y ∷ ys) = ap (λ (b : Bool). nat_eq x y && b) (same-words xs ys)
+
+module _ (bare line : List ℕ) (e : bare ≡ without_comment (without_return line)) where
+  says : line_says line ≡ words_say (words_in bare)
+  unfolding line_says words_of words_in
+  says = ap (λ (x : List ℕ). words_say (filled (pieces_of is_blank x))) (sym e)
+
+  pub says_nothing : (d : Draft) → words_in bare ≡ [] → {u : Unit {0}} → taken_of (Ok u) d ≡ with_line (draft_in d) line
+  unfolding taken_of judged with_line with_said words_say
+  says_nothing d n = sym (ap (with_said (draft_in d)) (says ∙ ap words_say n))
+
+  module _ (d : Draft') (word : List ℕ) (args : List (List ℕ)) (n : words_in bare ≡ word ∷ args) where
+    said : with_line d line ≡ with_said d (words_say (word ∷ args))
     unfolding with_line
-    taken r q = ap (λ (l : List ℕ). with_said (draft_in w.draft old) (line_says l)) (sym line-is) ∙ sym T.taken ∙ q
+    said = ap (with_said d) (says ∙ ap words_say n)
 
-    pub advance-wrong : (s.fault.number ≡ 0 → ⊥) → (o : Walk) → o.draft ≡ s.draft → o.fault ≡ s.fault → o.at ≡ length text → o.line ≡ w.line
-        → Advances cut text w old o new
-    unfolding taken_of
-    advance-wrong n o d g a l =
-        record {
-          walks = record {
-            fit = rw d T.fit;
-            inside = omega arith;
-            numbered = omega (arith, R.numbered, R.left);
-            comes =
-                outcome-wrong o cut text new (λ z. n (ap (λ (x : Fault). x.number) (sym g) ∙ z))
-                ∙ rw (l, g) (sym (ap (read_from cut w.line (draft_in w.draft old)) rest
-                ∙ reads-wrong cut w.line (draft_in w.draft old) (get_or text w.at 0) (drop (suc w.at) text) whole (fault_of s.fault)
-                (taken (Wrong (fault_of s.fault)) (some-fault s.fault n (draft_in s.draft new)))));
-            over = λ _. a;
-          };
-          further = omega (arith, R.left);
-        }
+    pub says-slots : pointwise nat_eq word slots_word ≡ true → with_said d (slots_said args) ≡ with_line d line
+    unfolding words_say
+    says-slots a = sym (said ∙ rw (sym (same-words word slots_word) ∙ a, words_say) refl)
 
-    pub advance-next : s.fault.number ≡ 0 → (o : Walk) → o.draft ≡ s.draft → o.fault ≡ s.fault
-        → (o.at ≤ length text) × (o.at ≤ end + 1) × (end < length text → o.at ≡ end + 1) × (length text ≤ end → o.at ≡ length text) → o.line ≡ w.line + 1
-        → Advances cut text w old o new
-    unfolding taken_of
-    advance-next z o d g a l =
-        let m = k-within in
-        let y : o.fault.number ≡ 0 = ap (λ (x : Fault). x.number) g ∙ z in
-        record {
-          walks = record {
-            fit = rw d T.fit;
-            inside = a.0;
-            numbered = omega (arith, R.numbered, before);
-            comes =
-                outcome-good o cut text new y
-                ∙ rw (d, l, add-one w.line) (ap (read_from cut (suc w.line) (draft_in s.draft new)) (sym behind)
-                ∙ sym (ap (read_from cut w.line (draft_in w.draft old)) rest
-                ∙ reads-next cut w.line (draft_in w.draft old) (get_or text w.at 0) (drop (suc w.at) text) whole (draft_in s.draft new)
-                (taken (Next (draft_in s.draft new)) (no-fault s.fault z (draft_in s.draft new)))));
-            over = λ n. absurd (n y);
-          };
-          further = before;
-        }
-      where
-        before : w.at < o.at
-        before =
-            test (ltb end (length text))
-            (λ t. omega (arith, a.2 (ltb-true end (length text) t), e))
-            (λ t. omega (arith, a.3 (ltb-false end (length text) t), R.left))
+    module _ (a : pointwise nat_eq word slots_word ≡ false) where
+      pub says-ban : pointwise nat_eq word ban_word ≡ true → with_said d (ban_said args) ≡ with_line d line
+      unfolding words_say
+      says-ban b = sym (said ∙ rw (sym (same-words word slots_word) ∙ a, sym (same-words word ban_word) ∙ b, words_say) refl)
 
-        behind : drop (suc (first_at is_newline (get_or text w.at 0 ∷ drop (suc w.at) text))) (get_or text w.at 0 ∷ drop (suc w.at) text) ≡ drop o.at text
-        behind =
-            ap (λ (l : List ℕ). drop (suc (first_at is_newline l)) l) (sym rest)
-            ∙ ap (λ (j : ℕ). drop (suc j) (drop w.at text)) (ap (first_at is_newline) (sym (rest_of text w.at)) ∙ sym f)
-            ∙ drop-drop (suc k) w.at text
-            ∙ test (ltb end (length text))
-            (λ t. let q : w.at + suc k ≡ o.at = omega (arith, a.2 (ltb-true end (length text) t), e) in ap (λ (j : ℕ). drop j text) q)
-            (λ t. let q = ltb-false end (length text) t in
-            drop_of_length-le text {i = w.at + suc k} (omega (arith, q, e)) ∙ sym (drop_of_length-le text {i = o.at} (omega (arith, a.3 q))))
+      module _ (b : pointwise nat_eq word ban_word ≡ false) where
+        pub says-gap : pointwise nat_eq word gap_word ≡ true → with_said d (gap_said args) ≡ with_line d line
+        unfolding words_say
+        says-gap g =
+            sym (said ∙ rw (sym (same-words word slots_word) ∙ a, sym (same-words word ban_word) ∙ b, sym (same-words word gap_word) ∙ g, words_say) refl)
 
--- ---- all lines
+        pub says-none : pointwise nat_eq word gap_word ≡ false → Wrong NotStatement' ≡ with_line d line
+        unfolding words_say with_said
+        says-none g =
+            sym (said ∙ rw (sym (same-words word slots_word) ∙ a, sym (same-words word ban_word) ∙ b, sym (same-words word gap_word) ∙ g, words_say) refl)
 
-pub walks-none : (cut : Bool) (text rows : List ℕ) (w : Walk) → length rows ≡ 4224 → ((r : List ℕ) → draft_in w.draft r ≡ no_draft) → w.draft.records ≡ 0
-    → w.fault.number ≡ 0 → w.at ≡ 0 → w.line ≡ 1 → Walks cut text (read_from cut 1 no_draft text) w rows
-walks-none cut text rows w m d r z a l =
-    record {
-      fit = record { room = m; few = omega arith };
-      inside = omega arith;
-      numbered = omega arith;
-      comes = outcome-good w cut text rows z ∙ rw (d rows, l, a) refl;
-      over = λ n. absurd (n z);
-    }
+-- ---- the whole text
 
-module _ (cut : Bool) (text : List ℕ) (x : Outcome) (w : Walk) (rows : List ℕ) (S : Walks cut text x w rows) (l : w.at < length text) where
-  still-good : w.fault.number ≡ 0
-  still-good =
-      test (eqb w.fault.number 0)
-      (λ e. eqb-true w.fault.number 0 e)
-      (λ e. absurd (omega (arith, S.over (eqb-false w.fault.number 0 e))))
+pub front-is : (text : List ℕ) (n : ℕ) → n ≡ min (length text) 1048576
+    → (take n text ≡ take longest_text text) × (length (take n text) ≤ 1048576)
+unfolding longest_text
+front-is text n e = (
+  test (ltb (length text) 1048576)
+      (λ t. let l = ltb-true (length text) 1048576 t in
+      take_all n text (omega arith) ∙ sym (take_all 1048576 text (omega arith)))
+      (λ t. let l = ltb-false (length text) 1048576 t in let q : n ≡ 1048576 = omega arith in ap (λ (k : ℕ). take k text) q),
+  omega (arith, e, length-take n text),
+)
 
-  pub walks-ready : length text ≤ 1048576 → Ready text w rows
-  walks-ready h = record { fit = S.fit; short = h; left = l; numbered = S.numbered; good = still-good }
-
-  pub walks-one : (o : Walk) (new : List ℕ) → Advances cut text w rows o new → Walks cut text x o new
-  walks-one o new A =
-      record {
-        fit = A.walks.fit;
-        inside = A.walks.inside;
-        numbered = A.walks.numbered;
-        comes = A.walks.comes ∙ sym (outcome-good w cut text rows still-good) ∙ S.comes;
-        over = A.walks.over;
-      }
+pub text-comes : (text front : List ℕ) (first : Draft) (x : Outcome) → draft_in first ≡ no_draft → front ≡ take longest_text text
+    → x ≡ read_from (ltb 1048576 (length text)) 1 (draft_in first) front → x ≡ sheet_of text
+unfolding sheet_of longest_text
+text-comes text front first x d f e = e ∙ rw (d, f) refl

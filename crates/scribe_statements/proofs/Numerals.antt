@@ -2,23 +2,43 @@
 -- large stays so.
 use Prim.Native.Nat.{ℕ, suc, ◌+◌, ◌*◌, ◌-◌, ◌^◌, ◌≤◌, ◌<◌}
 use mathlib.Core.Path.{◌≡◌, refl, sym, ap, ◌∙◌}
-use mathlib.Core.Bool.{true, false, ◌&&◌, and-true, and-false, false≢true}
-use mathlib.Core.List.{List, []}
+use mathlib.Core.Bool.{true, false, ◌&&◌, and-false}
+use mathlib.Core.List.{List, [], ◌∷◌}
 use native.Mathlib.Numerals.{add-one}
 use native.Mathlib.Omega.{arith}
 use lib.Dec.{ltb, leb}
 use lib.ListN.{length, get_or, drop}
 use lib.Seq.{drop-cons, drop-length}
-use borrow.Author.Tests.{le-leb, lt-leb}
+use borrow.Author.Tests.{le-leb, lt-leb, lt-ltb}
 use Rattle.base.specs.Finite.{every}
 use Rattle.numerals.specs.Reading.{is_digit, value_from, top, is_number}
 use Rattle.numerals.proofs.Numbers.{value_grows}
 use Rattle.scribe_rules.specs.Words.{is_numeral, numeral}
-use Rattle.scribe_statements.specs.declared.numbers.Numeral.{Numeral}
-use Rattle.scribe_statements.specs.Parts.{ReadsNumber}
+use Rattle.std.specs.Prelude.{Some, None}
+use Rattle.base.proofs.Tests.{test}
+use Rattle.scribe_statements.specs.Parts.{numeral_in}
 
-pub no-numeral : (s : List ℕ) (r : Numeral) → r.good ≡ false → is_numeral s ≡ false → ReadsNumber s r
-no-numeral s r g e = record { good = g ∙ sym e; value = λ t. absurd (false≢true (sym g ∙ t)) }
+-- ---- a word that is read as a number, or as none
+
+pub no-numeral : (s : List ℕ) → is_numeral s ≡ false → None ≡ numeral_in s
+unfolding numeral_in
+no-numeral s e = sym (rw (e, numeral_in) refl)
+
+a-numeral : (s : List ℕ) (value : ℕ) → is_numeral s ≡ true → value ≡ numeral s → Some value ≡ numeral_in s
+unfolding numeral_in
+a-numeral s value e v = sym (rw (e, numeral_in) (ap Some (sym v)))
+
+module _ (s : List ℕ) where
+  pub numeral-none : None ≡ numeral_in s → is_numeral s ≡ false
+  unfolding numeral_in
+  numeral-none e = test (is_numeral s) (λ t. let q = rw (t, numeral_in) at e in let z : ⊥ = cc in absurd z) (λ t. t)
+
+  pub numeral-some : (value : ℕ) → Some value ≡ numeral_in s → (is_numeral s ≡ true) × (value ≡ numeral s)
+  unfolding numeral_in
+  numeral-some value e =
+      test (is_numeral s)
+      (λ t. let q = rw (t, numeral_in) at e in let f : value ≡ numeral s = cc in (t, f))
+      (λ t. let q = rw (t, numeral_in) at e in let z : ⊥ = cc in absurd z)
 
 -- ---- what is no number
 
@@ -30,16 +50,22 @@ too_large : (s : List ℕ) → 2 ^ 64 ≤ value_from 0 s → is_numeral s ≡ fa
 unfolding is_numeral top
 too_large s h = rw (lt-leb (value_from 0 s) (2 ^ 64 - 1) (omega arith), and-false (is_number s))
 
+pub empty-numeral : is_numeral [] ≡ false
+unfolding is_numeral is_number
+empty-numeral = refl
+
+pub empty-none : (s : List ℕ) → length s ≡ 0 → None ≡ numeral_in s
+empty-none [] e = no-numeral [] empty-numeral
+empty-none (b ∷ s) e = absurd (omega arith)
+
 -- ---- the digits so far
 
 pub record Counted (s : List ℕ) (value i : ℕ) : Type 0 where
   pub few : i ≤ length s
+  pub some : 0 < length s
   pub small : value < 2 ^ 64
   pub says : value_from 0 s ≡ value_from value (drop i s)
   pub digits : every is_digit s ≡ every is_digit (drop i s)
-
-pub counted_none : (s : List ℕ) → Counted s 0 0
-counted_none s = record { few = omega arith; small = omega arith; says = refl; digits = refl }
 
 module _ (s : List ℕ) (value i : ℕ) (C : Counted s value i) (l : i < length s) where
   digits-next : every is_digit s ≡ is_digit (get_or s i 0) && every is_digit (drop (suc i) s)
@@ -62,26 +88,22 @@ module _ (s : List ℕ) (value i : ℕ) (C : Counted s value i) (l : i < length 
   no_room h =
       too_large s (omega (arith, value-next, value_grows (10 * value + (get_or s i 0 - 48)) (drop (suc i) s)))
 
-  pub counted-one : 48 ≤ get_or s i 0 → get_or s i 0 ≤ 57 → 10 * value + (get_or s i 0 - 48) < 2 ^ 64
-      → Counted s (10 * value + (get_or s i 0 - 48)) (i + 1)
+  pub counted-one : 48 ≤ get_or s i 0 → get_or s i 0 ≤ 57 → (new : ℕ) → new ≡ 10 * value + (get_or s i 0 - 48) → new < 2 ^ 64 → Counted s new (i + 1)
   unfolding is_digit
-  counted-one k h f =
+  counted-one k h new e f =
       record {
         few = omega arith;
+        some = C.some;
         small = f;
-        says = rw add-one value-next;
+        says = rw (add-one, e) value-next;
         digits = rw add-one (digits-next ∙ rw (le-leb 48 (get_or s i 0) k, le-leb (get_or s i 0) 57 h));
       }
 
-pub counted-all : (s : List ℕ) (value i : ℕ) → Counted s value i → length s ≤ i → (r : Numeral) → r.good ≡ ltb 0 (length s)
-    → r.value ≡ value → ReadsNumber s r
+pub counted-all : (s : List ℕ) (value i : ℕ) → Counted s value i → length s ≤ i → Some value ≡ numeral_in s
 unfolding is_numeral numeral is_number every value_from top
-counted-all s value i C l r g v =
+counted-all s value i C l =
     let e : i ≡ length s = omega (arith, C.few) in
     let none : drop i s ≡ [] = rw e (drop-length s) in
     let w : value_from 0 s ≡ value = C.says ∙ ap (value_from value) none in
     let d : every is_digit s ≡ true = C.digits ∙ ap (every is_digit) none in
-    record {
-      good = g ∙ sym (rw (d, le-leb (value_from 0 s) (2 ^ 64 - 1) (omega (arith, C.small))) (and-true (ltb 0 (length s) && true) ∙ and-true (ltb 0 (length s))));
-      value = λ t. v ∙ sym w;
-    }
+    a-numeral s value (rw (lt-ltb 0 (length s) C.some, d, le-leb (value_from 0 s) (2 ^ 64 - 1) (omega (arith, C.small)))) (sym w)

@@ -1,206 +1,231 @@
 -- A line's statement by its words: as many as the kind wants, and each as its place wants it.
--- A word that is not there is empty, and no number, place or signed number.
 use Prim.Native.Nat.{ℕ, suc, ◌+◌, ◌-◌, ◌≤◌, ◌<◌}
 use mathlib.Core.Path.{◌≡◌, refl, sym, ap, ◌∙◌}
-use mathlib.Core.Bool.{Bool, true, false, not, ◌&&◌, and-true, and-false, and_assoc, false≢true}
+use mathlib.Core.Bool.{Bool, true, false, ◌&&◌, and_assoc, and-false}
 use mathlib.Core.List.{List, [], ◌∷◌, ◌++◌, map, map-append, append_assoc, append-nil}
 use native.Mathlib.Omega.{arith}
-use lib.Dec.{eqb, ltb}
-use lib.ListN.{length, drop, set, replicate, length-append, get_or-eq_default}
+use lib.IntN.{ℤ}
+use lib.Dec.{ltb, leb}
+use lib.ListN.{length, set, replicate, length-append}
 use lib.Seq.{set_at}
-use borrow.Author.Tests.{eq-eqb, eqb-true, le-ltb, ltb-true, ltb-false}
+use borrow.Author.Tests.{ne_eqb, le-leb, leb-true, ltb-false}
+use Rattle.std.specs.Prelude.{Option, Some, None}
 use Rattle.base.specs.Finite.{within, every}
-use Rattle.base.proofs.Tests.{test, both, to_both, not-true}
-use Rattle.base.proofs.Peeling.{same_test}
+use Rattle.base.proofs.Tests.{test, both, to_both}
 use Rattle.base.proofs.Lists.{every-snoc}
-use Rattle.scribe_rules.specs.Words.{is_numeral, numeral, is_place, is_signed, signed_numeral}
-use Rattle.scribe_rules.specs.Statements.{argument, ban_of, ban_said, gap_of, gap_said}
-use Rattle.scribe_statements.specs.declared.numbers.Numeral.{Numeral}
+use Rattle.scribe_rules.specs.Words.{is_numeral, numeral, is_place, is_signed}
+use Rattle.scribe_rules.specs.Statements.{Unclear, argument, ban_of, ban_said, gap_of, gap_said}
 use Rattle.scribe_statements.specs.declared.numbers.Place.{Place}
-use Rattle.scribe_statements.specs.declared.numbers.Signed.{Signed}
 use Rattle.scribe_statements.specs.declared.Ban.{Ban}
 use Rattle.scribe_statements.specs.declared.Gap.{Gap}
 use Rattle.scribe_statements.specs.declared.Slots.{Slots}
-use Rattle.scribe_statements.specs.declared.parts.Word.{Word}
-use Rattle.scribe_statements.specs.Parts.{ReadsNumber, ReadsPlace, ReadsSigned, part, words_in, Leads, NextWord}
-use Rattle.scribe_statements.specs.Saying.{signed_of, ban_from, gap_from, Counts, SaysSlots}
-use Rattle.scribe_statements.proofs.Places.{empty-place, empty-signed}
+use Rattle.scribe_statements.specs.Parts.{numeral_in, place_in, signed_in, words_in}
+use Rattle.scribe_statements.specs.Saying.{ban_from, gap_from, domains_of, slots_of, slots_from}
+use Rattle.scribe_statements.proofs.Numerals.{numeral-none, numeral-some}
+use Rattle.scribe_statements.proofs.Places.{place-none, place-some, signed-none, signed-some}
 
--- ---- how many words
+no_rest : (words : List (List ℕ)) → ltb 0 (length words) ≡ false → words ≡ []
+no_rest [] e = refl
+no_rest (w ∷ ws) e = absurd (omega (arith, ltb-false 0 (length (w ∷ ws)) e))
 
-module _ (words : List (List ℕ)) (k : ℕ) where
-  missing : length words ≤ k → argument words k ≡ []
-  unfolding argument
-  missing h = get_or-eq_default words [] {n = k} h
+pub words-two : {words r s : List (List ℕ)} {u v : List ℕ} → words ≡ u ∷ r → r ≡ v ∷ s → ltb 0 (length s) ≡ false → words ≡ u ∷ v ∷ []
+words-two {words} {r} {s} {u} {v} a b z = a ∙ ap (λ (x : List (List ℕ)). u ∷ x) (b ∙ ap (λ (x : List (List ℕ)). v ∷ x) (no_rest s z))
 
-  -- a word that passes a test that nothing passes
-  there : (p : List ℕ → Bool) → p [] ≡ false → p (argument words k) ≡ true → k < length words
-  there p e t =
-      test (ltb k (length words))
-      (λ h. ltb-true k (length words) h)
-      (λ h. absurd (false≢true (sym e ∙ ap p (sym (missing (ltb-false k (length words) h))) ∙ t)))
-
-  exactly : (n : ℕ) → n ≡ suc k → k < length words → not (ltb n (length words)) ≡ true → eqb (length words) n ≡ true
-  exactly n e h t = eq-eqb (length words) n (omega (arith, ltb-false n (length words) (not-true (ltb n (length words)) t)))
-
-no_more : (words : List (List ℕ)) (n : ℕ) → eqb (length words) n ≡ true → not (ltb n (length words)) ≡ true
-no_more words n e = ap not (le-ltb n (length words) (omega (arith, eqb-true (length words) n e)))
+pub words-four : {words r s t l : List (List ℕ)} {a b c d : List ℕ} → words ≡ a ∷ r → r ≡ b ∷ s → s ≡ c ∷ t → t ≡ d ∷ l
+    → ltb 0 (length l) ≡ false → words ≡ a ∷ b ∷ c ∷ d ∷ []
+words-four {words} {r} {s} {t} {l} {a} {b} {c} {d} p q x y z =
+    p ∙ ap (λ (w : List (List ℕ)). a ∷ w) (q ∙ ap (λ (w : List (List ℕ)). b ∷ w) (words-two x y z))
 
 -- ---- a ban
 
-module _ (words : List (List ℕ)) (p q : Place) (r : Ban) (P : ReadsPlace (argument words 0) p) (Q : ReadsPlace (argument words 1) q)
-    (g : r.good ≡ (p.good && q.good) && not (ltb 2 (length words)))
-    (a : r.a ≡ p.agent) (s : r.s ≡ p.value) (b : r.b ≡ q.agent) (t : r.t ≡ q.value) where
-  ban-good : r.good ≡ (eqb (length words) 2 && is_place (argument words 0)) && is_place (argument words 1)
-  ban-good =
-      g ∙ rw (P.good, Q.good)
-      (same_test _ _
-      (λ e.
-      let h = both (is_place (argument words 0) && is_place (argument words 1)) (not (ltb 2 (length words))) e in
-      let k = both (is_place (argument words 0)) (is_place (argument words 1)) h.0 in
-      to_both (eqb (length words) 2 && is_place (argument words 0)) (is_place (argument words 1))
-      (to_both (eqb (length words) 2) (is_place (argument words 0)) (exactly words 1 2 refl (there words 1 is_place empty-place k.1) h.1) k.0) k.1)
-      (λ e.
-      let h = both (eqb (length words) 2 && is_place (argument words 0)) (is_place (argument words 1)) e in
-      let k = both (eqb (length words) 2) (is_place (argument words 0)) h.0 in
-      to_both (is_place (argument words 0) && is_place (argument words 1)) (not (ltb 2 (length words)))
-      (to_both (is_place (argument words 0)) (is_place (argument words 1)) k.1 h.1) (no_more words 2 k.0)))
+pub ban-count : (words : List (List ℕ)) → (length words ≡ 2 → ⊥) → Unclear ≡ ban_said words
+unfolding ban_said
+ban-count words n = sym (rw (ne_eqb (length words) 2 n, ban_said) refl)
 
-  pub ban-said : ban_from r ≡ ban_said words
-  unfolding ban_from ban_said ban_of
-  ban-said =
-      test r.good
-      (λ e.
-      let h = both (p.good && q.good) (not (ltb 2 (length words))) (sym g ∙ e) in
-      let k = both p.good q.good h.0 in
-      rw (e, sym ban-good ∙ e, ban_from, ban_said, a ∙ P.agent k.0, s ∙ P.value k.0, b ∙ Q.agent k.1, t ∙ Q.value k.1) refl)
-      (λ e. rw (e, sym ban-good ∙ e, ban_from, ban_said) refl)
+module _ (words : List (List ℕ)) (u v : List ℕ) (e : words ≡ u ∷ v ∷ []) where
+  pub ban-first : None ≡ place_in u → Unclear ≡ ban_said words
+  unfolding ban_said argument
+  ban-first n = sym (rw (e, place-none u n, ban_said) refl)
+
+  pub ban-second : None ≡ place_in v → Unclear ≡ ban_said words
+  unfolding ban_said argument
+  ban-second n = sym (rw (e, place-none v n, and-false (is_place u), ban_said) refl)
+
+  pub ban-said : (p q : Place) → Some p ≡ place_in u → Some q ≡ place_in v → (r : Ban)
+      → r.a ≡ p.agent → r.s ≡ p.value → r.b ≡ q.agent → r.t ≡ q.value → ban_from (Some r) ≡ ban_said words
+  unfolding ban_from ban_said ban_of argument
+  ban-said p q x y r a s b t =
+      let P = place-some u p x in
+      let Q = place-some v q y in
+      let h : ban_from (Some r) ≡ ban_said (u ∷ v ∷ []) = rw (P.0, Q.0, ban_said, a ∙ P.1, s ∙ P.2, b ∙ Q.1, t ∙ Q.2) refl in
+      h ∙ sym (ap ban_said e)
 
 -- ---- a gap
 
-signed_is : (word : List ℕ) (r : Signed) → ReadsSigned word r → r.good ≡ true → signed_of r ≡ signed_numeral word
-unfolding signed_of signed_numeral
-signed_is word r R e = rw (R.minus, R.size e) refl
+pub gap-count : (words : List (List ℕ)) → (length words ≡ 4 → ⊥) → Unclear ≡ gap_said words
+unfolding gap_said
+gap-count words n = sym (rw (ne_eqb (length words) 4 n, gap_said) refl)
 
-module _ (words : List (List ℕ)) (x y : Numeral) (u v : Signed) (r : Gap)
-    (X : ReadsNumber (argument words 0) x) (Y : ReadsNumber (argument words 1) y)
-    (L : ReadsSigned (argument words 2) u) (G : ReadsSigned (argument words 3) v)
-    (g : r.good ≡ ((x.good && y.good) && (u.good && v.good)) && not (ltb 4 (length words)))
-    (a : r.a ≡ x.value) (b : r.b ≡ y.value) (l : r.least ≡ u) (m : r.greatest ≡ v) where
-  gap-good : r.good
-      ≡ (((eqb (length words) 4 && is_numeral (argument words 0)) && is_numeral (argument words 1)) && is_signed (argument words 2)) && is_signed (argument words 3)
-  gap-good =
-      g ∙ rw (X.good, Y.good, L.good, G.good)
-      (same_test _ _
-      (λ e.
-      let h = both ((is_numeral (argument words 0) && is_numeral (argument words 1)) && (is_signed (argument words 2) && is_signed (argument words 3))) _ e in
-      let k = both (is_numeral (argument words 0) && is_numeral (argument words 1)) _ h.0 in
-      let i = both (is_numeral (argument words 0)) _ k.0 in
-      let j = both (is_signed (argument words 2)) _ k.1 in
-      to_both _ _ (to_both _ _ (to_both _ _ (to_both _ _ (exactly words 3 4 refl (there words 3 is_signed empty-signed j.1) h.1) i.0) i.1) j.0) j.1)
-      (λ e.
-      let h = both (((eqb (length words) 4 && is_numeral (argument words 0)) && is_numeral (argument words 1)) && is_signed (argument words 2)) _ e in
-      let k = both ((eqb (length words) 4 && is_numeral (argument words 0)) && is_numeral (argument words 1)) _ h.0 in
-      let i = both (eqb (length words) 4 && is_numeral (argument words 0)) _ k.0 in
-      let j = both (eqb (length words) 4) _ i.0 in
-      to_both _ _ (to_both _ _ (to_both _ _ j.1 i.1) (to_both _ _ k.1 h.1)) (no_more words 4 j.0)))
+module _ (words : List (List ℕ)) (a b l g : List ℕ) (e : words ≡ a ∷ b ∷ l ∷ g ∷ []) where
+  pub gap-a : None ≡ numeral_in a → Unclear ≡ gap_said words
+  unfolding gap_said argument
+  gap-a n = sym (rw (e, numeral-none a n, gap_said) refl)
 
-  pub gap-said : gap_from r ≡ gap_said words
-  unfolding gap_from gap_said gap_of
-  gap-said =
-      test r.good
-      (λ e.
-      let h = both ((x.good && y.good) && (u.good && v.good)) _ (sym g ∙ e) in
-      let k = both (x.good && y.good) _ h.0 in
-      let i = both x.good _ k.0 in
-      let j = both u.good _ k.1 in
-      rw (e, sym gap-good ∙ e, gap_from, gap_said, a ∙ X.value i.0, b ∙ Y.value i.1, ap signed_of l ∙ signed_is (argument words 2) u L j.0, ap signed_of m ∙ signed_is (argument words 3) v G j.1) refl)
-      (λ e. rw (e, sym gap-good ∙ e, gap_from, gap_said) refl)
+  pub gap-b : None ≡ numeral_in b → Unclear ≡ gap_said words
+  unfolding gap_said argument
+  gap-b n = sym (rw (e, numeral-none b n, and-false (is_numeral a), gap_said) refl)
+
+  pub gap-least : None ≡ signed_in l → Unclear ≡ gap_said words
+  unfolding gap_said argument
+  gap-least n = sym (rw (e, signed-none l n, and-false (is_numeral a && is_numeral b), gap_said) refl)
+
+  pub gap-greatest : None ≡ signed_in g → Unclear ≡ gap_said words
+  unfolding gap_said argument
+  gap-greatest n = sym (rw (e, signed-none g n, and-false ((is_numeral a && is_numeral b) && is_signed l), gap_said) refl)
+
+  pub gap-said : (r : Gap) → Some r.a ≡ numeral_in a → Some r.b ≡ numeral_in b
+      → (least greatest : ℤ) → Some least ≡ signed_in l → Some greatest ≡ signed_in g → r.least ≡ least → r.greatest ≡ greatest
+      → gap_from (Some r) ≡ gap_said words
+  unfolding gap_from gap_said gap_of argument
+  gap-said r x y least greatest u v p q =
+      let A = numeral-some a r.a x in
+      let B = numeral-some b r.b y in
+      let L = signed-some l least u in
+      let G = signed-some g greatest v in
+      let h : gap_from (Some r) ≡ gap_said (a ∷ b ∷ l ∷ g ∷ []) = rw (A.0, B.0, L.0, G.0, gap_said, A.1, B.1, p ∙ L.1, q ∙ G.1) refl in
+      h ∙ sym (ap gap_said e)
 
 -- ---- slot counts
 
-pub counts-none : (q : Slots) → q.good ≡ true → q.count ≡ 0 → q.sized ≡ true → q.domains ≡ replicate 12 0 → Counts q []
-unfolding every
-counts-none q g c s d = record { good = g; count = c; sized = s; domains = λ _ _. d ∙ rw c refl }
+right : List ℕ → Bool
+right counts = leb (length counts) 12 && every (within 8) counts
 
-module _ (q r : Slots) (counts : List ℕ) (value : ℕ) (C : Counts q counts) (g : r.good ≡ q.good) (c : r.count ≡ q.count + 1) where
-  count-one : r.count ≡ length (counts ++ (value ∷ []))
-  count-one = omega (arith, C.count, length-append counts (value ∷ []))
+wrong-none : (counts : List ℕ) → right counts ≡ false → None ≡ domains_of counts
+unfolding right domains_of
+wrong-none counts e = sym (rw (e, domains_of) refl)
 
-  pub counts-wrong : within 8 value ≡ false → r.sized ≡ false → Counts r (counts ++ (value ∷ []))
-  counts-wrong w s =
-      record {
-        good = g ∙ C.good;
-        count = count-one;
-        sized = s ∙ sym (every-snoc (within 8) counts value ∙ rw w (and-false (every (within 8) counts)));
-        domains = λ _ t. absurd (false≢true (sym s ∙ t));
-      }
+right-some : (counts domains : List ℕ) → Some domains ≡ domains_of counts → (right counts ≡ true) × (domains ≡ counts ++ replicate (12 - length counts) 0)
+unfolding right domains_of
+right-some counts domains e =
+    test (right counts)
+    (λ t. let q = rw (t, domains_of) at e in let f : domains ≡ counts ++ replicate (12 - length counts) 0 = cc in (t, f))
+    (λ t. let q = rw (t, domains_of) at e in let z : ⊥ = cc in absurd z)
 
-  pub counts-one : within 8 value ≡ true → r.sized ≡ q.sized → r.domains ≡ set q.domains q.count value → Counts r (counts ++ (value ∷ []))
-  counts-one w s d =
-      record {
-        good = g ∙ C.good;
-        count = count-one;
-        sized = s ∙ C.sized ∙ sym (every-snoc (within 8) counts value ∙ rw w (and-true (every (within 8) counts)));
-        domains = λ h t.
-            let e : 12 - q.count ≡ suc (12 - r.count) = omega arith in
-            let old : q.domains ≡ counts ++ 0 ∷ replicate (12 - r.count) 0 = C.domains (omega arith) (sym s ∙ t) ∙ rw e refl in
-            d ∙ rw old (set_at counts 0 (replicate (12 - r.count) 0) value q.count (sym C.count))
-            ∙ sym (append_assoc counts (value ∷ []) (replicate (12 - r.count) 0));
-      }
+none-wrong : (counts : List ℕ) → None ≡ domains_of counts → right counts ≡ false
+unfolding right domains_of
+none-wrong counts e =
+    test (right counts)
+    (λ t. let q = rw (t, domains_of) at e in let z : ⊥ = cc in absurd z)
+    (λ t. t)
+
+module _ (counts : List ℕ) (value : ℕ) where
+  longer : length (counts ++ (value ∷ [])) ≡ length counts + 1
+  longer = omega (arith, length-append counts (value ∷ []))
+
+  right-before : right (counts ++ (value ∷ [])) ≡ true → (right counts ≡ true) × (length counts < 12) × (within 8 value ≡ true)
+  unfolding right
+  right-before t =
+      let h = both (leb (length (counts ++ (value ∷ []))) 12) (every (within 8) (counts ++ (value ∷ []))) t in
+      let k = both (every (within 8) counts) (within 8 value) (sym (every-snoc (within 8) counts value) ∙ h.1) in
+      let l : length counts < 12 = omega (arith, longer, leb-true (length (counts ++ (value ∷ []))) 12 h.0) in
+      (to_both (leb (length counts) 12) (every (within 8) counts) (le-leb (length counts) 12 (omega arith)) k.0, l, k.1)
+
+  pub domains-still : None ≡ domains_of counts → None ≡ domains_of (counts ++ (value ∷ []))
+  domains-still n =
+      test (right (counts ++ (value ∷ [])))
+      (λ t. let a = (right-before t).0 in let b = none-wrong counts n in let z : true ≡ false = sym a ∙ b in let y : ⊥ = cc in absurd y)
+      (λ t. wrong-none (counts ++ (value ∷ [])) t)
+
+  pub domains-many : 12 ≤ length counts → None ≡ domains_of (counts ++ (value ∷ []))
+  domains-many l =
+      test (right (counts ++ (value ∷ [])))
+      (λ t. absurd (omega (arith, (right-before t).1)))
+      (λ t. wrong-none (counts ++ (value ∷ [])) t)
+
+  pub domains-wrong : within 8 value ≡ false → None ≡ domains_of (counts ++ (value ∷ []))
+  domains-wrong w =
+      test (right (counts ++ (value ∷ [])))
+      (λ t. let z : true ≡ false = sym (right-before t).2 ∙ w in let y : ⊥ = cc in absurd y)
+      (λ t. wrong-none (counts ++ (value ∷ [])) t)
+
+  pub domains-one : (domains : List ℕ) → Some domains ≡ domains_of counts → length counts < 12 → within 8 value ≡ true
+      → Some (set domains (length counts) value) ≡ domains_of (counts ++ (value ∷ []))
+  unfolding domains_of right
+  domains-one domains d l w =
+      let R = right-some counts domains d in
+      let k = both (leb (length counts) 12) (every (within 8) counts) R.0 in
+      let all : every (within 8) (counts ++ (value ∷ [])) ≡ true = every-snoc (within 8) counts value ∙ rw (k.1, w) refl in
+      let few : leb (length (counts ++ (value ∷ []))) 12 ≡ true = le-leb (length (counts ++ (value ∷ []))) 12 (omega (arith, longer)) in
+      let n : 12 - length counts ≡ suc (12 - length (counts ++ (value ∷ []))) = omega (arith, longer) in
+      let old : domains ≡ counts ++ 0 ∷ replicate (12 - length (counts ++ (value ∷ []))) 0 = R.1 ∙ rw n refl in
+      sym (rw (few, all, domains_of)
+      (ap Some (sym (rw old (set_at counts 0 (replicate (12 - length (counts ++ (value ∷ []))) 0) value (length counts) refl)
+      ∙ sym (append_assoc counts (value ∷ []) (replicate (12 - length (counts ++ (value ∷ []))) 0))))))
+
+pub slots_none : record { count = 0; domains = Some (replicate 12 0) } ≡ slots_of []
+unfolding slots_of domains_of every
+slots_none = refl
+
+pub counted : (q : Slots) (counts : List ℕ) (value : ℕ) (domains : Option (List ℕ)) → q ≡ slots_of counts
+    → (q.count ≡ length counts → q.domains ≡ domains_of counts → domains ≡ domains_of (counts ++ (value ∷ [])))
+    → record { count = q.count + 1; domains = domains } ≡ slots_of (counts ++ (value ∷ []))
+unfolding slots_of
+counted q counts value domains e h =
+    let c : q.count ≡ length counts = ap (λ (x : Slots). x.count) e in
+    let d : q.domains ≡ domains_of counts = ap (λ (x : Slots). x.domains) e in
+    let n : q.count + 1 ≡ length (counts ++ (value ∷ [])) = omega (arith, c, length-append counts (value ∷ [])) in
+    rw (n, h c d) refl
 
 -- ---- count by count
 
-pub record Slotted (s : List ℕ) (q : Slots) (w : Word) : Type 0 where
+pub record Slotted (s : List ℕ) (q : Slots) (rest : List ℕ) : Type 0 where
   pub done : List (List ℕ)
-  pub rest : List (List ℕ)
-  pub whole : words_in s ≡ done ++ rest
+  pub whole : words_in s ≡ done ++ words_in rest
   pub numerals : every is_numeral done ≡ true
-  pub counts : Counts q (map numeral done)
-  pub leads : Leads rest s w
-  pub few : q.count ≤ w.start
+  pub counts : q ≡ slots_of (map numeral done)
+  pub few : q.count + length rest ≤ length s
 
-pub slotted-none : (s : List ℕ) (q : Slots) (w : Word) → Counts q [] → NextWord s 0 w → Slotted s q w
-unfolding every
-slotted-none s q w C N =
-    record { done = []; rest = words_in s; whole = refl; numerals = refl; counts = C; leads = N.leads; few = omega (arith, C.count) }
+pub slotted-none : (s : List ℕ) (q : Slots) → q ≡ slots_of [] → Slotted s q s
+unfolding every slots_of
+slotted-none s q e =
+    record { done = []; whole = refl; numerals = refl; counts = e; few = omega (arith, ap (λ (x : Slots). x.count) e) }
 
 every_append : (p : List ℕ → Bool) (xs ys : List (List ℕ)) → every p (xs ++ ys) ≡ every p xs && every p ys
 unfolding every
 every_append p [] ys = refl
 every_append p (x ∷ xs) ys = rw (every_append p xs ys) (sym (and_assoc (p x) (every p xs) (every p ys)))
 
-module _ (s : List ℕ) (q : Slots) (w : Word) (n : Numeral) (S : Slotted s q w) (l : w.start < w.end)
-    (N : ReadsNumber (part s w.start w.end) n) where
-  here : words_in s ≡ S.done ++ (part s w.start w.end ∷ words_in (drop w.end s))
-  here = S.whole ∙ ap (λ (r : List (List ℕ)). S.done ++ r) (S.leads.some l)
+module _ (s : List ℕ) (q : Slots) (rest word behind : List ℕ) (S : Slotted s q rest) (w : words_in rest ≡ word ∷ words_in behind) where
+  here : words_in s ≡ S.done ++ (word ∷ words_in behind)
+  here = S.whole ∙ ap (λ (r : List (List ℕ)). S.done ++ r) w
 
-  pub no-count : n.good ≡ false → (r : Slots) → r.good ≡ false → SaysSlots (words_in s) r
-  unfolding every
-  no-count e r g =
+  pub no-count : None ≡ numeral_in word → None ≡ slots_from (words_in s)
+  unfolding every slots_from
+  no-count n =
       let f : every is_numeral (words_in s) ≡ false =
-      ap (every is_numeral) here ∙ every_append is_numeral S.done (part s w.start w.end ∷ words_in (drop w.end s))
-      ∙ rw (S.numerals, sym N.good ∙ e) refl in
-      record { good = g ∙ sym f; counts = λ t. absurd (false≢true (sym g ∙ t)) }
+      ap (every is_numeral) here ∙ every_append is_numeral S.done (word ∷ words_in behind)
+      ∙ rw (S.numerals, numeral-none word n) refl in
+      sym (rw (f, slots_from) refl)
 
-  pub slotted-one : n.good ≡ true → (r : Slots) (o : Word) → ((counts : List ℕ) → Counts q counts → Counts r (counts ++ (n.value ∷ [])))
-      → NextWord s w.end o → Slotted s r o
-  unfolding every
-  slotted-one e r o c O =
-      let more : map numeral (S.done ++ (part s w.start w.end ∷ [])) ≡ map numeral S.done ++ (n.value ∷ []) =
-      map-append numeral S.done (part s w.start w.end ∷ []) ∙ ap (λ (k : ℕ). map numeral S.done ++ (k ∷ [])) (sym (N.value e)) in
+  pub slotted-one : (value : ℕ) → Some value ≡ numeral_in word → length behind < length rest → (r : Slots)
+      → ((counts : List ℕ) → q ≡ slots_of counts → r ≡ slots_of (counts ++ (value ∷ []))) → Slotted s r behind
+  unfolding every slots_of
+  slotted-one value n l r c =
+      let N = numeral-some word value n in
+      let more : map numeral (S.done ++ (word ∷ [])) ≡ map numeral S.done ++ (value ∷ []) =
+      map-append numeral S.done (word ∷ []) ∙ ap (λ (k : ℕ). map numeral S.done ++ (k ∷ [])) (sym N.1) in
       let C = c (map numeral S.done) S.counts in
       record {
-        done = S.done ++ (part s w.start w.end ∷ []);
-        rest = words_in (drop w.end s);
-        whole = here ∙ sym (append_assoc S.done (part s w.start w.end ∷ []) (words_in (drop w.end s)));
-        numerals = every-snoc is_numeral S.done (part s w.start w.end) ∙ rw (S.numerals, sym N.good ∙ e) refl;
-        counts = rw more C;
-        leads = O.leads;
-        few = omega (arith, C.count, S.counts.count, length-append (map numeral S.done) (n.value ∷ []), S.few, O.after);
+        done = S.done ++ (word ∷ []);
+        whole = here ∙ sym (append_assoc S.done (word ∷ []) (words_in behind));
+        numerals = every-snoc is_numeral S.done word ∙ rw (S.numerals, N.0) refl;
+        counts = C ∙ ap slots_of (sym more);
+        few = omega (arith, S.few, l, ap (λ (x : Slots). x.count) S.counts, ap (λ (x : Slots). x.count) C, length-append (map numeral S.done) (value ∷ []));
       }
 
-pub slotted-all : (s : List ℕ) (q : Slots) (w : Word) → Slotted s q w → w.end ≤ w.start → SaysSlots (words_in s) q
-slotted-all s q w S l =
-    let e : words_in s ≡ S.done = S.whole ∙ rw (S.leads.none l).0 (append-nil S.done) in
-    record { good = S.counts.good ∙ sym (ap (every is_numeral) e ∙ S.numerals); counts = λ _. rw e S.counts }
+pub slotted-all : (s : List ℕ) (q : Slots) (rest : List ℕ) → Slotted s q rest → words_in rest ≡ [] → Some q ≡ slots_from (words_in s)
+unfolding slots_from
+slotted-all s q rest S e =
+    let d : words_in s ≡ S.done = S.whole ∙ rw e (append-nil S.done) in
+    let h : slots_from S.done ≡ Some q = rw (S.numerals, slots_from) (ap Some (sym S.counts)) in
+    sym (ap slots_from d ∙ h)

@@ -1,13 +1,15 @@
--- A search from the front finds where the first byte that passes stands.
--- What is passed already, with the search of what is left, is the whole search.
-use Prim.Native.Nat.{ℕ, suc, ◌+◌, ◌≤◌, ◌<◌}
-use mathlib.Core.Path.{◌≡◌, ap}
+-- A search from the front finds where the first byte that passes stands. So the library's words say it too.
+use Prim.Native.Nat.{ℕ, suc, ◌≤◌, ◌<◌}
+use mathlib.Core.Path.{◌≡◌, refl, sym, ◌∙◌}
 use mathlib.Core.Bool.{Bool, true, false}
 use mathlib.Core.List.{List, [], ◌∷◌}
-use native.Mathlib.Numerals.{add-one}
 use native.Mathlib.Omega.{arith}
-use lib.ListN.{length, get_or, drop}
-use lib.Seq.{drop-cons, drop-length}
+use lib.ListN.{length}
+use lib.Dec.{ltb}
+use borrow.Author.Tests.{ltb-true, ltb-false}
+use Rattle.std.specs.Prelude.{Some, None, position}
+use Rattle.std.specs.List.{position_or_len}
+use Rattle.std.proofs.lemmas.List.Recursion.{is_position_or_len}
 use Rattle.base.proofs.Tests.{test}
 use Rattle.scribe_rules.specs.Words.{first_at}
 
@@ -27,29 +29,29 @@ first-within p (b ∷ s) =
     (λ e. rw (first-here p b s e) (omega arith))
     (λ e. rw (first-later p b s e) (omega (arith, first-within p s)))
 
--- the first i bytes do not pass
-pub record Passed (p : ℕ → Bool) (s : List ℕ) (i : ℕ) : Type 0 where
-  pub few : i ≤ length s
-  pub rest : first_at p s ≡ i + first_at p (drop i s)
+-- ---- as the library says it
 
-pub passed_none : (p : ℕ → Bool) (s : List ℕ) → Passed p s 0
-passed_none p s = record { few = omega arith; rest = omega arith }
+first-position : (p : ℕ → Bool) (s : List ℕ) → first_at p s ≡ position_or_len p s
+unfolding first_at
+first-position p s =
+    is_position_or_len (first_at p) p refl
+    (λ b t. test (p b) (λ e. rw (e, first_at) refl) (λ e. rw (e, first_at) (omega arith))) s
 
-module _ (p : ℕ → Bool) (s : List ℕ) (i : ℕ) (P : Passed p s i) where
-  pub found : i < length s → p (get_or s i 0) ≡ true → (i ≡ first_at p s) × (i ≤ length s)
-  found l e =
-      (omega (arith, P.rest, ap (first_at p) (drop-cons s i 0 l), first-here p (get_or s i 0) (drop (suc i) s) e), P.few)
+pub length-first : (p : ℕ → Bool) (s : List ℕ) (n : ℕ) → n ≡ position_or_len p s → n ≡ first_at p s
+length-first p s n e = e ∙ sym (first-position p s)
 
-  pub passed-one : i < length s → p (get_or s i 0) ≡ false → Passed p s (i + 1)
-  passed-one l e =
-      record {
-        few = omega arith;
-        rest = rw add-one (omega (arith, P.rest, ap (first_at p) (drop-cons s i 0 l), first-later p (get_or s i 0) (drop (suc i) s) e));
-      }
+module _ (p : ℕ → Bool) (s : List ℕ) where
+  pub position-some : (i : ℕ) → Some i ≡ position p s → (i ≡ first_at p s) × (i < length s)
+  position-some i e =
+      test (ltb (position_or_len p s) (length s))
+      (λ t.
+      let q = rw t at e in
+      let f : i ≡ position_or_len p s = cc in
+      (f ∙ sym (first-position p s), omega (arith, f, ltb-true (position_or_len p s) (length s) t)))
+      (λ t. let q = rw t at e in let z : ⊥ = cc in absurd z)
 
-  pub found_none : length s ≤ i → (i ≡ first_at p s) × (i ≤ length s)
-  unfolding first_at
-  found_none l =
-      let e : i ≡ length s = omega (arith, P.few) in
-      let n : drop i s ≡ [] = rw e (drop-length s) in
-      (omega (arith, P.rest, ap (first_at p) n), P.few)
+  pub position-none : None ≡ position p s → length s ≤ first_at p s
+  position-none e =
+      test (ltb (position_or_len p s) (length s))
+      (λ t. let q = rw t at e in let z : ⊥ = cc in absurd z)
+      (λ t. omega (arith, ltb-false (position_or_len p s) (length s) t, first-position p s))

@@ -1,54 +1,32 @@
 // Bytes of a text: where the first of a kind stands.
-ghost use Rattle.std.specs.Prelude.{◌≡◌, not, ◌≤◌, eqb, length};
-ghost use Rattle.scribe_rules.specs.Words.{is_blank, first_at};
+ghost use Rattle.std.specs.Prelude.{◌≡◌, ◌≤◌, eqb, length, position, not};
+ghost use Rattle.std.specs.List.{position_or_len};
+ghost use Rattle.scribe_rules.specs.Words.{is_blank};
 
-// Where the first b stands; the length where there is none.
-pub fn find(s: &[u8], b: u8) -> usize
-    ensures { (result ≡ first_at (λ x. eqb x b) s.now) × (result ≤ length s.now) }
+// Where the first b stands, if there is one.
+pub fn find(s: &[u8], b: u8) -> Option<usize>
+    ensures { result ≡ position (λ x. eqb x b) s.now }
 {
-    let mut i: usize = 0;
-    while i < s.len() {
-        if s[i] == b {
-            return i;
-        }
-        i += 1;
-    }
-    i
+    s.iter().position(|x| *x == b)
 }
 
+#[tactic(auto, unfolding(scribe_rules::specs::Words::is_blank))]
 fn is_blank(b: u8) -> bool
     ensures { result ≡ is_blank b }
 {
-    if b == b' ' {
-        return true;
-    }
-    b == b'\t'
+    b == b' ' || b == b'\t'
+}
+
+// Where the first byte stands that is neither a blank nor a tab.
+pub fn word_start(s: &[u8]) -> Option<usize>
+    ensures { result ≡ position (λ b. not (is_blank b)) s.now }
+{
+    s.iter().position(|b| !is_blank(*b))
 }
 
 // Where the first blank or tab stands; the length where there is none.
 pub fn word_length(s: &[u8]) -> usize
-    ensures { (result ≡ first_at is_blank s.now) × (result ≤ length s.now) }
+    ensures { (result ≡ position_or_len is_blank s.now) × (result ≤ length s.now) }
 {
-    let mut i: usize = 0;
-    while i < s.len() {
-        if is_blank(s[i]) {
-            return i;
-        }
-        i += 1;
-    }
-    i
-}
-
-// Where the first byte stands that is neither.
-pub fn blank_length(s: &[u8]) -> usize
-    ensures { (result ≡ first_at (λ b. not (is_blank b)) s.now) × (result ≤ length s.now) }
-{
-    let mut i: usize = 0;
-    while i < s.len() {
-        if !is_blank(s[i]) {
-            return i;
-        }
-        i += 1;
-    }
-    i
+    s.iter().take_while(|b| !is_blank(**b)).count()
 }

@@ -1,23 +1,22 @@
 // The words of a line, and what stands behind the first of them, as a statement of its kind. docs/RULES.md, 'Sheets as text'.
 #![tactic(auto)]
 
-ghost use Rattle.std.specs.Prelude.{◌≡◌, false, List, [], ◌∷◌, ◌++◌, ℕ, ◌<◌, set};
+ghost use Rattle.std.specs.Prelude.{◌≡◌, List, [], ◌∷◌, ◌++◌, ℕ, ◌<◌, length};
 ghost use Rattle.base.specs.Finite.{within};
 ghost use Rattle.scribe_rules.specs.Statements.{ban_said, gap_said};
 ghost use Rattle.scribe_statements.specs.Parts.{words_in};
-ghost use Rattle.scribe_statements.specs.Saying.{ban_from, gap_from, Counts, SaysSlots};
+ghost use Rattle.scribe_statements.specs.Saying.{ban_from, gap_from, domains_of, slots_of, slots_from};
 
 pub mod bytes;
 pub mod numbers;
 pub mod parts;
 
-use numbers::{Signed, both, read_numeral};
-use parts::{has_word, next_word, numeral_at, place_at, signed_at};
+use numbers::{read_numeral, read_place, read_signed};
+use parts::{has_word, next_word};
 
 // Agent a at value s, agent b at value t.
 #[derive(Clone, Copy)]
 pub struct Ban {
-    pub good: bool,
     pub a: u64,
     pub s: u64,
     pub b: u64,
@@ -27,135 +26,102 @@ pub struct Ban {
 // Agents a and b, the least and the greatest gap.
 #[derive(Clone, Copy)]
 pub struct Gap {
-    pub good: bool,
     pub a: u64,
     pub b: u64,
-    pub least: Signed,
-    pub greatest: Signed,
+    pub least: i128,
+    pub greatest: i128,
 }
 
-// How many slot counts there are, whether each is 1 to 8, and the counts, where they are so and no more than twelve.
+// How many slot counts there are; and the counts, with zeros behind them, where each is 1 to 8 and they are no more than twelve.
 #[derive(Clone, Copy)]
 pub struct Slots {
-    pub good: bool,
     pub count: usize,
-    pub sized: bool,
-    pub domains: [u8; 12],
+    pub domains: Option<[u8; 12]>,
 }
 
 // Exactly two places.
-pub fn ban_in(args: &[u8]) -> Ban
+pub fn ban_in(args: &[u8]) -> Option<Ban>
     ensures { ban_from result ≡ ban_said (words_in args.now) }
 {
-    let p = place_at(args, 0);
-    let q = place_at(args, 1);
-    let more = has_word(args, 2);
-    let places = both(p.good, q.good);
-    Ban {
-        good: both(places, !more),
-        a: p.agent,
-        s: p.value,
-        b: q.agent,
-        t: q.value,
+    let (first, rest) = next_word(args)?;
+    let (second, rest) = next_word(rest)?;
+    if has_word(rest) {
+        return None;
     }
+    let first = read_place(first)?;
+    let second = read_place(second)?;
+    Some(Ban {
+        a: first.agent,
+        s: first.value,
+        b: second.agent,
+        t: second.value,
+    })
 }
 
 // Exactly two numbers and two signed numbers.
-pub fn gap_in(args: &[u8]) -> Gap
+pub fn gap_in(args: &[u8]) -> Option<Gap>
     ensures { gap_from result ≡ gap_said (words_in args.now) }
 {
-    let a = numeral_at(args, 0);
-    let b = numeral_at(args, 1);
-    let least = signed_at(args, 2);
-    let greatest = signed_at(args, 3);
-    let more = has_word(args, 4);
-    let agents = both(a.good, b.good);
-    let gaps = both(least.good, greatest.good);
-    let four = both(agents, gaps);
-    Gap {
-        good: both(four, !more),
-        a: a.value,
-        b: b.value,
-        least: least,
-        greatest: greatest,
+    let (a, rest) = next_word(args)?;
+    let (b, rest) = next_word(rest)?;
+    let (least, rest) = next_word(rest)?;
+    let (greatest, rest) = next_word(rest)?;
+    if has_word(rest) {
+        return None;
     }
+    Some(Gap {
+        a: read_numeral(a)?,
+        b: read_numeral(b)?,
+        least: read_signed(least)?,
+        greatest: read_signed(greatest)?,
+    })
 }
 
 // k is one of 1 to m.
+#[tactic(auto, unfolding(base::specs::Finite::within))]
 pub fn within(m: u64, k: u64) -> bool
     ensures { result ≡ within m k }
 {
-    if k == 0 {
-        return false;
-    }
-    k <= m
+    (1..=m).contains(&k)
 }
 
-// With the value at this place, if there is one.
-fn with_domain(domains: [u8; 12], at: usize, value: u8) -> [u8; 12]
-    ensures { result ≡ set domains at value }
+// With one count more in its place, if it is 1 to 8 and there is such a place.
+fn with_domain(domains: Option<[u8; 12]>, at: usize, value: u64) -> Option<[u8; 12]>
+    ensures { (counts : List ℕ) → at ≡ length counts → domains ≡ domains_of counts → result ≡ domains_of (counts ++ (value ∷ [])) }
 {
-    if 12 <= at {
-        return domains;
+    let mut domains = domains?;
+    if 12 <= at || !within(8, value) {
+        return None;
     }
-    let mut o = domains;
-    o[at] = value;
-    o
+    domains[at] = value as u8;
+    Some(domains)
 }
 
-// One count more.
-fn with_count(q: Slots, value: u64) -> Slots
-    requires { q.count < 9223372036854775808 }
-    ensures { (counts : List ℕ) → Counts q counts → Counts result (counts ++ (value ∷ [])) }
-{
-    let domains = q.domains;
-    if !within(8, value) {
-        return Slots {
-            good: q.good,
-            count: q.count + 1,
-            sized: false,
-            domains: domains,
-        };
-    }
-    Slots {
-        good: q.good,
-        count: q.count + 1,
-        sized: q.sized,
-        domains: with_domain(domains, q.count, value as u8),
-    }
-}
-
-fn no_slots() -> Slots
-    ensures { result.good ≡ false }
-{
-    Slots {
-        good: false,
-        count: 0,
-        sized: false,
-        domains: [0; 12],
+impl Slots {
+    // One count more.
+    fn with_count(self, value: u64) -> Slots
+        requires { self.count < 9223372036854775808 }
+        ensures { (counts : List ℕ) → self ≡ slots_of counts → result ≡ slots_of (counts ++ (value ∷ [])) }
+    {
+        Slots {
+            count: self.count + 1,
+            domains: with_domain(self.domains, self.count, value),
+        }
     }
 }
 
 // Any number of numbers.
-pub fn slots_in(args: &[u8]) -> Slots
-    ensures { SaysSlots (words_in args.now) result }
+pub fn slots_in(args: &[u8]) -> Option<Slots>
+    ensures { result ≡ slots_from (words_in args.now) }
 {
-    let mut q = Slots {
-        good: true,
+    let mut slots = Slots {
         count: 0,
-        sized: true,
-        domains: [0; 12],
+        domains: Some([0; 12]),
     };
-    let mut w = next_word(args, 0);
-    while w.start < w.end {
-        let start = w.start;
-        let end = w.end;
-        let n = read_numeral(&args[start..end]);
-        if !n.good {
-            return no_slots();
-        }
-        q = with_count(q, n.value);
-        w = next_word(args, end);
+    let mut rest = args;
+    while let Some((word, behind)) = next_word(rest) {
+        slots = slots.with_count(read_numeral(word)?);
+        rest = behind;
     }
-    q
+    Some(slots)
 }

@@ -1,8 +1,7 @@
 -- What is answered for a sheet: its text, or the number of its fault; and how bytes are put as a whole.
 -- Each opens a definition once, with the outcome that led there.
 use Prim.Native.Nat.{ℕ, ◌≤◌, ◌<◌}
-use mathlib.Core.Path.{◌≡◌, refl}
-use mathlib.Core.Logic.{◌≢◌}
+use mathlib.Core.Path.{◌≡◌, sym, ap}
 use mathlib.Core.List.{List, ◌++◌}
 use native.Mathlib.Omega.{arith}
 use lib.ListN.{length, drop, replicate, length-replicate}
@@ -13,8 +12,11 @@ use Rattle.problem.specs.Sheet.{Decoded, Valid, Invalid, edition_in, decode}
 use Rattle.problem.specs.Chain.{rows_in}
 use Rattle.problem.proofs.Range.{ranged}
 use Rattle.problem.proofs.Sheet.{decode-in-range}
-use Rattle.sheet.specs.Abstract.{Outcome, outcome}
-use Rattle.sheet.proofs.Outcomes.{valid}
+use Rattle.sheet.specs.Abstract.{Outcome, outcome, outcome_of}
+use Rattle.std.specs.Prelude.{Err}
+use Rattle.refusals.specs.Refusals.{refusal_number}
+use Rattle.refusals.specs.declared.Refusal.{Refusal}
+use Rattle.refusals.specs.declared.Refusal.TheVariants.{BadLength, BadHeader, BadRecord, Cycle, BadShape, BadNumbers, VerdictStands, EmptyChannel, NoRoom, BadRule, ShortBuffer, BadImage, BadOrdinal, NotSayable}
 use Rattle.scribe_rules.specs.Telling.{longest_told, Text, text_from, told_from, text_of}
 use Rattle.scribe_theorems.proofs.Theorems.{texts-short}
 use Rattle.scribe_writer.specs.Parts.{Room, put_told}
@@ -33,19 +35,33 @@ module _ (s buffer : List ℕ) where
 
 -- ---- the outcome of reading
 
--- another number: that of the fault
-refused : (s : List ℕ) (d : Decoded) (buffer : List ℕ) → (outcome d).number ≢ 0 → put_told (told_from s d) buffer ≡ untouched (outcome d).number buffer
-unfolding outcome told_from put_told
-refused s (Valid p) buffer n = absurd (n refl)
-refused s (Invalid f) buffer n = refl
+some-number : (r : Refusal) → refusal_number r ≡ 0 → ⊥
+some-number BadLength e = omega (arith, e)
+some-number BadHeader e = omega (arith, e)
+some-number BadRecord e = omega (arith, e)
+some-number Cycle e = omega (arith, e)
+some-number BadShape e = omega (arith, e)
+some-number BadNumbers e = omega (arith, e)
+some-number VerdictStands e = omega (arith, e)
+some-number EmptyChannel e = omega (arith, e)
+some-number NoRoom e = omega (arith, e)
+some-number BadRule e = omega (arith, e)
+some-number ShortBuffer e = omega (arith, e)
+some-number BadImage e = omega (arith, e)
+some-number BadOrdinal e = omega (arith, e)
+some-number NotSayable e = omega (arith, e)
 
-module _ (s : List ℕ) (o : Outcome) (e : o ≡ outcome (decode s)) where
-  pub read : o.number ≡ 0 → decode s ≡ Valid o.problem
-  read z = valid (decode s) o e z
+-- a refusal has the number of the fault
+refused : (s : List ℕ) (d : Decoded) (r : Refusal) (buffer : List ℕ) → outcome_of (Err r) ≡ outcome d
+    → put_told (told_from s d) buffer ≡ untouched (refusal_number r) buffer
+unfolding outcome outcome_of told_from put_told
+refused s (Valid p) r buffer e = absurd (some-number r (ap (λ (o : Outcome). o.number) e))
+refused s (Invalid f) r buffer e = ap (λ (n : ℕ). untouched n buffer) (sym (ap (λ (o : Outcome). o.number) e))
 
-  pub answers-refused : (buffer : List ℕ) → o.number ≢ 0 → put_told (text_of s) buffer ≡ untouched o.number buffer
-  unfolding text_of
-  answers-refused buffer n = rw e (refused s (decode s) buffer (rw e at n))
+pub answers-refused : (s : List ℕ) (r : Refusal) (buffer : List ℕ) → outcome_of (Err r) ≡ outcome (decode s)
+    → put_told (text_of s) buffer ≡ untouched (refusal_number r) buffer
+unfolding text_of
+answers-refused s r buffer e = refused s (decode s) r buffer e
 
 -- ---- the text
 

@@ -13,8 +13,8 @@ pub fn append_figure(out: &mut [u8], at: usize, k: u8) -> usize
     requires { Room out.old at (figure k) }
     ensures { Appends out.old at (figure k) out.new result }
 {
-    let a = append(out, at, b" ");
-    append_number(out, a, k as u64)
+    let at = append(out, at, b" ");
+    append_number(out, at, u64::from(k))
 }
 
 // A blank, an agent, and a value of it.
@@ -22,9 +22,9 @@ fn append_place(out: &mut [u8], at: usize, i: u8, v: u8) -> usize
     requires { Room out.old at (place i v) }
     ensures { Appends out.old at (place i v) out.new result }
 {
-    let a = append_figure(out, at, i);
-    let b = append(out, a, b":");
-    append_number(out, b, v as u64)
+    let at = append_figure(out, at, i);
+    let at = append(out, at, b":");
+    append_number(out, at, u64::from(v))
 }
 
 // A blank, and the signed number that is this byte.
@@ -33,10 +33,11 @@ fn append_signed(out: &mut [u8], at: usize, b: u8) -> usize
     ensures { Appends out.old at (signed_figure (signed b)) out.new result }
 {
     if b < 128 {
-        return append_figure(out, at, b);
+        append_figure(out, at, b)
+    } else {
+        let at = append(out, at, b" -");
+        append_number(out, at, 256 - u64::from(b))
     }
-    let a = append(out, at, b" -");
-    append_number(out, a, 256 - b as u64)
 }
 
 // Edition 1: the record whose first byte is at k.
@@ -44,10 +45,10 @@ fn append_ban(out: &mut [u8], at: usize, s: &[u8], k: usize) -> usize
     requires { (k + 4 ≤ length s.now) × Room out.old at (ban_line (row_at s.now k)) }
     ensures { Appends out.old at (ban_line (row_at s.now k)) out.new result }
 {
-    let a = append(out, at, b"ban");
-    let b = append_place(out, a, s[k], s[k + 2]);
-    let c = append_place(out, b, s[k + 1], s[k + 3]);
-    append(out, c, b"\n")
+    let at = append(out, at, b"ban");
+    let at = append_place(out, at, s[k], s[k + 2]);
+    let at = append_place(out, at, s[k + 1], s[k + 3]);
+    append(out, at, b"\n")
 }
 
 // Edition 2: the record whose first byte is at k.
@@ -55,12 +56,12 @@ fn append_gap(out: &mut [u8], at: usize, s: &[u8], k: usize) -> usize
     requires { (k + 4 ≤ length s.now) × Room out.old at (gap_line (row_at s.now k)) }
     ensures { Appends out.old at (gap_line (row_at s.now k)) out.new result }
 {
-    let a = append(out, at, b"gap");
-    let b = append_figure(out, a, s[k]);
-    let c = append_figure(out, b, s[k + 1]);
-    let d = append_signed(out, c, s[k + 2]);
-    let e = append_signed(out, d, s[k + 3]);
-    append(out, e, b"\n")
+    let at = append(out, at, b"gap");
+    let at = append_figure(out, at, s[k]);
+    let at = append_figure(out, at, s[k + 1]);
+    let at = append_signed(out, at, s[k + 2]);
+    let at = append_signed(out, at, s[k + 3]);
+    append(out, at, b"\n")
 }
 
 // The record whose first byte is at k.
@@ -69,7 +70,8 @@ pub fn append_row(out: &mut [u8], at: usize, s: &[u8], k: usize) -> usize
     ensures { Appends out.old at (row_line (edition_in s.now) (row_at s.now k)) out.new result }
 {
     if s[1] == 2 {
-        return append_gap(out, at, s, k);
+        append_gap(out, at, s, k)
+    } else {
+        append_ban(out, at, s, k)
     }
-    append_ban(out, at, s, k)
 }

@@ -14,19 +14,17 @@ fn room() -> [u8; 1048577]
 
 // The line behind the first `at` bytes, if there is room.
 fn with_line(text: &mut [u8], at: usize, line: &[u8]) -> usize {
-    if text.len() < at {
-        return at;
+    if at <= text.len() && line.len() <= text.len() - at {
+        append(text, at, line)
+    } else {
+        at
     }
-    if text.len() - at < line.len() {
-        return at;
-    }
-    append(text, at, line)
 }
 
 // The same line so many times.
 fn with_lines(text: &mut [u8], from: usize, line: &[u8], times: usize) -> usize {
     let mut at = from;
-    for i in 0..times {
+    for _ in 0..times {
         at = with_line(text, at, line);
     }
     at

@@ -19,25 +19,24 @@ use words::printing::Out;
 
 // Byte k of a line, 0 beyond its end.
 fn byte_at(line: &[u8], k: usize) -> u8 {
-    if k < line.len() { line[k] } else { 0 }
+    line.get(k).copied().unwrap_or(0)
 }
 
 // What is answered of the text in front of this line.
 fn put_case(o: Out, text: &[u8], name: &[u8]) -> Out {
     let named = o.put(name).put(b"\n");
-    let n = text.len();
-    if byte_at(name, 1) == b'-' {
-        if 0 < n {
-            return put_answer(named, &text[..n - 1]);
-        }
+    if byte_at(name, 1) == b'-' && !text.is_empty() {
+        put_answer(named, &text[..text.len() - 1])
+    } else {
+        put_answer(named, text)
     }
-    put_answer(named, text)
 }
 
 fn put_cases(out: Out, all: &[u8]) -> Out {
     let mut o = out;
     let mut begin: usize = 0;
     let mut at: usize = 0;
+    // No `for`: a line's end says where the next one begins, and a text has several.
     while at < all.len() {
         let end = line_end(all, at);
         let next = next_line(end, all.len());

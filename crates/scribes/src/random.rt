@@ -7,7 +7,8 @@ use oracle::buffers::{MARK, untouched};
 use oracle::reading::{byte, fault};
 use random_rails::drafts::drawn;
 use random_rails::draws::{next, pick};
-use scribe_reader::read_sheet;
+use refusals::Refusal;
+use scribe_reader::{Unread, read_sheet};
 use scribe_writer::write_text;
 
 // The longest sheet and the longest text have so many bytes.
@@ -52,51 +53,34 @@ fn same_records(s: &[u8], t: &[u8]) -> bool {
 
 // n and the slot counts; the edition, but for a sheet without records.
 fn same_header(s: &[u8], t: &[u8]) -> bool {
-    if s.len() < 24 {
+    if s.len() < 24 || t.len() < 24 {
         return false;
     }
-    if t.len() < 24 {
-        return false;
-    }
-    if s[0] != t[0] || !check::same(&s[8..20], &t[8..20]) {
-        return false;
-    }
-    if t.len() == 24 {
-        return t[1] == 1;
-    }
-    s[1] == t[1]
+    let edition = if t.len() == 24 { 1 } else { s[1] };
+    s[0] == t[0] && s[8..20] == t[8..20] && edition == t[1]
 }
 
 // The text gives these bytes, and leaves those behind them.
 fn gives(text: &[u8], t: &[u8]) -> bool {
     let mut buffer = [MARK; SHEET];
-    let r = read_sheet(text, &mut buffer);
-    let f = r.fault;
-    let w = r.written;
-    f.number == 0
-        && w.number == 0
-        && untouched(&buffer, w.length)
-        && check::same(start_of(&buffer, w.length), t)
+    match read_sheet(text, &mut buffer) {
+        Ok(n) => untouched(&buffer, n) && start_of(&buffer, n) == t,
+        Err(_) => false,
+    }
 }
 
-// Reading it into this buffer is refused with 12.
+// This buffer is too short for it.
 fn reads_not(text: &[u8], out: &mut [u8]) -> bool {
-    let r = read_sheet(text, out);
-    let f = r.fault;
-    let w = r.written;
-    f.number == 0 && w.number == 12 && w.length == 0 && untouched(out, 0)
+    matches!(
+        read_sheet(text, out),
+        Err(Unread::Refused(Refusal::ShortBuffer))
+    ) && untouched(out, 0)
 }
 
 // One byte less than n has no room for it.
 fn too_short(text: &[u8], n: usize) -> bool {
     let mut buffer = [MARK; SHEET];
-    if n == 0 {
-        return false;
-    }
-    if SHEET < n {
-        return false;
-    }
-    reads_not(text, &mut buffer[..n - 1])
+    0 < n && n <= SHEET && reads_not(text, &mut buffer[..n - 1])
 }
 
 // ---- what a sheet is told as
@@ -104,23 +88,24 @@ fn too_short(text: &[u8], n: usize) -> bool {
 // The sheet has this text, and what stands behind it is left.
 fn tells(s: &[u8], text: &[u8]) -> bool {
     let mut buffer = [MARK; TEXT];
-    let w = write_text(s, &mut buffer);
-    w.number == 0 && untouched(&buffer, w.length) && check::same(start_of(&buffer, w.length), text)
+    match write_text(s, &mut buffer) {
+        Ok(n) => untouched(&buffer, n) && start_of(&buffer, n) == text,
+        Err(_) => false,
+    }
 }
 
 // Telling s in this buffer is refused with this number.
 fn tells_not(s: &[u8], out: &mut [u8], number: u8) -> bool {
-    let w = write_text(s, out);
-    w.number == number && w.length == 0 && untouched(out, 0)
+    match write_text(s, out) {
+        Ok(_) => false,
+        Err(refusal) => refusal.number() == number && untouched(out, 0),
+    }
 }
 
 // The buffer has n bytes.
 fn is_refused(s: &[u8], n: usize, number: u8) -> bool {
     let mut buffer = [MARK; TEXT];
-    if TEXT < n {
-        return false;
-    }
-    tells_not(s, &mut buffer[..n], number)
+    n <= TEXT && tells_not(s, &mut buffer[..n], number)
 }
 
 // ---- there and back
@@ -128,36 +113,33 @@ fn is_refused(s: &[u8], n: usize, number: u8) -> bool {
 // The text of s gives a sheet that says the same and has the same text.
 fn comes_back(s: &[u8], text: &[u8]) -> bool {
     let mut buffer = [MARK; SHEET];
-    let r = read_sheet(text, &mut buffer);
-    let f = r.fault;
-    let w = r.written;
-    let t = start_of(&buffer, w.length);
-    f.number == 0
-        && fault(t) == 0
-        && same_header(s, t)
-        && same_records(s, t)
-        && tells(t, text)
-        && too_short(text, w.length)
+    let Ok(n) = read_sheet(text, &mut buffer) else {
+        return false;
+    };
+    let t = start_of(&buffer, n);
+    fault(t) == 0 && same_header(s, t) && same_records(s, t) && tells(t, text) && too_short(text, n)
 }
 
 // A text that gives a sheet gives it again, when it is told by it.
 fn told_again(t: &[u8]) -> bool {
     let mut buffer = [MARK; TEXT];
-    let w = write_text(t, &mut buffer);
-    w.number == 0 && gives(start_of(&buffer, w.length), t)
+    match write_text(t, &mut buffer) {
+        Ok(n) => gives(start_of(&buffer, n), t),
+        Err(_) => false,
+    }
 }
 
 // Any text: a fault, and nothing is written; or a good sheet.
 fn reads_well(text: &[u8]) -> bool {
     let mut buffer = [MARK; SHEET];
-    let r = read_sheet(text, &mut buffer);
-    let f = r.fault;
-    let w = r.written;
-    if f.number != 0 {
-        return f.number <= 14 && 0 < r.line && w.length == 0 && untouched(&buffer, 0);
+    match read_sheet(text, &mut buffer) {
+        Ok(n) => {
+            let t = start_of(&buffer, n);
+            fault(t) == 0 && told_again(t)
+        }
+        Err(Unread::Faulty(faulty)) => 0 < faulty.line && untouched(&buffer, 0),
+        Err(Unread::Refused(_)) => false,
     }
-    let t = start_of(&buffer, w.length);
-    fault(t) == 0 && told_again(t)
 }
 
 // ---- what is tried
@@ -174,10 +156,9 @@ fn damage(text: &mut [u8], n: usize, state: u64) {
 // A good sheet: its text, then that text damaged.
 fn with_good(t: Tally, s: &[u8], state: u64) -> Tally {
     let mut text = [MARK; TEXT];
-    let w = write_text(s, &mut text);
-    let n = w.length;
-    let whole = start_of(&text, n);
-    let right = w.number == 0 && untouched(&text, n) && comes_back(s, whole);
+    let told = write_text(s, &mut text);
+    let n = told.unwrap_or(0);
+    let right = told.is_ok() && untouched(&text, n) && comes_back(s, start_of(&text, n));
     let short = 0 < n && is_refused(s, n - 1, 12);
     let t = judged(t, TOLD, right && short, b"a good sheet", state);
     damage(&mut text, n, state);
@@ -203,19 +184,18 @@ fn with_drawn(t: Tally, state: u64) -> Tally {
     let bytes = d.bytes;
     let s = start_of(&bytes, d.length);
     if fault(s) == 0 {
-        return with_good(t, s, state);
+        with_good(t, s, state)
+    } else {
+        with_bad(t, s, state)
     }
-    with_bad(t, s, state)
 }
 
 pub fn with_randoms(tally: Tally) -> Tally {
     let mut t = tally;
     let mut state: u64 = 2026;
-    let mut left: usize = 10000;
-    while 0 < left {
+    for _ in 0..10000 {
         t = with_drawn(t, state);
         state = next(state);
-        left -= 1;
     }
     t
 }

@@ -1,18 +1,22 @@
 -- What a sheet comes to is counted as the definitions say.
 -- The figures of a list of fewer than 1,000,000 sheets leave room for one more; what the settling of a sheet answers is its outcome.
-use Prim.Native.Nat.{ℕ, suc, ◌+◌, ◌^◌, ◌≤◌, ◌<◌}
+use Prim.Native.Nat.{ℕ, suc, ◌+◌, ◌-◌, ◌^◌, ◌≤◌, ◌<◌, min}
 use mathlib.Core.Path.{◌≡◌, sym, ap, subst, ◌∙◌}
 use mathlib.Core.Logic.{◌≢◌}
 use mathlib.Core.List.{List}
-use mathlib.Core.Option.{Option}
+use mathlib.Core.Option.{Option as Option'}
+use Rattle.std.specs.Prelude.{Option, Ok, Err}
+use Rattle.refusals.specs.Refusals.{refusal_number}
+use Rattle.refusals.specs.declared.Refusal.{Refusal}
+use Rattle.refusals.proofs.Numbers.{refusal-some}
 use native.Mathlib.Omega.{arith}
 use lib.ListN.{length}
-use borrow.Author.Tests.{eq-eqb, ne_eqb}
+use borrow.Author.Tests.{ne_eqb}
 use Rattle.base.proofs.Tests.{eq_test}
 use Rattle.protocol.specs.Network.{start_sheet}
 use Rattle.protocol.specs.Run.{Ending as Ending', Ran}
 use Rattle.engine.specs.Answers.{ending_of}
-use Rattle.dock_text.specs.declared.Settlement.{Settlement}
+use Rattle.engine.specs.declared.Answer.{Answer}
 use Rattle.dock_text.specs.Settling.{program_rule, settled, Settles}
 use Rattle.season_rules.specs.Season.{season_rule, season_rounds, Outcome, Refused, Ended, outcome_by, outcome, Rounds as Rounds', Figures as Figures', place, one_more, counting, with_outcome, figures_of as figures_of'}
 use Rattle.season_rules.specs.Stream.{most_sheets}
@@ -51,26 +55,26 @@ list-room sheets h =
 
 -- ---- one more
 
-module _ (f : Figures) (s : ℕ) (one : f.sheets + 1 < 2 ^ 64 → s ≡ f.sheets + 1) (R : Room (figures_of f)) where
+module _ (f : Figures) (s : ℕ) (one : s ≡ min (f.sheets + 1) (2 ^ 64 - 1)) (R : Room (figures_of f)) where
   sheets-more : s ≡ suc f.sheets
   unfolding figures_of
-  sheets-more = one (omega (arith, R.sheets)) ∙ omega arith
+  sheets-more = omega (arith, one, R.sheets)
 
-  pub refused-more : (new : List ℕ) (k : ℕ) → 1 ≤ k → k ≤ 4 → (kinds f.refused k < 1000000 → kinds new ≡ one_more (kinds f.refused) k)
+  pub refused_more : (new : List ℕ) (k : ℕ) → 1 ≤ k → k ≤ 4 → (kinds f.refused k < 1000000 → kinds new ≡ one_more (kinds f.refused) k)
       → figures_of (record { sheets = s; refused = new; words = f.words; rounds = f.rounds }) ≡ with_outcome (Refused k) (figures_of f)
   unfolding figures_of with_outcome
-  refused-more new k l h e = rw (sheets-more, e (R.refused k l h))
+  refused_more new k l h e = rw (sheets-more, e (R.refused k l h))
 
-  pub word_more : (new : List ℕ) (k : ℕ) (r : Rounds) → 1 ≤ k → k ≤ 4 → (kinds f.words k < 1000000 → kinds new ≡ one_more (kinds f.words) k)
+  pub word_more : (new : List ℕ) (k : ℕ) (r : Option Rounds) → 1 ≤ k → k ≤ 4 → (kinds f.words k < 1000000 → kinds new ≡ one_more (kinds f.words) k)
       → figures_of (record { sheets = s; refused = f.refused; words = new; rounds = r }) ≡ with_word (figures_of f) k (rounds_of r)
   unfolding figures_of with_word
   word_more new k r l h e = rw (sheets-more, e (R.words k l h))
 
 -- a word and the rounds that it leaves are what the definition makes of an ending
-pub ended-more : (f g : Figures') (e : Ending') (n : ℕ) (r : Option Rounds') → g ≡ with_word f (place e) r → r ≡ counting e n f.rounds
+pub ended_more : (f g : Figures') (e : Ending') (n : ℕ) (r : Option' Rounds') → g ≡ with_word f (place e) r → r ≡ counting e n f.rounds
     → g ≡ with_outcome (Ended e n) f
 unfolding with_word with_outcome
-ended-more f g e n r w c = w ∙ ap (with_word f (place e)) c
+ended_more f g e n r w c = w ∙ ap (with_word f (place e)) c
 
 -- ---- a sheet
 
@@ -78,25 +82,27 @@ by-refused : (k : ℕ) (r : Ran) → k ≢ 0 → outcome_by k r ≡ Refused k
 unfolding outcome_by
 by-refused k r n = rw (ne_eqb k 0 n, outcome_by)
 
-module _ (sheet : List ℕ) (s : Settlement) (S : Settles 100000 sheet s) where
-  pub settles-ended : s.number ≡ 0 → outcome sheet ≡ Ended (ending_of s.ran.ending) s.ran.rounds
+module _ (sheet : List ℕ) (ran : Answer) (S : Settles 100000 sheet (Ok ran)) where
+  pub settles_ended : outcome sheet ≡ Ended (ending_of ran.ending) ran.rounds
   unfolding outcome outcome_by settled program_rule season_rule season_rounds
-  settles-ended z = rw (← S.number, eq-eqb s.number 0 z, outcome_by, ← S.ending, ← S.made)
+  settles_ended = rw (← S.number, outcome_by, ← S.ran.ending, ← S.ran.made)
 
-  pub settles-refused : s.number ≢ 0 → outcome sheet ≡ Refused s.number
-  unfolding outcome program_rule season_rule
-  settles-refused n = by-refused (start_sheet season_rule sheet).number _ (λ z. n (S.number ∙ z)) ∙ ap Refused (sym S.number)
-
-  pub ended-known : s.number ≡ 0 → (1 ≤ place (ending_of s.ran.ending)) × (s.ran.rounds ≤ 100000)
+  pub ended_known : (1 ≤ place (ending_of ran.ending)) × (ran.rounds ≤ 100000)
   unfolding season_rounds
-  ended-known z = let k = subst Known (settles-ended z) (each-known sheet) in (k.0, k.2)
+  ended_known = let k = subst Known settles_ended (each-known sheet) in (k.0, k.2)
 
-  pub refused-known : s.number ≢ 0 → (1 ≤ s.number) × (s.number ≤ 4)
-  refused-known n = subst Known (settles-refused n) (each-known sheet)
+module _ (sheet : List ℕ) (e : Refusal) (S : Settles 100000 sheet (Err e)) where
+  pub settles_refused : outcome sheet ≡ Refused (refusal_number e)
+  unfolding outcome program_rule season_rule
+  settles_refused =
+      by-refused (start_sheet season_rule sheet).number _ (λ z. refusal-some e (S.number ∙ z)) ∙ ap Refused (sym S.number)
 
-pub adds-outcome : (f r : Figures) (sheet : List ℕ) (o : Outcome) → outcome sheet ≡ o
+  pub refused_known : (1 ≤ refusal_number e) × (refusal_number e ≤ 4)
+  refused_known = subst Known settles_refused (each-known sheet)
+
+pub adds_outcome : (f r : Figures) (sheet : List ℕ) (o : Outcome) → outcome sheet ≡ o
     → (Room (figures_of f) → figures_of r ≡ with_outcome o (figures_of f)) → AddsSheet f sheet r
-adds-outcome f r sheet o e step sheets h m =
+adds_outcome f r sheet o e step sheets h m =
     step (subst Room (sym m) (list-room sheets h))
     ∙ ap (with_outcome o) m
     ∙ ap (λ (x : Outcome). with_outcome x (figures_of' sheets)) (sym e)

@@ -1,6 +1,6 @@
 -- What the code's figures mean. A primed name is the definitions'.
-use Rattle.std.specs.Prelude.{ℕ, suc, ◌*◌, ◌≤◌, ◌<◌, ◌≡◌, true, false, List, [], ◌∷◌, ◌++◌, eqb, length, get_or}
-use Rattle.std.proofs.Math.Option.{Option, none, some}
+use Rattle.std.specs.Prelude.{ℕ, suc, ◌*◌, ◌≤◌, ◌<◌, ◌≡◌, Option, None, Some, List, [], ◌∷◌, ◌++◌, length, get_or}
+use Rattle.std.proofs.Math.Option.{Option as Option', none, some}
 use Rattle.season_rules.specs.Season.{Rounds as Rounds', Figures as Figures', one_more, figures_of as figures_of'}
 use Rattle.season_rules.specs.Stream.{most_sheets}
 use Rattle.season_rules.specs.Claims.{count_in, sum_in}
@@ -14,15 +14,16 @@ kinds four k = get_or (0 ∷ four) k 0
 unfoldable pub rounds_from : Rounds → Rounds'
 rounds_from r = record { count = r.count; fewest = r.fewest; most = r.most; sum = r.sum }
 
--- where no sheet is counted, the other fields say nothing
-unfoldable pub rounds_of : Rounds → Option Rounds'
-rounds_of r = elim (eqb r.count 0) [ true ↦ none | false ↦ some (rounds_from r) ]
+-- none where no sheet is counted
+unfoldable pub rounds_of : Option Rounds → Option' Rounds'
+rounds_of None = none
+rounds_of (Some r) = some (rounds_from r)
 
 unfoldable pub figures_of : Figures → Figures'
 figures_of f = record { sheets = f.sheets; refused = kinds f.refused; words = kinds f.words; rounds = rounds_of f.rounds }
 
 -- with one more that ended in the word of place k, and these rounds
-unfoldable pub with_word : Figures' → ℕ → Option Rounds' → Figures'
+unfoldable pub with_word : Figures' → ℕ → Option' Rounds' → Figures'
 with_word f k r = record { sheets = suc f.sheets; refused = f.refused; words = one_more f.words k; rounds = r }
 
 -- there is room for one more

@@ -1,16 +1,33 @@
 -- A stream read piece by piece: what one piece does to the figures.
-use Rattle.std.specs.Prelude.{ℕ, ◌+◌, ◌≤◌, ◌≡◌, Bool, true, false, ◌&&◌, List, ltb, leb, length, take, drop}
+use Rattle.std.specs.Prelude.{ℕ, ◌+◌, ◌≡◌, Bool, true, false, ◌&&◌, Option, None, Some, List, ltb, leb, length, take, drop}
 use Rattle.season_rules.specs.Stream.{length_bytes, length_in, is_whole, Season as Season'}
+use Rattle.season_figures.specs.declared.stream.Reading.{Reading}
+use Rattle.season_figures.specs.declared.stream.Reading.TheVariants.{Going, Ended, Cut}
 use Rattle.season_figures.specs.declared.stream.Season.{Season}
-use Rattle.season_figures.specs.declared.stream.Reader.{Reader}
 use Rattle.season_figures.specs.Abstract.{figures_of, AddsSheet}
 
 -- what the bytes read for a length say; nothing where they are too few
-unfoldable pub said : List ℕ → ℕ
-said head = elim (ltb (length head) length_bytes) [ true ↦ 0 | false ↦ length_in head ]
+unfoldable pub said : List ℕ → Option ℕ
+said head = elim (ltb (length head) length_bytes) [ true ↦ None | false ↦ Some (length_in head) ]
+
+-- something broke off
+abbrev pub cut_of : Reading → Bool
+cut_of Going = false
+cut_of Ended = false
+cut_of Cut = true
+
+abbrev pub is_over : Reading → Bool
+is_over Going = false
+is_over Ended = true
+is_over Cut = true
+
+-- how reading is over, by whether something stands where it ends
+abbrev pub over_by : Bool → Reading
+over_by true = Cut
+over_by false = Ended
 
 unfoldable pub season_of : Season → Season'
-season_of s = record { figures = figures_of s.figures; cut = s.cut }
+season_of s = record { figures = figures_of s.figures; cut = cut_of s.reading }
 
 -- a length, and as many bytes as it says
 unfoldable pub is_piece : List ℕ → List ℕ → Bool
@@ -18,20 +35,17 @@ is_piece head sheet = leb length_bytes (length head) && leb (length_in head) (le
 
 -- A whole sheet is counted. Otherwise reading is over, and something broke off if anything was read.
 pub record Steps (s : Season) (head sheet : List ℕ) (r : Season) : Type 0 where
-  pub counts : is_piece head sheet ≡ true → AddsSheet s.figures sheet r.figures × (r.cut ≡ s.cut) × (r.over ≡ s.over)
-  pub ends : is_piece head sheet ≡ false → (r.figures ≡ s.figures) × (r.cut ≡ ltb 0 (length head)) × (r.over ≡ true)
+  pub counts : is_piece head sheet ≡ true → AddsSheet s.figures sheet r.figures × (r.reading ≡ s.reading)
+  pub ends : is_piece head sheet ≡ false → (r.figures ≡ s.figures) × (r.reading ≡ over_by (ltb 0 (length head)))
 
 -- the sheet that stands first in a stream
 unfoldable pub first_sheet : List ℕ → List ℕ
 first_sheet bytes = take (length_in bytes) (drop length_bytes bytes)
 
--- the same of a reader in a stream, which goes on behind a whole sheet
-pub record Advances (stream : List ℕ) (r o : Reader) : Type 0 where
-  pub inside : o.at ≤ length stream
-  pub counts : is_whole (drop r.at stream) ≡ true
-      → AddsSheet r.season.figures (first_sheet (drop r.at stream)) o.season.figures
-      × (o.season.cut ≡ r.season.cut) × (o.season.over ≡ r.season.over)
-      × (o.at ≡ r.at + (length_bytes + length_in (drop r.at stream)))
-  pub ends : is_whole (drop r.at stream) ≡ false
-      → (o.season.figures ≡ r.season.figures)
-      × (o.season.cut ≡ ltb 0 (length (drop r.at stream))) × (o.season.over ≡ true)
+-- the same of a stream, with what is left of it behind a whole sheet
+pub record Advances (bytes : List ℕ) (s r : Season) (rest : List ℕ) : Type 0 where
+  pub counts : is_whole bytes ≡ true
+      → AddsSheet s.figures (first_sheet bytes) r.figures
+      × (r.reading ≡ s.reading)
+      × (rest ≡ drop (length_bytes + length_in bytes) bytes)
+  pub ends : is_whole bytes ≡ false → (r.figures ≡ s.figures) × (r.reading ≡ over_by (ltb 0 (length bytes)))

@@ -1,5 +1,6 @@
 // The figures, and one sheet more.
-ghost use Rattle.std.specs.Prelude.{◌≡◌, ◌+◌, ◌^◌, ◌≤◌, ◌<◌, min, max};
+ghost use Rattle.std.specs.Prelude.{◌≡◌, ◌+◌, ◌^◌, ◌≤◌, ◌<◌};
+ghost use Rattle.refusals.specs.Refusals.{refusal_number};
 ghost use Rattle.engine.specs.Answers.{ending_of};
 ghost use Rattle.season_rules.specs.Season.{Refused, Ended, no_figures, place, one_more, with_rounds, with_outcome};
 ghost use Rattle.season_rules.specs.Claims.{count_in, sum_in};
@@ -7,8 +8,9 @@ ghost use Rattle.season_figures.specs.Abstract.{kinds, rounds_of, figures_of, Ro
 
 use dock_text::settle;
 use engine::Ending;
+use refusals::Refusal;
 
-// The rounds of the sheets that are counted: how many sheets, the fewest and the most of one, and their sum. Where there are none the others say nothing.
+// The rounds of the sheets that are counted: how many sheets, the fewest and the most of one, and their sum.
 #[derive(Clone, Copy)]
 pub struct Rounds {
     pub count: u64,
@@ -17,144 +19,113 @@ pub struct Rounds {
     pub sum: u64,
 }
 
-// The sheets; those refused, by number; those that ended, by word: `none`, `plan`, `jammed`, `open`; the rounds of `none` and `plan`.
+// The sheets; those refused, by number; those that ended, by word: `none`, `plan`, `jammed`, `open`; the rounds of `none` and `plan`, if there are any.
 #[derive(Clone, Copy)]
 pub struct Figures {
     pub sheets: u64,
     pub refused: [u64; 4],
     pub words: [u64; 4],
-    pub rounds: Rounds,
-}
-
-pub fn no_figures() -> Figures
-    ensures { figures_of result ≡ no_figures }
-{
-    let rounds = Rounds {
-        count: 0,
-        fewest: 0,
-        most: 0,
-        sum: 0,
-    };
-    Figures {
-        sheets: 0,
-        refused: [0; 4],
-        words: [0; 4],
-        rounds: rounds,
-    }
+    pub rounds: Option<Rounds>,
 }
 
 // ---- counting
 
-// The sum, or the largest number of 64 bits where it is larger.
-fn added(a: u64, b: u64) -> u64
-    ensures { a + b < 2 ^ 64 → result ≡ a + b }
-{
-    if u64::MAX - a < b {
-        return u64::MAX;
-    }
-    a + b
-}
-
-// One more of kind k, 1 to 4.
-fn counted(four: [u64; 4], k: usize) -> [u64; 4]
+// One more of kind k, 1 to 4. No count goes beyond the largest number of 64 bits.
+#[tactic(auto, using(crate::proofs::Counting::kinds_behind, crate::proofs::Counting::counts_one))]
+fn counted(mut four: [u64; 4], k: usize) -> [u64; 4]
     requires { (1 ≤ k) × (k ≤ 4) }
     ensures { kinds four k < 1000000 → kinds result ≡ one_more (kinds four) k }
 {
-    let mut o = four;
-    let n = four[k - 1];
-    o[k - 1] = added(n, 1);
-    o
-}
-
-fn lesser(a: u64, b: u64) -> u64
-    ensures { result ≡ min a b }
-{
-    if a < b { a } else { b }
-}
-
-fn greater(a: u64, b: u64) -> u64
-    ensures { result ≡ max a b }
-{
-    if a < b { b } else { a }
+    four[k - 1] = four[k - 1].saturating_add(1);
+    four
 }
 
 // The rounds of one sheet more.
-fn with_rounds(r: Rounds, n: u64) -> Rounds
-    ensures { count_in (rounds_of r) < 1000000 → n + sum_in (rounds_of r) < 2 ^ 64 → rounds_of result ≡ with_rounds n (rounds_of r) }
+#[tactic(auto, using(crate::proofs::Counting::first_rounds, crate::proofs::Counting::more_rounds))]
+fn with_rounds(rounds: Option<Rounds>, n: u64) -> Option<Rounds>
+    ensures { count_in (rounds_of rounds) < 1000000 → n + sum_in (rounds_of rounds) < 2 ^ 64 → rounds_of result ≡ with_rounds n (rounds_of rounds) }
 {
-    if r.count == 0 {
-        return Rounds {
+    let more = match rounds {
+        None => Rounds {
             count: 1,
             fewest: n,
             most: n,
             sum: n,
-        };
-    }
-    Rounds {
-        count: added(r.count, 1),
-        fewest: lesser(n, r.fewest),
-        most: greater(n, r.most),
-        sum: added(n, r.sum),
-    }
+        },
+        Some(r) => Rounds {
+            count: r.count.saturating_add(1),
+            fewest: n.min(r.fewest),
+            most: n.max(r.most),
+            sum: n.saturating_add(r.sum),
+        },
+    };
+    Some(more)
 }
 
 // ---- one sheet
 
-// One more that is refused with the number, 1 to 4.
-fn with_refused(f: Figures, number: usize) -> Figures
-    requires { (1 ≤ number) × (number ≤ 4) }
-    ensures { Room (figures_of f) → figures_of result ≡ with_outcome (Refused number) (figures_of f) }
-{
-    let refused = f.refused;
-    let words = f.words;
-    let rounds = f.rounds;
-    Figures {
-        sheets: added(f.sheets, 1),
-        refused: counted(refused, number),
-        words: words,
-        rounds: rounds,
+impl Figures {
+    // Those of no sheets.
+    #[tactic(auto, using(crate::proofs::Counting::no_kinds), unfolding(crate::specs::Abstract::figures_of, crate::specs::Abstract::rounds_of, season_rules::specs::Season::no_figures))]
+    pub fn none() -> Figures
+        ensures { figures_of result ≡ no_figures }
+    {
+        Figures {
+            sheets: 0,
+            refused: [0; 4],
+            words: [0; 4],
+            rounds: None,
+        }
     }
-}
 
-// One more that ended in the word of place k, 1 to 4, which leaves these rounds.
-fn with_word(f: Figures, k: usize, rounds: Rounds) -> Figures
-    requires { (1 ≤ k) × (k ≤ 4) }
-    ensures { Room (figures_of f) → figures_of result ≡ with_word (figures_of f) k (rounds_of rounds) }
-{
-    let refused = f.refused;
-    let words = f.words;
-    Figures {
-        sheets: added(f.sheets, 1),
-        refused: refused,
-        words: counted(words, k),
-        rounds: rounds,
+    // One more that is refused, with one of the first four numbers.
+    #[tactic(auto, using(crate::proofs::Adding::refused_more))]
+    fn with_refused(self, refusal: Refusal) -> Figures
+        requires { refusal_number refusal ≤ 4 }
+        ensures { Room (figures_of self) → figures_of result ≡ with_outcome (Refused (refusal_number refusal)) (figures_of self) }
+    {
+        Figures {
+            sheets: self.sheets.saturating_add(1),
+            refused: counted(self.refused, refusal.number() as usize),
+            ..self
+        }
     }
-}
 
-// One more that ended. No start of a sheet is out of shape.
-fn with_ended(f: Figures, e: Ending, n: u64) -> Figures
-    ensures { Room (figures_of f) → 1 ≤ place (ending_of e) → n ≤ 100000 → figures_of result ≡ with_outcome (Ended (ending_of e) n) (figures_of f) }
-{
-    let rounds = f.rounds;
-    match e {
-        Ending::None => with_word(f, 1, with_rounds(rounds, n)),
-        Ending::Plan => with_word(f, 2, with_rounds(rounds, n)),
-        Ending::Jammed => with_word(f, 3, rounds),
-        Ending::Open => with_word(f, 4, rounds),
-        Ending::Broken => f,
+    // One more that ended in the word of place k, 1 to 4, which leaves these rounds.
+    #[tactic(auto, using(crate::proofs::Adding::word_more))]
+    fn with_word(self, k: usize, rounds: Option<Rounds>) -> Figures
+        requires { (1 ≤ k) × (k ≤ 4) }
+        ensures { Room (figures_of self) → figures_of result ≡ with_word (figures_of self) k (rounds_of rounds) }
+    {
+        Figures {
+            sheets: self.sheets.saturating_add(1),
+            words: counted(self.words, k),
+            rounds,
+            ..self
+        }
     }
-}
 
-// The sheet is started by rule 1 and run with 100,000 rounds, and what it comes to is counted.
-pub fn with_sheet(f: Figures, sheet: &[u8]) -> Figures
-    ensures { AddsSheet f sheet.now result }
-{
-    let s = settle(sheet, 100000);
-    let number = s.number;
-    let ran = s.ran;
-    let ending = ran.ending;
-    if number == 0 {
-        return with_ended(f, ending, ran.rounds);
+    // One more that ended. No start of a sheet is out of shape.
+    fn with_ended(self, e: Ending, n: u64) -> Figures
+        ensures { Room (figures_of self) → 1 ≤ place (ending_of e) → n ≤ 100000 → figures_of result ≡ with_outcome (Ended (ending_of e) n) (figures_of self) }
+    {
+        match e {
+            Ending::None => self.with_word(1, with_rounds(self.rounds, n)),
+            Ending::Plan => self.with_word(2, with_rounds(self.rounds, n)),
+            Ending::Jammed => self.with_word(3, self.rounds),
+            Ending::Open => self.with_word(4, self.rounds),
+            Ending::Broken => self,
+        }
     }
-    with_refused(f, number as usize)
+
+    // The sheet is started by rule 1 and run with 100,000 rounds, and what it comes to is counted.
+    #[tactic(auto, using(crate::proofs::Adding::settles_ended, crate::proofs::Adding::settles_refused, crate::proofs::Adding::ended_known, crate::proofs::Adding::refused_known, crate::proofs::Adding::adds_outcome))]
+    pub fn with_sheet(self, sheet: &[u8]) -> Figures
+        ensures { AddsSheet self sheet.now result }
+    {
+        match settle(sheet, 100000) {
+            Ok(ran) => self.with_ended(ran.ending, ran.rounds),
+            Err(refusal) => self.with_refused(refusal),
+        }
+    }
 }

@@ -1,121 +1,114 @@
 // A stream of sheets, each behind its length in two bytes: piece by piece, as it is read, and as a whole.
-ghost use Rattle.std.specs.Prelude.{◌≡◌, true, false, ◌+◌, ◌≤◌, ◌<◌, min, length};
+ghost use Rattle.std.specs.Prelude.{◌≡◌};
 ghost use Rattle.season_rules.specs.Season.{no_figures};
 ghost use Rattle.season_rules.specs.Stream.{season as season_by};
 ghost use Rattle.season_figures.specs.Abstract.{figures_of};
-ghost use Rattle.season_figures.specs.Pieces.{said, season_of, Steps, Advances};
+ghost use Rattle.season_figures.specs.Pieces.{said, is_piece, cut_of, is_over, season_of, Steps, Advances};
 
-use crate::figures::{Figures, no_figures, with_sheet};
+use crate::figures::Figures;
 
-// The figures so far. Where reading is over, `cut` says whether something broke off.
+// A season has at most so many sheets.
+pub const MOST_SHEETS: usize = 1000000;
+
+// How far reading has come: it goes on, or has ended behind a whole sheet, or was cut off within a length or a sheet.
+#[derive(Clone, Copy, Debug, PartialEq, Eq)]
+pub enum Reading {
+    Going,
+    Ended,
+    Cut,
+}
+
+// The figures so far.
 #[derive(Clone, Copy)]
 pub struct Season {
     pub figures: Figures,
-    pub cut: bool,
-    pub over: bool,
+    pub reading: Reading,
 }
 
-// Nothing is read yet.
-pub fn begun() -> Season
-    ensures { (figures_of result.figures ≡ no_figures) × (result.cut ≡ false) × (result.over ≡ false) }
+// The length that two bytes say, if there are two.
+#[tactic(auto, using(crate::proofs::Pieces::said_nothing, crate::proofs::Pieces::said_length, crate::proofs::Pieces::two_bytes_say))]
+pub fn length_in(head: &[u8]) -> Option<u16>
+    ensures { result ≡ said head.now }
 {
-    Season {
-        figures: no_figures(),
-        cut: false,
-        over: false,
+    match head {
+        [low, high, ..] => Some(u16::from_le_bytes([*low, *high])),
+        _ => None,
     }
 }
 
-// The length that two bytes say; 0 where there are fewer.
-pub fn length_in(head: &[u8]) -> usize
-    ensures { (result ≡ said head.now) × (result < 65536) }
+// A length, and as many bytes as it says.
+fn is_piece(head: &[u8], sheet: &[u8]) -> bool
+    ensures { result ≡ is_piece head.now sheet.now }
 {
-    if head.len() < 2 {
-        return 0;
-    }
-    let low = head[0];
-    let high = head[1];
-    low as usize + 256 * high as usize
+    length_in(head).is_some_and(|n| n as usize <= sheet.len())
 }
 
-fn ended(s: Season, cut: bool) -> Season
-    ensures { (result.figures ≡ s.figures) × (result.cut ≡ cut) × (result.over ≡ true) }
-{
-    let figures = s.figures;
-    Season {
-        figures: figures,
-        cut: cut,
-        over: true,
+impl Season {
+    // Nothing is read yet.
+    pub fn begin() -> Season
+        ensures { (figures_of result.figures ≡ no_figures) × (result.reading ≡ Reading.Going) }
+    {
+        Season {
+            figures: Figures::none(),
+            reading: Reading::Going,
+        }
     }
-}
 
-// With the next piece: what was read for its length, and of the sheet behind it.
-pub fn with_piece(s: Season, head: &[u8], sheet: &[u8]) -> Season
-    ensures { Steps s head.now sheet.now result }
-{
-    if head.len() == 0 {
-        return ended(s, false);
+    pub fn is_over(self) -> bool
+        ensures { result ≡ is_over self.reading }
+    {
+        self.reading != Reading::Going
     }
-    if head.len() < 2 {
-        return ended(s, true);
-    }
-    if sheet.len() < length_in(head) {
-        return ended(s, true);
-    }
-    let figures = s.figures;
-    Season {
-        figures: with_sheet(figures, sheet),
-        cut: s.cut,
-        over: s.over,
-    }
-}
 
-// n more, or as many as there are.
-fn reach(from: usize, n: usize, end: usize) -> usize
-    requires { from ≤ end }
-    ensures { (from ≤ result) × (result ≤ end) × (result ≡ min (from + n) end) }
-{
-    if n <= end - from { from + n } else { end }
-}
+    pub fn is_cut(self) -> bool
+        ensures { result ≡ cut_of self.reading }
+    {
+        self.reading == Reading::Cut
+    }
 
-// A season, and where in the stream its next piece begins.
-#[derive(Clone, Copy)]
-struct Reader {
-    season: Season,
-    at: usize,
-}
+    // With the next piece: what was read for its length, and of the sheet behind it.
+    pub fn with_piece(self, head: &[u8], sheet: &[u8]) -> Season
+        ensures { Steps self head.now sheet.now result }
+    {
+        if is_piece(head, sheet) {
+            Season {
+                figures: self.figures.with_sheet(sheet),
+                ..self
+            }
+        } else {
+            let reading = if head.is_empty() {
+                Reading::Ended
+            } else {
+                Reading::Cut
+            };
+            Season { reading, ..self }
+        }
+    }
 
-fn advanced(r: Reader, stream: &[u8]) -> Reader
-    requires { r.at ≤ length stream.now }
-    ensures { Advances stream.now r result }
-{
-    let at = r.at;
-    let s = r.season;
-    let middle = reach(at, 2, stream.len());
-    let n = length_in(&stream[at..middle]);
-    let end = reach(middle, n, stream.len());
-    let season = with_piece(s, &stream[at..middle], &stream[middle..end]);
-    Reader {
-        season: season,
-        at: end,
+    // With the next piece of the stream, and what is left behind it.
+    #[tactic(auto, using(crate::proofs::Pieces::advances))]
+    fn with_next(self, stream: &[u8]) -> (Season, &[u8])
+        ensures { Advances stream.now self result.0 result.1.now }
+    {
+        let (head, behind) = stream.split_at(stream.len().min(2));
+        let n = length_in(head).unwrap_or(0) as usize;
+        let (sheet, rest) = behind.split_at(behind.len().min(n));
+        (self.with_piece(head, sheet), rest)
     }
 }
 
-// The stream as a whole: at most 1,000,000 sheets.
+// The stream as a whole.
+#[tactic(auto, using(crate::proofs::Reading::here_begins, crate::proofs::Reading::here_next))]
 pub fn read_stream(stream: &[u8]) -> Season
     ensures { season_of result ≡ season_by stream.now }
 {
-    let mut r = Reader {
-        season: begun(),
-        at: 0,
-    };
-    let mut left: usize = 1000000;
-    while 0 < left {
-        if r.season.over {
-            return r.season;
+    let mut season = Season::begin();
+    let mut rest = stream;
+    for _ in 0..MOST_SHEETS {
+        if season.is_over() {
+            break;
         }
-        r = advanced(r, stream);
-        left -= 1;
+        (season, rest) = season.with_next(rest);
     }
-    r.season
+    season
 }

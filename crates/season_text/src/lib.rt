@@ -4,7 +4,6 @@
 ghost use Rattle.std.specs.Prelude.{◌≡◌, ◌+◌, ◌≤◌, length};
 ghost use Rattle.std.proofs.Math.Option.{some};
 ghost use Rattle.io.specs.Counts.{IsPrefixLen};
-ghost use Rattle.protocol.specs.Run.{one_if};
 ghost use Rattle.text.specs.Text.{Appends};
 ghost use Rattle.season_rules.specs.Stream.{season as season_by};
 ghost use Rattle.season_figures.specs.Abstract.{kinds, rounds_of, rounds_from};
@@ -16,6 +15,7 @@ use season_figures::stream::{Season, read_stream};
 use text::{append, append_line, append_number};
 
 // What stands before a number, and the number.
+#[tactic(auto, unfolding(crate::specs::Text::figure))]
 fn append_figure(out: &mut [u8], at: usize, before: &[u8], n: u64) -> usize
     requires { at + (length before.now + 20) ≤ length out.old }
     ensures { Appends out.old at (figure before.now n) out.new result × (result ≤ at + (length before.now + 20)) }
@@ -29,13 +29,15 @@ fn append_four(out: &mut [u8], at: usize, before: &[u8], four: [u64; 4]) -> usiz
     requires { at + (length before.now + 84) ≤ length out.old }
     ensures { Appends out.old at (four_line before.now (kinds four)) out.new result × (result ≤ at + (length before.now + 84)) }
 {
-    let a = append_figure(out, at, before, four[0]);
-    let b = append_figure(out, a, b" ", four[1]);
-    let c = append_figure(out, b, b" ", four[2]);
-    append_line(out, c, b" ", four[3])
+    let [first, second, third, fourth] = four;
+    let a = append_figure(out, at, before, first);
+    let b = append_figure(out, a, b" ", second);
+    let c = append_figure(out, b, b" ", third);
+    append_line(out, c, b" ", fourth)
 }
 
 // The mean is not reduced.
+#[tactic(auto, unfolding(season_figures::specs::Abstract::rounds_from, crate::specs::Text::mean, crate::specs::Text::over, crate::specs::Text::mean_line))]
 fn append_mean(out: &mut [u8], at: usize, r: Rounds) -> usize
     requires { at + 47 ≤ length out.old }
     ensures { Appends out.old at (mean_line (rounds_from r)) out.new result × (result ≤ at + 47) }
@@ -45,6 +47,7 @@ fn append_mean(out: &mut [u8], at: usize, r: Rounds) -> usize
 }
 
 // The rounds of some sheets.
+#[tactic(auto, unfolding(season_figures::specs::Abstract::rounds_from, crate::specs::Text::fewest, crate::specs::Text::most, crate::specs::Text::sum, crate::specs::Text::rounds_lines))]
 fn append_some(out: &mut [u8], at: usize, r: Rounds) -> usize
     requires { at + 126 ≤ length out.old }
     ensures { Appends out.old at (rounds_lines (some (rounds_from r))) out.new result × (result ≤ at + 126) }
@@ -56,21 +59,15 @@ fn append_some(out: &mut [u8], at: usize, r: Rounds) -> usize
 }
 
 // With none to count each line shows a dash.
-fn append_rounds(out: &mut [u8], at: usize, r: Rounds) -> usize
+#[tactic(auto, unfolding(season_figures::specs::Abstract::rounds_of, crate::specs::Text::fewest, crate::specs::Text::most, crate::specs::Text::sum, crate::specs::Text::mean, crate::specs::Text::dash, text::specs::Text::newline, crate::specs::Text::dash_line, crate::specs::Text::rounds_lines))]
+fn append_rounds(out: &mut [u8], at: usize, rounds: Option<Rounds>) -> usize
     requires { at + 126 ≤ length out.old }
-    ensures { Appends out.old at (rounds_lines (rounds_of r)) out.new result × (result ≤ at + 126) }
+    ensures { Appends out.old at (rounds_lines (rounds_of rounds)) out.new result × (result ≤ at + 126) }
 {
-    if r.count == 0 {
-        return append(out, at, b"fewest -\nmost -\nsum -\nmean -\n");
+    match rounds {
+        None => append(out, at, b"fewest -\nmost -\nsum -\nmean -\n"),
+        Some(r) => append_some(out, at, r),
     }
-    append_some(out, at, r)
-}
-
-// A number for `cut`.
-fn one_if(b: bool) -> u64
-    ensures { result ≡ one_if b }
-{
-    if b { 1 } else { 0 }
 }
 
 // The text of a season, and how many bytes it has.
@@ -79,14 +76,11 @@ pub fn text(s: Season, out: &mut [u8; 512]) -> usize
     ensures prefix_len { IsPrefixLen result out.new }
 {
     let f = s.figures;
-    let refused = f.refused;
-    let words = f.words;
-    let rounds = f.rounds;
     let a = append_line(out, 0, b"sheets ", f.sheets);
-    let b = append_four(out, a, b"refused ", refused);
-    let c = append_four(out, b, b"words ", words);
-    let d = append_line(out, c, b"cut ", one_if(s.cut));
-    append_rounds(out, d, rounds)
+    let b = append_four(out, a, b"refused ", f.refused);
+    let c = append_four(out, b, b"words ", f.words);
+    let d = append_line(out, c, b"cut ", u64::from(s.is_cut()));
+    append_rounds(out, d, f.rounds)
 }
 
 // The text of a stream of bytes.

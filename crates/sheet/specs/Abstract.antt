@@ -1,9 +1,10 @@
 -- What the code's values mean: the problem and the outcome of the definitions that they stand for. A primed name is the definitions'.
-use Rattle.std.specs.Prelude.{ℕ, ◌+◌, ◌*◌, ◌≡◌, true, List, length}
+use Rattle.std.specs.Prelude.{ℕ, ◌+◌, ◌*◌, ◌≡◌, true, List, length, Result, Ok, Err}
 use Rattle.problem.specs.Problem.{Problem as Problem', empty_problem}
 use Rattle.problem.specs.Sheet.{Decoded as Decoded', Valid, Invalid, fault_number, header_length, record_length, records_in, header_good}
+use Rattle.refusals.specs.declared.Refusal.{Refusal}
+use Rattle.refusals.specs.Refusals.{refusal_number}
 use Rattle.sheet.specs.declared.Problem.{Problem}
-use Rattle.sheet.specs.declared.Decoded.{Decoded}
 
 -- the very same lists
 unfoldable pub problem_of : Problem → Problem'
@@ -19,13 +20,9 @@ unfoldable pub outcome : Decoded' → Outcome
 outcome (Valid p) = record { number = 0; problem = p }
 outcome (Invalid f) = record { number = fault_number f; problem = empty_problem }
 
-unfoldable pub outcome_of : Decoded → Outcome
-outcome_of d = record { number = d.number; problem = problem_of d.problem }
-
--- the arrays have their lengths
-pub record Sized (p : Problem) : Type 0 where
-  pub domains : length p.domains ≡ 12
-  pub bans : length p.bans ≡ 66
+unfoldable pub outcome_of : Result Problem Refusal → Outcome
+outcome_of (Ok p) = record { number = 0; problem = problem_of p }
+outcome_of (Err r) = record { number = refusal_number r; problem = empty_problem }
 
 -- the header is good and the total length is the one that it states: the walk may begin
 pub record Framed (s : List ℕ) : Type 0 where

@@ -28,10 +28,6 @@ kept f k x p t =
 pub dropped : (f : ℤ → Bool) (k : ℕ) → f (pos k -ℤ pos 7) ≡ false → On k f 0
 dropped f k t = renamed none (λ v w a b c d. sym (on-diagonal f k v w a ∙ rw t (and-false (eqb (w + 7) (k + v)))))
 
--- two tests that agree on it
-pub retested : (f g : ℤ → Bool) (k x : ℕ) → On k f x → f (pos k -ℤ pos 7) ≡ g (pos k -ℤ pos 7) → On k g x
-retested f g k x p e = renamed p (λ v w a b c d. on-diagonal f k v w a ∙ rw e (sym (on-diagonal g k v w a)))
-
 -- ---- the diagonals before k
 
 abbrev pub Upto : ℕ → (ℤ → Bool) → ℕ → Type 0

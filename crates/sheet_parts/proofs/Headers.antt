@@ -3,33 +3,21 @@
 use mathlib.Core.Path.{◌≡◌, ap, ◌∙◌}
 use mathlib.Core.Bool.{true}
 use mathlib.Core.List.{List}
-use Prim.Native.Nat.{ℕ, zero, suc, ◌+◌, ◌≤◌, ◌<◌}
+use Prim.Native.Nat.{ℕ, zero, suc, ◌+◌, ◌≤◌}
 use native.Mathlib.Omega.{arith}
-use lib.Dec.{eqb}
 use lib.ListN.{drop}
 use lib.Seq.{get_or-take, get_or-drop}
-use borrow.Author.Tests.{le-leb, lt-leb}
-use Rattle.base.specs.Finite.{within}
 use Rattle.base.proofs.Tests.{within-true}
-use Rattle.problem.specs.Problem.{max_agents, max_domain, domain, count_in_range, domain_in_range}
+use Rattle.problem.specs.Problem.{max_agents, domain, count_in_range}
 use Rattle.problem.specs.Sheet.{max_records, byte_at, agents_in, first_in, records_in, domains_in, without_bans, header_good}
 use Rattle.problem.proofs.Fields.{header-fits}
 
-pub domain-byte : (s : List ℕ) (i : ℕ) → 1 ≤ i → i ≤ 12 → domain (without_bans s) i ≡ byte_at s (7 + i)
+pub domain_byte : (s : List ℕ) (i : ℕ) → 1 ≤ i → i ≤ 12 → domain (without_bans s) i ≡ byte_at s (7 + i)
 unfolding max_agents domain byte_at domains_in without_bans
-domain-byte s zero l h = absurd (omega arith)
-domain-byte s (suc i) l h =
+domain_byte s zero l h = absurd (omega arith)
+domain_byte s (suc i) l h =
     let e : 8 + i ≡ 7 + suc i = omega arith in
     get_or-take 12 (drop 8 s) i 0 h ∙ get_or-drop 8 s i 0 ∙ ap (byte_at s) e
-
--- the test of a slot count, of an agent up to n and beyond
-pub domain-used : (s : List ℕ) (i : ℕ) → i ≤ agents_in s → domain_in_range (without_bans s) i ≡ within 8 (domain (without_bans s) i)
-unfolding max_domain domain_in_range without_bans
-domain-used s i u = rw (le-leb i (agents_in s) u, domain_in_range)
-
-pub domain-unused : (s : List ℕ) (i : ℕ) → agents_in s < i → domain_in_range (without_bans s) i ≡ eqb (domain (without_bans s) i) 0
-unfolding domain_in_range without_bans
-domain-unused s i u = rw (lt-leb i (agents_in s) u, domain_in_range)
 
 pub record Header (s : List ℕ) : Type 0 where
   pub agents : agents_in s ≤ 12

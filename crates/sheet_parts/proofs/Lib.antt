@@ -1,3 +1,4 @@
+pub mod Tests
 pub mod Headers
 mod Table
 mod Gaps

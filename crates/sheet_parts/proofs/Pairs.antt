@@ -4,10 +4,10 @@ use Prim.Native.Nat.{ℕ, suc, pred, ◌+◌, ◌-◌, ◌*◌, ◌/◌, ◌%◌
 use mathlib.Core.Path.{◌≡◌, refl, sym, ◌∙◌}
 use mathlib.Core.Bool.{Bool, true, false, cond, ◌&&◌, ◌||◌}
 use native.Mathlib.Omega.{arith}
-use lib.Dec.{eqb, ltb, leb}
+use lib.Dec.{eqb, ltb}
 use lib.Pow.{pow-lt}
 use lib.Bits.{bit_and, bit_or, and_lt, or_lt}
-use borrow.Author.Tests.{ltb-true, leb-true}
+use borrow.Author.Tests.{ltb-true}
 use Rattle.base.specs.Finite.{within, all_to}
 use Rattle.base.specs.Bits.{bit}
 use Rattle.base.specs.Same.{same_bool}
@@ -100,13 +100,6 @@ lowers-pairs d l h = pairs _ _ (all_to-at 8 (λ d. tested (lowers d) (λ v w. wi
 
 highers-pairs : (e : ℕ) → 1 ≤ e → e ≤ 8 → Pairs (highers e) (λ v w. within e w)
 highers-pairs e l h = pairs _ _ (all_to-at 8 (λ e. tested (highers e) (λ v w. within e w)) all-highers e l h)
-
-pub highers-short : (e : ℕ) → 1 ≤ e → e ≤ 8 → highers e < 2 ^ 64
-highers-short e l h = (highers-pairs e l h).short
-
-pub power-there : (e : ℕ) → 1 ≤ e → e ≤ 8 → 1 ≤ 1 * 2 ^ e % 2 ^ 64
-unfolding all_to
-power-there e l h = leb-true 1 _ (all_to-at 8 (λ e. leb 1 (1 * 2 ^ e % 2 ^ 64)) refl e l h)
 
 pub owned-pairs : (d e : ℕ) → 1 ≤ d → d ≤ 8 → 1 ≤ e → e ≤ 8 → Pairs (bit_and (lowers d) (highers e)) (λ v w. within d v && within e w)
 owned-pairs d e ld hd le he = common (lowers-pairs d ld hd) (highers-pairs e le he)

@@ -22,7 +22,7 @@ fn owned(d: usize, e: usize) -> u64
     requires { (1 ≤ d) × (d ≤ 8) × (1 ≤ e) × (e ≤ 8) }
     ensures { Pairs result (λ v w. within d v && within e w) }
 {
-    let lower = 0xffffffffffffffffu64 >> (64 - 8 * d);
+    let lower = u64::MAX >> (64 - 8 * d);
     let higher = ((1u64 << e) - 1) * 0x0101010101010101;
     lower & higher
 }
@@ -39,34 +39,26 @@ fn diagonal(k: usize) -> u64
     }
 }
 
-// Those pairs, if their gap is not below the least.
-fn not_below(least: i8, k: usize) -> u64
-    requires { k < 15 }
-    ensures { Pairs result (λ v w. eqb (w + 7) (k + v) && le_z least (gap v w)) }
-{
-    let gap = k as i8 - 7;
-    if least <= gap { diagonal(k) } else { 0 }
-}
-
 // Those pairs, if their gap lies from least to greatest.
 fn hit(least: i8, greatest: i8, k: usize) -> u64
     requires { k < 15 }
     ensures { Pairs result (λ v w. eqb (w + 7) (k + v) && between least greatest (gap v w)) }
 {
     let gap = k as i8 - 7;
-    let pairs = not_below(least, k);
-    if gap <= greatest { pairs } else { 0 }
+    if (least..=greatest).contains(&gap) {
+        diagonal(k)
+    } else {
+        0
+    }
 }
 
 // The pairs with a gap from least to greatest, of the gaps from -7 to 7.
 fn band(least: i8, greatest: i8) -> u64
     ensures { Pairs result (λ v w. between least greatest (gap v w)) }
 {
-    let mut word: u64 = 0;
-    let mut k: usize = 0;
-    while k < 15 {
-        word = word | hit(least, greatest, k);
-        k += 1;
+    let mut word = 0;
+    for k in 0..15 {
+        word |= hit(least, greatest, k);
     }
     word
 }
@@ -88,9 +80,10 @@ fn row_pairs(s: &[u8], r: usize) -> u64
     if s[1] == 2 {
         let d = domain(s, s[at] as usize);
         let e = domain(s, s[at + 1] as usize);
-        return gap_pairs(d, e, s[at + 2], s[at + 3]);
+        gap_pairs(d, e, s[at + 2], s[at + 3])
+    } else {
+        one_pair(s[at + 2] as usize, s[at + 3] as usize)
     }
-    one_pair(s[at + 2] as usize, s[at + 3] as usize)
 }
 
 // The table with what record r bans.
@@ -100,6 +93,5 @@ pub fn add_record(bans: &mut [u64; 66], s: &[u8], r: usize)
 {
     let at = 16 + 8 * r;
     let word = word_at(s[at] as usize, s[at + 1] as usize);
-    let pairs = row_pairs(s, r);
-    bans[word] = bans[word] | pairs;
+    bans[word] |= row_pairs(s, r);
 }

@@ -5,21 +5,24 @@ ghost use Rattle.problem.specs.Problem.{domain, domain_in_range};
 ghost use Rattle.problem.specs.Sheet.{word_from, domains_in, without_bans, header_good};
 
 // Two bytes, little-endian.
+#[tactic(auto, unfolding(problem::specs::Sheet::byte_at, problem::specs::Sheet::word_from))]
 pub fn two_bytes(s: &[u8], k: usize) -> usize
     requires { k + 1 < length s.now }
     ensures { (result ≡ word_from s.now k) × (result < 65536) }
 {
-    s[k] as usize + 256 * s[k + 1] as usize
+    u16::from_le_bytes([s[k], s[k + 1]]) as usize
 }
 
 // k is one of 1 to m.
+#[tactic(auto, unfolding(base::specs::Finite::within))]
 pub fn within(m: u8, k: u8) -> bool
     ensures { result ≡ within m k }
 {
-    0 < k && k <= m
+    (1..=m).contains(&k)
 }
 
 // The slot count of agent i.
+#[tactic(auto, using(crate::proofs::Headers::domain_byte), unfolding(problem::specs::Sheet::byte_at))]
 pub fn domain(s: &[u8], i: usize) -> u8
     requires { (24 ≤ length s.now) × (1 ≤ i) × (i ≤ 12) }
     ensures { result ≡ domain (without_bans s.now) i }
@@ -28,6 +31,7 @@ pub fn domain(s: &[u8], i: usize) -> u8
 }
 
 // From 1 to 8, and zero beyond n.
+#[tactic(auto, unfolding(problem::specs::Problem::max_domain, problem::specs::Problem::domain_in_range, problem::specs::Sheet::agents_in, problem::specs::Sheet::byte_at, problem::specs::Sheet::without_bans))]
 fn domain_good(s: &[u8], i: usize) -> bool
     requires { (24 ≤ length s.now) × (1 ≤ i) × (i ≤ 12) }
     ensures { result ≡ domain_in_range (without_bans s.now) i }
@@ -40,16 +44,15 @@ fn domain_good(s: &[u8], i: usize) -> bool
     }
 }
 
+#[tactic(auto, using(crate::proofs::Tests::all_passed))]
 fn domains_good(s: &[u8]) -> bool
     requires { 24 ≤ length s.now }
     ensures { result ≡ all_to 12 (domain_in_range (without_bans s.now)) }
 {
-    let mut i: usize = 12;
-    while 0 < i {
+    for i in 1..=12 {
         if !domain_good(s, i) {
             return false;
         }
-        i -= 1;
     }
     true
 }
@@ -58,40 +61,23 @@ pub fn header_good(s: &[u8]) -> bool
     requires { 24 ≤ length s.now }
     ensures { result ≡ header_good s.now }
 {
-    let m = two_bytes(s, 4);
-    if !within(12, s[0]) {
-        return false;
-    }
-    if !within(2, s[1]) {
-        return false;
-    }
-    if 4224 < m {
-        return false;
-    }
-    if two_bytes(s, 6) != 0 {
-        return false;
-    }
-    if !domains_good(s) {
-        return false;
-    }
-    if two_bytes(s, 20) != 0 {
-        return false;
-    }
-    if two_bytes(s, 22) != 0 {
-        return false;
-    }
-    two_bytes(s, 2) <= m
+    let records = two_bytes(s, 4);
+    within(12, s[0])
+        && within(2, s[1])
+        && records <= 4224
+        && two_bytes(s, 6) == 0
+        && domains_good(s)
+        && two_bytes(s, 20) == 0
+        && two_bytes(s, 22) == 0
+        && two_bytes(s, 2) <= records
 }
 
+#[tactic(auto, unfolding(problem::specs::Problem::max_agents, problem::specs::Sheet::domains_in))]
 pub fn domains_in(s: &[u8]) -> [u8; 12]
     requires { 24 ≤ length s.now }
     ensures { (result ≡ domains_in s.now) × (length result ≡ 12) }
 {
-    let mut d = [0u8; 12];
-    let mut i: usize = 0;
-    while i < 12 {
-        d[i] = s[8 + i];
-        i += 1;
-    }
+    let mut d = [0; 12];
+    d.copy_from_slice(&s[8..20]);
     d
 }

@@ -64,7 +64,7 @@ module _ (f : ℕ → List Row) (k : ℕ) (old : List ℕ) (at : ℕ) where
       let here : length (f j) ≡ length (f (k + m)) = ap (λ (x : ℕ). length (f x)) e in
       omega (arith, whole, more, here, room, g.count, g.long)
 
-  pub gather-more : (m j : ℕ) (rows : List ℕ) (count : ℕ) (new : List ℕ) (r : ℕ) → j ≡ k + m → Filled old at rows count (gather m k f)
-      → Filled rows count new r (f j) → Filled old at new r (gather (m + 1) k f)
-  gather-more m j rows count new r e g h =
-      rw (add-one m, gather-last m k f) (filled-then old rows new at count r (gather m k f) (f (k + m)) g (rw e at h))
+  pub gather-more : (m j n : ℕ) (rows : List ℕ) (count : ℕ) (new : List ℕ) (r : ℕ) → j ≡ k + m → n ≡ m + 1 → Filled old at rows count (gather m k f)
+      → Filled rows count new r (f j) → Filled old at new r (gather n k f)
+  gather-more m j n rows count new r e o g h =
+      rw (o, add-one m, gather-last m k f) (filled-then old rows new at count r (gather m k f) (f (k + m)) g (rw e at h))

@@ -6,8 +6,9 @@ use mathlib.Core.Bool.{Bool, true, false, cond}
 use mathlib.Core.List.{List, [], ◌∷◌, ◌++◌, map}
 use native.Mathlib.Omega.{arith}
 use lib.ListN.{length, get_or, take, drop, length-append, length-map, length-drop}
-use lib.Seq.{length-take-le, drop-cons, get_or-take, drop-length}
+use lib.Seq.{drop-cons, drop-length}
 use lib.Dec.{ltb}
+use mir.Val.{bool_byte}
 use borrow.Author.Tests.{lt-ltb, le-ltb, le-leb, lt-leb}
 use Rattle.base.proofs.Tests.{test}
 use Rattle.base.specs.Lent.{short_buffer, untouched, put}
@@ -18,9 +19,13 @@ use Rattle.problem.specs.Writing.{two_bytes, header_bytes, row_bytes, index_afte
 use Rattle.problem.proofs.Writing.{chained-length, writes-length}
 use Rattle.lent.specs.Abstract.{over}
 use Rattle.lent.proofs.Over.{over_nothing, over-over}
-use Rattle.sheet_writer.specs.Rows.{row_in, rows_in, next_index}
+use Rattle.sheet_writer.specs.Rows.{row_in, next_index}
 
 -- ---- the header
+
+pub one_or_none : (b : Bool) → bool_byte b ≡ cond b 1 0
+one_or_none true = refl
+one_or_none false = refl
 
 first-bytes : (b : Bool) → two_bytes (cond b 1 0) ≡ cond b 1 0 ∷ 0 ∷ []
 unfolding two_bytes
@@ -67,7 +72,7 @@ pub next-none : (r records : ℕ) → records ≤ suc r → next_index r records
 unfolding next_index
 next-none r records h = rw (le-ltb (suc r) records h)
 
-pub next_small : (r records : ℕ) → r < 4224 → next_index r records < 65536
+next_small : (r records : ℕ) → r < 4224 → next_index r records < 65536
 unfolding next_index
 next_small r records h = test (ltb (suc r) records) (λ e. rw e (omega arith)) (λ e. rw e (omega arith))
 
@@ -76,66 +81,74 @@ unfolding index_after
 next-index r records [] e = sym (next-none r records (omega arith))
 next-index r records (row ∷ rows) e = rw (next-on r records (omega arith)) (omega arith)
 
-pub row-bytes : (x next : ℕ) → next < 65536
-    → x % 256 ∷ x / 256 % 256 ∷ x / 256 / 256 % 256 ∷ x / 256 / 256 / 256 % 256 ∷ next % 256 ∷ next / 256 % 256 ∷ 0 ∷ 0 ∷ [] ≡ row_bytes (row_in x) next
+-- four bytes, little-endian
+abbrev pub four_bytes : ℕ → List ℕ
+four_bytes x = x % 256 ∷ x / 256 % 256 ∷ x / 65536 % 256 ∷ x / 16777216 % 256 ∷ []
+
+row-bytes : (x next : ℕ) → next < 65536 → four_bytes x ++ four_bytes next ≡ row_bytes (row_in x) next
 unfolding row_in row_bytes two_bytes
-row-bytes x next h = let high : next / 256 % 256 ≡ next / 256 = omega arith in rw high
+row-bytes x next h =
+    let third : x / 65536 ≡ x / 256 / 256 = omega arith in
+    let fourth : x / 16777216 ≡ x / 256 / 256 / 256 = omega arith in
+    let high : next / 256 % 256 ≡ next / 256 = omega arith in
+    let none : next / 65536 % 256 ≡ 0 = omega arith in
+    let none_above : next / 16777216 % 256 ≡ 0 = omega arith in
+    rw (third, fourth, high, none, none_above)
+
+-- its two halves, one behind the other
+pub record-put : (r records x : ℕ) → r < 4224 → (old mid new : List ℕ) → 24 + 8 * r ≤ length old → mid ≡ over (24 + 8 * r) (four_bytes x) old
+    → new ≡ over (28 + 8 * r) (four_bytes (next_index r records)) mid
+    → new ≡ take (24 + 8 * r) old ++ row_bytes (row_in x) (next_index r records) ++ drop (24 + 8 * suc r) old
+record-put r records x small old mid new h e f =
+    let next = next_index r records in
+    let behind : 28 + 8 * r ≡ 24 + 8 * r + 4 = omega arith in
+    let both : new ≡ over (24 + 8 * r) (four_bytes x ++ four_bytes next) old =
+    f ∙ rw e (over-over (24 + 8 * r) (28 + 8 * r) (four_bytes x) (four_bytes next) old h behind) in
+    let far : 24 + 8 * r + 8 ≡ 24 + 8 * suc r = omega arith in
+    both ∙ rw far (ap (λ (l : List ℕ). take (24 + 8 * r) old ++ l ++ drop (24 + 8 * suc r) old) (row-bytes x next (next_small r records small)))
 
 -- ---- the records
 
 -- the rows from r on
-abbrev pub rows_from : List ℕ → ℕ → ℕ → List Row
-rows_from rows records r = map row_in (drop r (take records rows))
+abbrev pub rows_from : List ℕ → ℕ → List Row
+rows_from rows r = map row_in (drop r rows)
 
-module _ (rows : List ℕ) (records : ℕ) (room : records ≤ length rows) where
-  taken : length (take records rows) ≡ records
-  taken = length-take-le records rows room
+module _ (rows : List ℕ) where
+  rest-length : (r : ℕ) → length (rows_from rows r) ≡ length rows - r
+  rest-length r = length-map (drop r rows) row_in ∙ length-drop r rows
 
-  rows-length : length (rows_in rows records) ≡ records
-  unfolding rows_in
-  rows-length = length-map (take records rows) row_in ∙ taken
-
-  rest-length : (r : ℕ) → length (rows_from rows records r) ≡ records - r
-  rest-length r = length-map (drop r (take records rows)) row_in ∙ length-drop r (take records rows) ∙ rw taken
-
-  rest-next : (r : ℕ) → r < records → rows_from rows records r ≡ row_in (get_or rows r 0) ∷ rows_from rows records (suc r)
-  rest-next r h =
-      ap (map row_in) (drop-cons (take records rows) r 0 (rw taken h)) ∙ rw (get_or-take records rows r 0 h)
-
-  rest-none : rows_from rows records records ≡ []
-  rest-none = ap (λ (k : ℕ). map row_in (drop k (take records rows))) (sym taken) ∙ ap (map row_in) (drop-length (take records rows))
+  rest-next : (r : ℕ) → r < length rows → rows_from rows r ≡ row_in (get_or rows r 0) ∷ rows_from rows (suc r)
+  rest-next r h = ap (map row_in) (drop-cons rows r 0 h)
 
   -- what is left to put leaves what putting all would have left
   pub record Left (old out : List ℕ) (r : ℕ) : Type 0 where
     pub long : length out ≡ length old
-    pub same : over (24 + 8 * r) (chained r (rows_from rows records r)) out ≡ over 24 (chained 0 (rows_in rows records)) old
+    pub same : over (24 + 8 * r) (chained r (rows_from rows r)) out ≡ over 24 (chained 0 (map row_in rows)) old
 
   pub all_left : (old : List ℕ) → Left old old 0
-  unfolding rows_in
   all_left old = record { long = refl; same = refl }
 
-  pub less-left : (old out new : List ℕ) (r : ℕ) → r < records → 24 + 8 * records ≤ length old → Left old out r
-      → new ≡ take (24 + 8 * r) out ++ row_bytes (row_in (get_or rows r 0)) (next_index r records) ++ drop (24 + 8 * suc r) out
+  pub less-left : (old out new : List ℕ) (r : ℕ) → r < length rows → 24 + 8 * length rows ≤ length old → Left old out r
+      → new ≡ take (24 + 8 * r) out ++ row_bytes (row_in (get_or rows r 0)) (next_index r (length rows)) ++ drop (24 + 8 * suc r) out
       → length new ≡ length out → Left old new (suc r)
   unfolding chained row_bytes two_bytes
   less-left old out new r h fits g e long =
-      let row = row_in (get_or rows r 0) in
-      let rest = rows_from rows records (suc r) in
-      let bytes = row_bytes row (next_index r records) in
+      let bytes = row_bytes (row_in (get_or rows r 0)) (next_index r (length rows)) in
+      let rest = rows_from rows (suc r) in
       let on : 24 + 8 * suc r ≡ 24 + 8 * r + 8 = omega arith in
       let put-here : new ≡ over (24 + 8 * r) bytes out = e ∙ rw on in
-      let leads = next-index r records rest (omega (arith, rest-length (suc r))) in
-      let parts : chained r (rows_from rows records r) ≡ bytes ++ chained (suc r) rest = rw (rest-next r h) (rw leads) in
+      let leads = next-index r (length rows) rest (omega (arith, rest-length (suc r))) in
+      let parts : chained r (rows_from rows r) ≡ bytes ++ chained (suc r) rest = rw (rest-next r h) (rw leads) in
       let moved : over (24 + 8 * suc r) (chained (suc r) rest) new ≡ over (24 + 8 * r) (bytes ++ chained (suc r) rest) out =
       rw put-here (over-over (24 + 8 * r) (24 + 8 * suc r) bytes (chained (suc r) rest) out (omega (arith, g.long)) on) in
       record { long = long ∙ g.long; same = moved ∙ ap (λ (l : List ℕ). over (24 + 8 * r) l out) (sym parts) ∙ g.same }
 
-  pub none_left : (old out : List ℕ) (r : ℕ) → r ≡ records → Left old out r
-      → out ≡ take 24 old ++ chained 0 (rows_in rows records) ++ drop (24 + 8 * records) old
+  pub none_left : (old out : List ℕ) (r : ℕ) → r ≡ length rows → Left old out r
+      → out ≡ take 24 old ++ chained 0 (map row_in rows) ++ drop (24 + 8 * length rows) old
   unfolding chained
   none_left old out r e g =
-      let long : length (chained 0 (rows_in rows records)) ≡ 8 * records = chained-length 0 (rows_in rows records) ∙ rw rows-length in
-      sym (over_nothing (24 + 8 * records) out) ∙ rw (e, rest-none) at g.same ∙ rw long
+      let long : length (chained 0 (map row_in rows)) ≡ 8 * length rows = chained-length 0 (map row_in rows) ∙ rw (length-map rows row_in) in
+      sym (over_nothing (24 + 8 * length rows) out) ∙ rw (e, drop-length rows) at g.same ∙ rw long
 
 -- ---- the whole
 
@@ -144,30 +157,30 @@ unfolding index_after
 first-index [] = refl
 first-index (row ∷ rows) = rw (lt-ltb 0 (suc (length rows)) (omega arith))
 
-module _ (edition : ℕ) (p : Problem) (rows : List ℕ) (records : ℕ) (room : records ≤ length rows) (long : length p.domains ≡ 12) (out : List ℕ) where
-  sheet-long : length (written edition p (rows_in rows records)) ≡ 24 + 8 * records
+module _ (edition : ℕ) (p : Problem) (rows : List Row) (records : ℕ) (room : length rows ≡ records) (long : length p.domains ≡ 12) (out : List ℕ) where
+  sheet-long : length (written edition p rows) ≡ 24 + 8 * records
   unfolding header_length record_length max_agents
-  sheet-long = writes-length edition p (rows_in rows records) long ∙ rw (rows-length rows records room)
+  sheet-long = writes-length edition p rows long ∙ rw room
 
-  pub sheet-short : length out < 24 + 8 * records → put (written edition p (rows_in rows records)) out ≡ record { number = 12; length = 0; buffer = out }
-  unfolding short_buffer untouched put
-  sheet-short h = rw (lt-leb (length (written edition p (rows_in rows records))) (length out) (omega (arith, sheet-long)), put)
+  pub sheet-short : length out < 24 + 8 * records → put (written edition p rows) out ≡ untouched short_buffer out
+  unfolding put
+  sheet-short h = rw (lt-leb (length (written edition p rows)) (length out) (omega (arith, sheet-long)), put)
 
   pub sheet-put : (mid new : List ℕ) → 24 + 8 * records ≤ length out
       → mid ≡ header_bytes edition p.count (cond (ltb 0 records) 1 0) records p.domains ++ drop 24 out
-      → new ≡ take 24 mid ++ chained 0 (rows_in rows records) ++ drop (24 + 8 * records) mid
-      → put (written edition p (rows_in rows records)) out ≡ record { number = 0; length = 24 + 8 * records; buffer = new }
+      → new ≡ take 24 mid ++ chained 0 rows ++ drop (24 + 8 * records) mid
+      → put (written edition p rows) out ≡ record { number = 0; length = 24 + 8 * records; buffer = new }
   unfolding put written
   sheet-put mid new h e f =
       let header = header_bytes edition p.count (cond (ltb 0 records) 1 0) records p.domains in
-      let s = chained 0 (rows_in rows records) in
+      let s = chained 0 rows in
       let head-long : length header ≡ 24 = header-long edition p.count (ltb 0 records) records p.domains long in
-      let s-long : length s ≡ 8 * records = chained-length 0 (rows_in rows records) ∙ rw (rows-length rows records room) in
-      let sheet : written edition p (rows_in rows records) ≡ header ++ s = rw (first-index (rows_in rows records), rows-length rows records room) in
+      let s-long : length s ≡ 8 * records = chained-length 0 rows ∙ rw room in
+      let sheet : written edition p rows ≡ header ++ s = rw (first-index rows, room) in
       let first : mid ≡ over 0 header out = e ∙ rw head-long in
       let second : new ≡ over 24 s mid = f ∙ rw s-long in
       let both : new ≡ over 0 (header ++ s) out = second ∙ rw first (over-over 0 24 header s out (omega arith) (omega (arith, head-long))) in
       let none : 0 + length (header ++ s) ≡ length (header ++ s) = omega arith in
       let whole : new ≡ (header ++ s) ++ drop (length (header ++ s)) out = both ∙ ap (λ (k : ℕ). (header ++ s) ++ drop k out) none in
-      rw (le-leb (length (written edition p (rows_in rows records))) (length out) (omega (arith, sheet-long)), put)
+      rw (le-leb (length (written edition p rows)) (length out) (omega (arith, sheet-long)), put)
       (rw (sheet, ← whole, length-append header s, head-long, s-long))

@@ -11,7 +11,7 @@ ghost use Rattle.sheet_writer.specs.Rows.{row_in, rows_in};
 
 mod writing;
 
-use lent::Written;
+use refusals::Refusal;
 use sheet::Problem;
 use writing::{put_header, put_records};
 
@@ -24,22 +24,22 @@ pub fn pack(lower: u8, higher: u8, low: u8, high: u8) -> u32
 
 // The sheet of this edition with p's n and slot counts and the first so many rows, chained in their order, where there is room; else 12,
 // and the buffer is untouched. p's bans are not looked at. No sheet has more than 4,224 records.
-pub fn put_sheet(out: &mut [u8], edition: u8, p: Problem, rows: &[u32], records: usize) -> Written
-    requires { (records ≤ 4224) × (records ≤ length rows.now) × (length p.domains ≡ 12) }
+pub fn put_sheet(
+    out: &mut [u8],
+    edition: u8,
+    p: Problem,
+    rows: &[u32],
+    records: usize,
+) -> Result<usize, Refusal>
+    requires { (records ≤ 4224) × (records ≤ length rows.now) }
     ensures { written_of result out.new
         ≡ put (written edition (problem_of p) (rows_in rows.now records)) out.old }
 {
     let length = 24 + 8 * records;
     if out.len() < length {
-        return Written {
-            number: 12,
-            length: 0,
-        };
+        return Err(Refusal::ShortBuffer);
     }
     put_header(out, edition, p, records);
-    put_records(out, rows, records);
-    Written {
-        number: 0,
-        length: length,
-    }
+    put_records(out, &rows[..records]);
+    Ok(length)
 }

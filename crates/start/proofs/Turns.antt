@@ -1,9 +1,8 @@
 -- The start as far as it has come in the code: m agents have begun, and every ring begins at its first place. One agent more begins.
-use mathlib.Core.Path.{◌≡◌, sym, ap, ◌∙◌}
+use mathlib.Core.Path.{◌≡◌, refl, sym, ap, ◌∙◌}
 use mathlib.Core.Bool.{true, false, false≢true}
 use Prim.Native.Nat.{ℕ, suc, ◌≤◌, ◌<◌}
 use native.Mathlib.Omega.{arith}
-use mathlib.Core.List.{List}
 use lib.ListN.{length, replicate, length-set, length-replicate}
 use Rattle.base.proofs.Tests.{test}
 use Rattle.problem.specs.Problem.{Problem}
@@ -11,7 +10,6 @@ use Rattle.protocol.specs.Network.{Network as Network', begun, with_step}
 use Rattle.agent.specs.declared.Agent.{Agent}
 use Rattle.agent.specs.Entries.{BeginsAs}
 use Rattle.packed.specs.Packed.{members}
-use Rattle.network.specs.declared.Place.{Place}
 use Rattle.network.specs.declared.Network.{Network}
 use Rattle.network.specs.Abstract.{is_channel, no_place, channel_of, network_of}
 use Rattle.network.specs.Empty.{empty_agent, empty_record}
@@ -30,33 +28,29 @@ pub record Opening (rule : ℕ) (p : Problem) (m : ℕ) (r : Network) : Type 0 w
   pub counts : length r.counts ≡ 12
   pub places : length r.places ≡ 1056
 
--- nobody has begun: the record, as it is written
-pub not-begun : (rule n : ℕ) (domains bans : List ℕ) (a : Agent) (p : Place) → a ≡ empty_agent → p ≡ no_place
-    → record {
-      count = n;
+-- nobody has begun: the problem and the rule, and what else the empty network has
+pub none-begun : (rule : ℕ) (p : Problem) (e : Network) → e ≡ empty_record
+    → Opening rule p 0 (record {
+      count = p.count;
       rule = rule;
-      domains = domains;
-      bans = bans;
-      verdict = false;
-      agents = replicate 12 a;
-      heads = replicate 12 0;
-      counts = replicate 12 0;
-      places = replicate 1056 p;
-    }
-    ≡ unbegun rule n domains bans
+      domains = p.domains;
+      bans = p.bans;
+      verdict = e.verdict;
+      agents = e.agents;
+      heads = e.heads;
+      counts = e.counts;
+      places = e.places;
+    })
 unfolding unbegun empty_record
-not-begun rule n domains bans a p e f = rw (e, f)
-
-pub none-begun : (rule : ℕ) (p : Problem) (r : Network) → r ≡ unbegun rule p.count p.domains p.bans → Opening rule p 0 r
-unfolding unbegun empty_record
-none-begun rule p r e =
-    record {
-      network = ap network_of e ∙ none-opened rule p;
-      heads = ap (λ (n : Network). n.heads) e;
-      agents = ap (λ (n : Network). length n.agents) e ∙ length-replicate 12 empty_agent;
-      counts = ap (λ (n : Network). length n.counts) e ∙ length-replicate {A = ℕ} 12 0;
-      places = ap (λ (n : Network). length n.places) e ∙ length-replicate 1056 no_place;
-    }
+none-begun rule p e q =
+    rw q
+    (record {
+      network = none-opened rule p;
+      heads = refl;
+      agents = length-replicate 12 empty_agent;
+      counts = length-replicate {A = ℕ} 12 0;
+      places = length-replicate 1056 no_place;
+    })
 
 -- an agent below is at the other end of a channel
 pub told-channel : (m j : ℕ) → m < 12 → (suc m < j) × (j ≤ 12) → is_channel (suc m) j ≡ true

@@ -1,18 +1,11 @@
 -- What a start hands back. A primed name is the definitions'.
-use Rattle.std.specs.Prelude.{ℕ, ◌≡◌, true, false, List}
-use Rattle.problem.specs.Problem.{empty_problem}
-use Rattle.problem.specs.Sheet.{decode}
-use Rattle.protocol.specs.Network.{is_rule, bad_rule, Started as Started'}
-use Rattle.sheet.specs.Abstract.{Outcome, outcome}
+use Rattle.std.specs.Prelude.{ℕ, ◌≡◌, List, Result, Ok, Err}
+use Rattle.refusals.specs.Refusals.{refusal_number}
+use Rattle.refusals.specs.declared.Refusal.{Refusal}
+use Rattle.protocol.specs.Network.{Network as Network', empty_network, Started as Started'}
 use Rattle.network.specs.declared.Network.{Network}
 use Rattle.network.specs.Abstract.{network_of}
 use Rattle.network.specs.Empty.{empty_record}
-use Rattle.start.specs.declared.Started.{Started}
-
--- what a start goes by: with a rule that is none, the empty problem under the number of that
-unfoldable pub given : ℕ → List ℕ → Outcome
-given rule sheet =
-    elim (is_rule rule) [ true ↦ outcome (decode sheet) | false ↦ record { number = bad_rule; problem = empty_problem } ]
 
 -- the empty network's record with a rule and a problem in it, where nobody has begun
 unfoldable pub unbegun : ℕ → ℕ → List ℕ → List ℕ → Network
@@ -29,8 +22,16 @@ unbegun rule n domains bans =
       places = empty_record.places;
     }
 
--- A start is answered as the definitions' start. A refused one hands back the very record of the empty network.
-pub record StartsAs (d : Started') (r : Started) : Type 0 where
-  pub number : r.number ≡ d.number
-  pub network : network_of r.network ≡ d.network
-  pub refused : (r.number ≡ 0 → ⊥) → r.network ≡ empty_record
+-- number 0 and the network, or the refusal's number and the empty network
+abbrev pub started_number : Result Network Refusal → ℕ
+started_number (Ok r) = 0
+started_number (Err e) = refusal_number e
+
+abbrev pub started_network : Result Network Refusal → Network'
+started_network (Ok r) = network_of r
+started_network (Err e) = empty_network
+
+-- a start is answered as the definitions' start
+pub record StartsAs (d : Started') (r : Result Network Refusal) : Type 0 where
+  pub number : started_number r ≡ d.number
+  pub network : started_network r ≡ d.network

@@ -1,10 +1,9 @@
 -- Text behind text: what is put there in two parts is put there as a whole.
 use mathlib.Core.Path.{refl, ap, ◌∙◌}
 use mathlib.Core.List.{List, [], ◌++◌, append_assoc, append-nil}
-use Prim.Native.Nat.{ℕ, ◌+◌, ◌≤◌}
+use Prim.Native.Nat.{ℕ}
 use native.Mathlib.Omega.{arith}
-use lib.ListN.{length, take, length-append}
-use lib.Seq.{paste, take-paste, length-paste, take-length}
+use lib.ListN.{take, length-append}
 use Rattle.text.specs.Text.{Appends}
 
 pub appends-none : (old : List ℕ) (at : ℕ) → Appends old at [] old at
@@ -16,13 +15,4 @@ appends-then {old} {mid} {new} {s} {t} {at} A B =
       count = omega (arith, A.count, B.count, length-append s t);
       room = B.room ∙ A.room;
       text = B.text ∙ ap (λ (l : List ℕ). l ++ t) A.text ∙ append_assoc (take at old) s t;
-    }
-
--- s copied into the buffer from `at` on
-pub pasted : (old : List ℕ) (at : ℕ) (s : List ℕ) → at + length s ≤ length old → Appends old at s (paste old at s (length s)) (at + length s)
-pasted old at s h =
-    record {
-      count = refl;
-      room = length-paste old at s (length s) h (omega arith);
-      text = take-paste old at s (length s) (omega arith) (omega arith) ∙ ap (λ (l : List ℕ). take at old ++ l) (take-length s);
     }

@@ -9,12 +9,9 @@ pub fn append(out: &mut [u8], at: usize, s: &[u8]) -> usize
     requires { at + length s.now ≤ length out.old }
     ensures { Appends out.old at s.now out.new result }
 {
-    let mut i: usize = 0;
-    while i < s.len() {
-        out[at + i] = s[i];
-        i += 1;
-    }
-    at + i
+    let end = at + s.len();
+    out[at..end].copy_from_slice(s);
+    end
 }
 
 // A number in decimal, which has at most twenty digits.
@@ -23,8 +20,8 @@ pub fn append_number(out: &mut [u8], at: usize, n: u64) -> usize
     ensures { Appends out.old at (decimal n) out.new result × (result ≤ at + 20) }
 {
     let mut digits = [0u8; 20];
-    let k = io::decimal(n, &mut digits);
-    append(out, at, &digits[..k])
+    let count = io::decimal(n, &mut digits);
+    append(out, at, &digits[..count])
 }
 
 // A line that ends in a number: what stands before it, and the number.

@@ -9,10 +9,10 @@
 //   word 3-2               what `board` prints of a word of its command line behind the sheet, on the network and with the dispatcher that the line before left
 #![tactic(auto)]
 
-use board_text::options::{Options, goes_on, no_options, opens, option, put_unopened};
-use board_text::{Stepped, begin, begin_image, call};
+use board_text::options::{Options, goes_on, no_options, opens, option, put_unopened, rule_of};
+use board_text::{Begun, Stepped, begin, begin_image, call};
 use cases::kinds::{BOARD, CASE, DOCK, END, OPTION, UNKNOWN, WORD, kind_of};
-use cases::lines::{Numbers, line_end, next_line, numbers_in, small};
+use cases::lines::{Numbers, numbers_in, small};
 use cases::sheets::{Sheet, blank, built};
 use tool::STDIN_FILENO;
 use words::printing::Out;
@@ -21,78 +21,63 @@ use words::printing::Out;
 
 // What `dock` prints of the first n bytes.
 fn put_dock(o: Out, bytes: &[u8], n: usize, rounds: u64) -> Out {
-    if bytes.len() < n {
-        return o;
+    match bytes.get(..n) {
+        Some(sheet) => {
+            let mut text = [0u8; 1024];
+            let k = dock_text::text(sheet, rounds, &mut text);
+            o.put(&text[..k])
+        }
+        None => o,
     }
-    let mut text = [0u8; 1024];
-    let k = dock_text::text(&bytes[..n], rounds, &mut text);
-    o.put(&text[..k])
 }
 
-// What `board` prints of the first n bytes by a rule, and the dispatcher that begins there.
-fn begun(s: Stepped, rule: u8, bytes: &[u8], n: usize) -> Stepped {
-    if bytes.len() < n {
-        return s;
-    }
-    let o = s.out;
-    let b = begin(o, rule, &bytes[..n]);
-    let d = b.dispatcher;
-    let out = b.out;
+// What has begun, on the empty rail where it is refused, and what was printed of it.
+fn begun(b: Begun) -> Stepped {
+    let dispatcher = match b.dispatcher {
+        Ok(dispatcher) => dispatcher,
+        Err(_) => dispatch::begin(network::empty()),
+    };
     Stepped {
-        dispatcher: d,
-        out: out,
+        dispatcher,
+        out: b.out,
     }
 }
 
-// What `board` prints of the first n bytes as an image, and the dispatcher that begins there.
-fn loaded(s: Stepped, bytes: &[u8], n: usize) -> Stepped {
-    if bytes.len() < n {
-        return s;
-    }
-    let o = s.out;
-    let b = begin_image(o, &bytes[..n]);
-    let d = b.dispatcher;
-    let out = b.out;
-    Stepped {
-        dispatcher: d,
-        out: out,
+// What `board` prints of the sheet by a rule, and the dispatcher that begins there.
+fn boarded(s: Stepped, sheet: Sheet, rule: u8) -> Stepped {
+    match sheet.bytes.get(..sheet.length) {
+        Some(bytes) => begun(begin(s.out, rule, bytes)),
+        None => s,
     }
 }
 
-// The word behind `word` and a blank.
-fn called(s: Stepped, line: &[u8]) -> Stepped {
-    let o = s.out;
-    let d = s.dispatcher;
-    if line.len() < 5 {
-        return call(o, d, line);
+// The same of the bytes as an image.
+fn loaded(s: Stepped, sheet: Sheet) -> Stepped {
+    match sheet.bytes.get(..sheet.length) {
+        Some(bytes) => begun(begin_image(s.out, bytes)),
+        None => s,
     }
-    call(o, d, &line[5..])
 }
 
 // ---- the text
 
+// The word behind `word` and a blank.
+fn called(s: Stepped, line: &[u8]) -> Stepped {
+    call(s.out, s.dispatcher, line.get(5..).unwrap_or(line))
+}
+
 fn with_line(s: Stepped, line: &[u8]) -> Stepped {
-    let o = s.out;
-    let dispatcher = s.dispatcher;
     Stepped {
-        dispatcher: dispatcher,
-        out: o.put(line).put(b"\n"),
+        out: s.out.put(line).put(b"\n"),
+        ..s
     }
 }
 
 fn docked(s: Stepped, sheet: Sheet, n: Numbers) -> Stepped {
-    let o = s.out;
-    let dispatcher = s.dispatcher;
-    let bytes = sheet.bytes;
     Stepped {
-        dispatcher: dispatcher,
-        out: put_dock(o, &bytes, sheet.length, n.values[0]),
+        out: put_dock(s.out, &sheet.bytes, sheet.length, n.values[0]),
+        ..s
     }
-}
-
-fn boarded(s: Stepped, sheet: Sheet, rule: u8) -> Stepped {
-    let bytes = sheet.bytes;
-    begun(s, rule, &bytes, sheet.length)
 }
 
 // The rule that a line names, or 1.
@@ -103,11 +88,10 @@ fn rule_in(n: Numbers) -> u8 {
 // What a line prints. One that is not understood is printed as it stands, so that it shows.
 fn printed(s: Stepped, sheet: Sheet, kind: usize, n: Numbers, line: &[u8]) -> Stepped {
     match kind {
-        CASE => with_line(s, line),
+        CASE | UNKNOWN => with_line(s, line),
         DOCK => docked(s, sheet, n),
         BOARD => boarded(s, sheet, rule_in(n)),
         WORD => called(s, line),
-        UNKNOWN => with_line(s, line),
         _ => s,
     }
 }
@@ -120,25 +104,17 @@ struct Desk {
     stepped: Stepped,
 }
 
-// The sheet under hand stands for the file, be it a sheet or an image.
-fn opened(s: Stepped, sheet: Sheet, o: Options) -> Stepped {
-    if o.image {
-        let bytes = sheet.bytes;
-        return loaded(s, &bytes, sheet.length);
-    }
-    boarded(s, sheet, o.rule)
-}
-
-// What the words in front of the calls come to.
+// What the words in front of the calls come to. The sheet under hand stands for the file, be it a sheet or an image.
 fn put_words(s: Stepped, sheet: Sheet, o: Options, word: &[u8]) -> Stepped {
-    if opens(o) {
-        return opened(s, sheet, o);
-    }
-    let out = s.out;
-    let dispatcher = s.dispatcher;
-    Stepped {
-        dispatcher: dispatcher,
-        out: put_unopened(out, o, word),
+    if !opens(o) {
+        Stepped {
+            out: put_unopened(s.out, o, word),
+            ..s
+        }
+    } else if o.image {
+        loaded(s, sheet)
+    } else {
+        boarded(s, sheet, rule_of(o))
     }
 }
 
@@ -147,69 +123,49 @@ fn with_word(d: Desk, word: &[u8]) -> Desk {
     if !goes_on(d.options) {
         return d;
     }
-    let o = option(d.options, word);
-    let sheet = d.sheet;
-    let s = d.stepped;
-    let stepped = if goes_on(o) {
-        s
+    let options = option(d.options, word);
+    let stepped = if goes_on(options) {
+        d.stepped
     } else {
-        put_words(s, sheet, o, word)
+        put_words(d.stepped, d.sheet, options, word)
     };
     Desk {
-        sheet: sheet,
-        options: o,
-        stepped: stepped,
+        options,
+        stepped,
+        ..d
     }
-}
-
-// The word behind `option` and a blank.
-fn optioned(d: Desk, line: &[u8]) -> Desk {
-    if line.len() < 7 {
-        return with_word(d, line);
-    }
-    with_word(d, &line[7..])
 }
 
 // No more words.
 fn ended(d: Desk) -> Desk {
-    let o = d.options;
-    let sheet = d.sheet;
-    let s = d.stepped;
-    let stepped = if goes_on(o) {
-        put_words(s, sheet, o, b"")
+    let stepped = if goes_on(d.options) {
+        put_words(d.stepped, d.sheet, d.options, b"")
     } else {
-        s
+        d.stepped
     };
-    Desk {
-        sheet: sheet,
-        options: o,
-        stepped: stepped,
-    }
+    Desk { stepped, ..d }
 }
 
-// A case begins with no options.
-fn options_at(o: Options, kind: usize) -> Options {
-    if kind == CASE { no_options(true) } else { o }
-}
-
-// A line that is no word in front of the calls.
+// A line that is no word in front of the calls. A case begins with no options.
 fn other(d: Desk, kind: usize, n: Numbers, line: &[u8]) -> Desk {
-    let s = d.stepped;
     let sheet = built(d.sheet, kind, n, line);
-    let options = options_at(d.options, kind);
-    let stepped = printed(s, sheet, kind, n, line);
     Desk {
-        sheet: sheet,
-        options: options,
-        stepped: stepped,
+        sheet,
+        options: if kind == CASE {
+            no_options(true)
+        } else {
+            d.options
+        },
+        stepped: printed(d.stepped, sheet, kind, n, line),
     }
 }
 
+// A word in front of the calls stands behind `option` and a blank.
 fn followed(d: Desk, line: &[u8]) -> Desk {
     let n = numbers_in(line);
     let kind = kind_of(line, n.count);
     match kind {
-        OPTION => optioned(d, line),
+        OPTION => with_word(d, line.get(7..).unwrap_or(line)),
         END => ended(d),
         _ => other(d, kind, n, line),
     }
@@ -225,14 +181,11 @@ fn play(text: &[u8]) {
             out: Out::new(),
         },
     };
-    let mut at: usize = 0;
-    while at < text.len() {
+    for line in text.split_inclusive(|b| *b == b'\n') {
         if d.stepped.out.failed {
             return;
         }
-        let end = line_end(text, at);
-        d = followed(d, &text[at..end]);
-        at = next_line(end, text.len());
+        d = followed(d, line.strip_suffix(b"\n").unwrap_or(line));
     }
 }
 

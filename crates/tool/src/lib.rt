@@ -1,8 +1,10 @@
 // What the programs share that take files and write bytes: the words given, a file's bytes, all bytes on standard output, one line on standard error.
 #![tactic(auto)]
 
+ghost use Rattle.std.specs.Prelude.{IfSome};
 ghost use Rattle.io.specs.Counts.{IsPrefixLen};
 
+use refusals::Refusal;
 use std::env::FillError;
 use std::fs;
 use std::io::Read;
@@ -20,11 +22,11 @@ pub const LONGEST_ARGUMENT: usize = 131072;
 
 // All of s on standard output, or one line on standard error that says that it cannot be written.
 pub fn written(s: &[u8]) -> bool {
-    if io::write_all(STDOUT_FILENO, s) {
-        return true;
+    let good = io::write_all(STDOUT_FILENO, s);
+    if !good {
+        io::write_all(STDERR_FILENO, b"cannot write\n");
     }
-    io::write_all(STDERR_FILENO, b"cannot write\n");
-    false
+    good
 }
 
 // One line on standard error: what is said, and the word that it is said of.
@@ -35,22 +37,20 @@ pub fn say(what: &[u8], word: &[u8]) {
 }
 
 // One line on standard error that says a refusal's number.
-pub fn say_refused(number: u8) {
+pub fn say_refused(refusal: Refusal) {
     io::write_all(STDERR_FILENO, b"refused ");
-    io::print_decimal(STDERR_FILENO, number as u64);
+    io::print_decimal(STDERR_FILENO, u64::from(refusal.number()));
     io::write_all(STDERR_FILENO, b"\n");
 }
 
 // ---- arguments
 
-// Argument i at the start of a lent buffer, and its length: 0 where there is none, or one that the buffer doesn't take. Argument 0 is the program's name.
+// Argument i at the start of a lent buffer, and its length. Argument 0 is the program's name. One that isn't there, or that the buffer doesn't take, is
+// given as the empty word, length 0, and not as a `None`: it is understood as little as an empty one, so that each program would make the one of the other.
 pub fn argument(rt: &impl Env, i: usize, word: &mut [u8]) -> usize
     ensures { IsPrefixLen result word.new }
 {
-    match rt.arg(i, word) {
-        Ok(n) => n,
-        Err(_) => 0,
-    }
+    rt.arg(i, word).unwrap_or(0)
 }
 
 // Whether there is an argument i, even an empty one.
@@ -61,12 +61,9 @@ fn is_given(rt: &impl Env, i: usize) -> bool {
 
 // How many arguments there are, the program's name among them.
 pub fn argument_count(rt: &impl Env) -> usize {
-    for i in 0..usize::MAX {
-        if !is_given(rt, i) {
-            return i;
-        }
-    }
-    usize::MAX
+    (0..usize::MAX)
+        .find(|i| !is_given(rt, *i))
+        .unwrap_or(usize::MAX)
 }
 
 // Argument i, which the program has no use for, as one line on standard error.
@@ -78,24 +75,14 @@ pub fn say_surplus(rt: &impl Env, i: usize) {
 
 // ---- files
 
-// A file's length, or that it cannot be read.
-#[derive(Clone, Copy)]
-pub struct File {
-    pub good: bool,
-    pub length: usize,
-}
-
 // The bytes of one read at the start of a lent buffer, and how many they are: none at the end of the file, and none where the read fails.
 fn read_some(file: &mut impl Read, out: &mut [u8]) -> usize
     ensures { IsPrefixLen result out.new }
 {
-    match file.read(out) {
-        Ok(n) => n,
-        Err(_) => 0,
-    }
+    file.read(out).unwrap_or(0)
 }
 
-// Reads until the buffer is full, the file ends or a read fails, and gives how many bytes it put there.
+// Reads until the buffer is full, the file ends or a read fails, and gives how many bytes it put there. A `while`, since each step is as long as its read.
 fn read_full(file: &mut impl Read, out: &mut [u8]) -> usize
     ensures { IsPrefixLen result out.new }
 {
@@ -116,24 +103,13 @@ fn read_fails(file: &mut impl Read) -> bool {
     file.read(&mut next).is_err()
 }
 
-// The file's bytes in a lent buffer, as many as it takes: where it is full, there may be more. A name that isn't UTF-8 counts as one that cannot be read.
-pub fn read_file(rt: &impl Files, name: &[u8], out: &mut [u8]) -> File
-    ensures { IsPrefixLen result.length out.new }
+// How many of the file's bytes stand in a lent buffer, as many as it takes: where it is full, there may be more. None where the file cannot be read; a name
+// that isn't UTF-8 is that of no file.
+pub fn read_file(rt: &impl Files, name: &[u8], out: &mut [u8]) -> Option<usize>
+    ensures { IfSome result (λ n. IsPrefixLen n out.new) }
 {
-    let missing = File {
-        good: false,
-        length: 0,
-    };
-    let Ok(path) = str::from_utf8(name) else {
-        return missing;
-    };
-    let Ok(mut file) = fs::open(rt, path) else {
-        return missing;
-    };
+    let path = str::from_utf8(name).ok()?;
+    let mut file = fs::open(rt, path).ok()?;
     let n = read_full(&mut file, out);
-    let fails = read_fails(&mut file);
-    File {
-        good: !fails,
-        length: n,
-    }
+    if read_fails(&mut file) { None } else { Some(n) }
 }

@@ -6,7 +6,7 @@ use mathlib.Core.Logic.{◌⊎◌, inl, inr}
 use mathlib.Core.Bool.{Bool, true, false, not, ◌||◌, false≢true}
 use native.Mathlib.Omega.{arith}
 use lib.Dec.{eqb}
-use borrow.Author.Tests.{eqb-true, eq-eqb}
+use borrow.Author.Tests.{eqb-true, eq-eqb, not-false}
 use Rattle.base.specs.Finite.{lowest, all_to, is_some}
 use Rattle.base.proofs.Tests.{test, eq_test, or_left, or_right, or_cases, both, to_both, within-true, to-within, is_some-true, not-true}
 use Rattle.base.proofs.Search.{lowest-some, lowest-range, all_to-at}
@@ -57,10 +57,6 @@ failing (suc m) q e =
     test (q (suc m))
     (λ h. let (k, l, u, f) = failing m q (rw h at e) in (k, l, omega arith, f))
     (λ h. (suc m, omega arith, omega arith, h))
-
-not-false : (b : Bool) → not b ≡ false → b ≡ true
-not-false true e = refl
-not-false false e = sym e
 
 -- a pair of slots that h names, with the gap at place k
 pub record Has (d e : ℕ) (h : ℕ → ℕ → Bool) (k : ℕ) : Type 0 where

@@ -9,14 +9,18 @@ use lib.ListN.{length}
 use borrow.Author.Tests.{lt-ltb, le-ltb, eq-eqb, ne_eqb}
 use Rattle.base.specs.Lent.{untouched, put}
 use Rattle.problem.specs.Problem.{Problem, in_range}
-use Rattle.problem.specs.Sheet.{Decoded, Valid, Invalid, BadLength, BadHeader, header_length, max_records, edition_in, decode}
+use Rattle.problem.specs.Sheet.{Valid, Invalid, BadLength, BadHeader, header_length, max_records, edition_in, decode}
 use Rattle.problem.specs.Writing.{written}
 use Rattle.problem.proofs.Range.{to-range}
-use Rattle.sheet.specs.Abstract.{Outcome, outcome}
-use Rattle.sheet.proofs.Outcomes.{valid}
+use Rattle.std.proofs.Common.{Err}
+use Rattle.refusals.specs.declared.Refusal.{Refusal}
+use Rattle.refusals.specs.Refusals.{refusal_number}
+use Rattle.sheet.specs.Abstract.{outcome, outcome_of}
+use Rattle.sheet.proofs.Outcomes.{refused}
+use Rattle.lent.proofs.Within.{Within, put-within, untouched-within}
 use Rattle.turn_rules.specs.Bans.{ban_rows}
 use Rattle.turn_rules.specs.Gaps.{sayable, gap_rows}
-use Rattle.turn_rules.specs.Turning.{not_sayable, decode_as, bans_from, gaps_from, ban_sheet, gap_sheet, put_turned, to_bans, to_gaps}
+use Rattle.turn_rules.specs.Turning.{Turned, Made, Refused, not_sayable, decode_as, bans_from, gaps_from, ban_sheet, gap_sheet, put_turned, to_bans, to_gaps}
 use Rattle.turn_theorems.proofs.Bans.{bans-few}
 use Rattle.turn_theorems.proofs.Gaps.{gaps-few}
 use Rattle.turn_theorems.proofs.Decoding.{good}
@@ -37,11 +41,6 @@ module _ (edition : ℕ) (s : List ℕ) where
   unfolding decode_as header_length
   as_same h e = rw (le-ltb (length s) 24 h, decode_as, eq-eqb (edition_in s) edition e)
 
--- ---- its outcome
-
-accepted-as : (edition : ℕ) (s : List ℕ) (o : Outcome) → o ≡ outcome (decode_as edition s) → o.number ≡ 0 → decode_as edition s ≡ Valid o.problem
-accepted-as edition s o e z = valid (decode_as edition s) o e z
-
 -- ---- its rows
 
 bans-are : (p : Problem) → all_rows 1 p ≡ ban_rows p
@@ -52,51 +51,48 @@ gaps-are : (p : Problem) → all_rows 2 p ≡ gap_rows p
 unfolding rows_of all_rows gap_rows
 gaps-are p = refl
 
-module _ (s : List ℕ) (o : Outcome) where
-  pub bans-ready : o ≡ outcome (decode_as 2 s) → o.number ≡ 0 → (in_range o.problem ≡ true) × (length (all_rows 1 o.problem) ≤ 4224)
+module _ (s : List ℕ) (p : Problem) where
+  pub bans-ready : decode_as 2 s ≡ Valid p → (in_range p ≡ true) × (length (all_rows 1 p) ≤ 4224)
   unfolding max_records
-  bans-ready e z =
-      let p = o.problem in
-      let r = (good 2 s p (accepted-as 2 s o e z)).range in
-      (to-range p r, rw (bans-are p) (bans-few p r))
+  bans-ready v = let r = (good 2 s p v).range in (to-range p r, rw (bans-are p) (bans-few p r))
 
-  pub gaps-ready : o ≡ outcome (decode_as 1 s) → o.number ≡ 0 → (in_range o.problem ≡ true) × (length (all_rows 2 o.problem) ≤ 4224)
+  pub gaps-ready : decode_as 1 s ≡ Valid p → (in_range p ≡ true) × (length (all_rows 2 p) ≤ 4224)
   unfolding max_records
-  gaps-ready e z =
-      let p = o.problem in
-      let r = (good 1 s p (accepted-as 1 s o e z)).range in
-      (to-range p r, rw (gaps-are p) (gaps-few p r))
+  gaps-ready v = let r = (good 1 s p v).range in (to-range p r, rw (gaps-are p) (gaps-few p r))
 
 -- ---- what is answered
 
-bans-refused : (d : Decoded) (buffer : List ℕ) → (outcome d).number ≢ 0 → put_turned (bans_from d) buffer ≡ untouched (outcome d).number buffer
-unfolding outcome bans_from put_turned
-bans-refused (Valid p) buffer n = absurd (n refl)
-bans-refused (Invalid f) buffer n = refl
-
-gaps-refused : (d : Decoded) (buffer : List ℕ) → (outcome d).number ≢ 0 → put_turned (gaps_from d) buffer ≡ untouched (outcome d).number buffer
-unfolding outcome gaps_from put_turned
-gaps-refused (Valid p) buffer n = absurd (n refl)
-gaps-refused (Invalid f) buffer n = refl
-
-module _ (s buffer : List ℕ) (o : Outcome) where
-  pub answers-no-bans : o ≡ outcome (decode_as 2 s) → o.number ≢ 0 → to_bans s buffer ≡ untouched o.number buffer
-  unfolding to_bans ban_sheet
-  answers-no-bans e n = rw (e) (bans-refused (decode_as 2 s) buffer (rw e at n))
-
-  pub answers-no-gaps : o ≡ outcome (decode_as 1 s) → o.number ≢ 0 → to_gaps s buffer ≡ untouched o.number buffer
-  unfolding to_gaps gap_sheet
-  answers-no-gaps e n = rw (e) (gaps-refused (decode_as 1 s) buffer (rw e at n))
-
-  pub answers-bans : o ≡ outcome (decode_as 2 s) → o.number ≡ 0 → to_bans s buffer ≡ put (written 1 o.problem (all_rows 1 o.problem)) buffer
+module _ (s buffer : List ℕ) where
+  pub answers-no-bans : (r : Refusal) → outcome_of (Err r) ≡ outcome (decode_as 2 s) → to_bans s buffer ≡ untouched (refusal_number r) buffer
   unfolding to_bans ban_sheet bans_from put_turned
-  answers-bans e z = rw (accepted-as 2 s o e z, bans-are o.problem)
+  answers-no-bans r e = let f = refused (decode_as 2 s) r e in rw (f.1.0, f.1.1)
 
-  pub answers-unsayable : o ≡ outcome (decode_as 1 s) → o.number ≡ 0 → sayable o.problem ≡ false → to_gaps s buffer ≡ untouched not_sayable buffer
+  pub answers-no-gaps : (r : Refusal) → outcome_of (Err r) ≡ outcome (decode_as 1 s) → to_gaps s buffer ≡ untouched (refusal_number r) buffer
   unfolding to_gaps gap_sheet gaps_from put_turned
-  answers-unsayable e z n = rw (accepted-as 1 s o e z, n, gaps_from)
+  answers-no-gaps r e = let f = refused (decode_as 1 s) r e in rw (f.1.0, f.1.1)
 
-  pub answers-gaps : o ≡ outcome (decode_as 1 s) → o.number ≡ 0 → sayable o.problem ≡ true
-      → to_gaps s buffer ≡ put (written 2 o.problem (all_rows 2 o.problem)) buffer
-  unfolding to_gaps gap_sheet gaps_from put_turned
-  answers-gaps e z y = rw (accepted-as 1 s o e z, y, gaps_from, gaps-are o.problem)
+  module _ (p : Problem) where
+    pub answers-bans : decode_as 2 s ≡ Valid p → to_bans s buffer ≡ put (written 1 p (all_rows 1 p)) buffer
+    unfolding to_bans ban_sheet bans_from put_turned
+    answers-bans v = rw (v, bans-are p)
+
+    pub answers-unsayable : decode_as 1 s ≡ Valid p → sayable p ≡ false → to_gaps s buffer ≡ untouched not_sayable buffer
+    unfolding to_gaps gap_sheet gaps_from put_turned
+    answers-unsayable v n = rw (v, n, gaps_from)
+
+    pub answers-gaps : decode_as 1 s ≡ Valid p → sayable p ≡ true → to_gaps s buffer ≡ put (written 2 p (all_rows 2 p)) buffer
+    unfolding to_gaps gap_sheet gaps_from put_turned
+    answers-gaps v y = rw (v, y, gaps_from, gaps-are p)
+
+turned-within : (t : Turned) (buffer : List ℕ) → Within (put_turned t buffer)
+unfolding put_turned
+turned-within (Made t) buffer = put-within t buffer
+turned-within (Refused number) buffer = untouched-within number buffer
+
+pub bans-within : (s buffer : List ℕ) → Within (to_bans s buffer)
+unfolding to_bans
+bans-within s buffer = turned-within (ban_sheet s) buffer
+
+pub gaps-within : (s buffer : List ℕ) → Within (to_gaps s buffer)
+unfolding to_gaps
+gaps-within s buffer = turned-within (gap_sheet s) buffer

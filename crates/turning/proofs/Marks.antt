@@ -47,6 +47,6 @@ module _ (f : ℕ → ℕ → Bool) (x : ℕ) where
   pub some-none-yet : x < 2 ^ 15 → Marked x x (λ k. some_to 0 (λ v. f v k))
   some-none-yet h = renamed x x _ _ (marked-none x h) (λ k. sym (some-none (λ v. f v k)))
 
-  pub some_more : (m j y z : ℕ) → j ≡ m + 1 → Marked x y (λ k. some_to m (λ v. f v k)) → Marked y z (f j) → Marked x z (λ k. some_to (m + 1) (λ v. f v k))
-  some_more m j y z e p q =
-      renamed x z _ _ (marked-then x y z _ _ p q) (λ k. rw (e, add-one m) (sym (some-last m (λ v. f v k))))
+  pub some_more : (m j n y z : ℕ) → j ≡ m + 1 → n ≡ m + 1 → Marked x y (λ k. some_to m (λ v. f v k)) → Marked y z (f j) → Marked x z (λ k. some_to n (λ v. f v k))
+  some_more m j n y z e o p q =
+      renamed x z _ _ (marked-then x y z _ _ p q) (λ k. rw (e, o, add-one m) (sym (some-last m (λ v. f v k))))

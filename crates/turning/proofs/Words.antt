@@ -17,14 +17,16 @@ use Rattle.base.proofs.Search.{all_to-at, to-all_to}
 use Rattle.base.proofs.Peeling.{same_test, all_to-same, zero_bits}
 use Rattle.base.proofs.Gathers.{gather-same}
 use Rattle.base.proofs.Bits.{bit-of-zero, bit-and, bit_not}
-use Rattle.problem.specs.Problem.{Problem, max_agents, max_domain, domain, bit_at, word_at, is_pair, banned}
-use Rattle.problem.proofs.Range.{Ranged, domain-small}
+use Rattle.problem.specs.Problem.{Problem, max_agents, max_domain, domain, bit_at, word_at, is_pair, banned, in_range}
+use Rattle.problem.proofs.Range.{Ranged, ranged, domain-small}
+use Rattle.sheet.specs.Abstract.{problem_of}
+use Rattle.sheet.specs.declared.Problem.{Problem as Sheet}
 use Rattle.turn_rules.specs.Bans.{pair_row, bans_with, bans_of}
 use Rattle.turn_rules.specs.Gaps.{gap_places, has_gap, banned_gap, free_gap, mixed_gap, runs_of}
 use Rattle.turn_theorems.proofs.Sayable.{has, to-has}
 use Rattle.turning.specs.Rows.{pair_in, pairs_with, pairs_of, Marked}
 use Rattle.turning.specs.Pairs.{Means, in_word, word_sayable, word_rows, rows_of}
-use Rattle.turning.specs.declared.pairs.Pair.{Pair}
+use Rattle.turning.specs.declared.pair.Pair.{Pair}
 
 -- ---- sets of gaps
 
@@ -81,6 +83,18 @@ unfolding in_word bit_at
 not-in-word word v w h lv uv lw uw = bit_not 64 word (bit_at v w) h (omega arith)
 
 -- ---- two agents
+
+-- agents i and j have no gap that is mixed
+abbrev pub unmixed : Problem → ℕ → ℕ → Bool
+unmixed p j i = all_to gap_places (λ k. not (mixed_gap p i j (pred k)))
+
+-- agent j with each agent above it
+abbrev pub unmixed_above : Problem → ℕ → Bool
+unmixed_above p j = all_to (pred j) (unmixed p j)
+
+pub most : (p : Sheet) → in_range (problem_of p) ≡ true → p.count ≤ 12
+unfolding problem_of max_agents
+most p r = (ranged (problem_of p) r).high
 
 module _ (p : Problem) (r : Ranged p) (i j : ℕ) (l : 1 ≤ i) (o : i < j) (u : j ≤ p.count) where
   word : ℕ

@@ -1,5 +1,5 @@
 -- What the code's parts say of two agents: their slot counts and their word of the table, and what follows from these alone.
-use Rattle.std.specs.Prelude.{ℕ, pred, ◌≤◌, ◌≡◌, Bool, not, cond, ◌&&◌, List, get_or, eqb}
+use Rattle.std.specs.Prelude.{ℕ, pred, ◌≡◌, Bool, not, cond, ◌&&◌, List, get_or, eqb}
 use Rattle.base.specs.Finite.{all_to}
 use Rattle.base.specs.Bits.{bit}
 use Rattle.problem.specs.Problem.{Problem, domain, bit_at, word_at}
@@ -7,7 +7,7 @@ use Rattle.problem.specs.Row.{Row}
 use Rattle.turn_rules.specs.Bans.{over_pairs, bans_of}
 use Rattle.turn_rules.specs.Gaps.{has_gap, banned_gap, runs_of}
 use Rattle.turning.specs.Rows.{pairs_of}
-use Rattle.turning.specs.declared.pairs.Pair.{Pair}
+use Rattle.turning.specs.declared.pair.Pair.{Pair}
 
 pub record Means (p : Problem) (i j : ℕ) (q : Pair) : Type 0 where
   pub lower : q.lower ≡ i
@@ -15,7 +15,6 @@ pub record Means (p : Problem) (i j : ℕ) (q : Pair) : Type 0 where
   pub slots : q.slots ≡ domain p i
   pub others : q.others ≡ domain p j
   pub word : q.word ≡ get_or p.bans (word_at i j) 0
-  pub small : (q.slots ≤ 8) × (q.others ≤ 8)
 
 -- the word has the pair
 unfoldable pub in_word : ℕ → ℕ → ℕ → Bool

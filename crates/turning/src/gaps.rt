@@ -12,24 +12,22 @@ fn with_gap(gaps: u64, word: u64, v: u8, w: u8) -> u64
     requires { (gaps < 2 ^ 15) × (1 ≤ v) × (v ≤ 8) × (1 ≤ w) × (w ≤ 8) }
     ensures { Marked gaps result (λ k. eqb (place_of v w) k && bit word (bit_at v w)) }
 {
-    if !bans(word, v, w) {
-        return gaps;
+    if bans(word, v, w) {
+        gaps | 1 << (w + 7 - v)
+    } else {
+        gaps
     }
-    gaps | 1u64 << (w + 7 - v)
 }
 
 // With the gaps of the pairs that the word has of the lower's value v, where the higher has e values.
-fn gaps_with(gaps: u64, e: u8, word: u64, v: u8) -> u64
+fn gaps_with(mut gaps: u64, e: u8, word: u64, v: u8) -> u64
     requires { (gaps < 2 ^ 15) × (1 ≤ v) × (v ≤ 8) × (e ≤ 8) }
     ensures { Marked gaps result (gap_with e word v) }
 {
-    let mut marked = gaps;
-    let mut w: u8 = 0;
-    while w < e {
-        w += 1;
-        marked = with_gap(marked, word, v, w);
+    for w in 1..=e {
+        gaps = with_gap(gaps, word, v, w);
     }
-    marked
+    gaps
 }
 
 // The gaps of the pairs that the word has, of the first d values of the lower and the first e of the higher.
@@ -37,10 +35,8 @@ pub fn gaps_of(d: u8, e: u8, word: u64) -> u64
     requires { (d ≤ 8) × (e ≤ 8) }
     ensures { Marked 0 result (has_gap d e (λ v w. bit word (bit_at v w))) }
 {
-    let mut gaps: u64 = 0;
-    let mut v: u8 = 0;
-    while v < d {
-        v += 1;
+    let mut gaps = 0;
+    for v in 1..=d {
         gaps = gaps_with(gaps, e, word, v);
     }
     gaps
@@ -51,13 +47,7 @@ pub fn begins(gaps: u64, k: u8) -> bool
     requires { k < 15 }
     ensures { result ≡ begins (bit gaps) k }
 {
-    if !has(gaps, k) {
-        return false;
-    }
-    if k == 0 {
-        return true;
-    }
-    !has(gaps, k - 1)
+    has(gaps, k) && (k == 0 || !has(gaps, k - 1))
 }
 
 // The last place of the run that begins at place k.
@@ -65,20 +55,19 @@ pub fn last_of(gaps: u64, k: u8) -> u8
     requires { k < 15 }
     ensures { (result ≡ last_of (bit gaps) k) × (result < 15) }
 {
-    let mut last = k;
-    while last < 14 {
+    for last in k..14 {
         if !has(gaps, last + 1) {
             return last;
         }
-        last += 1;
     }
-    last
+    14
 }
 
 // The gap at place k as a signed byte.
+#[tactic(auto, unfolding(turn_rules::specs::Gaps::gap_byte))]
 pub fn gap_byte(k: u8) -> u8
     requires { k < 15 }
     ensures { result ≡ gap_byte k }
 {
-    ((k as u16 + 249) % 256) as u8
+    (k as i8 - 7).cast_unsigned()
 }

@@ -7,44 +7,42 @@ ghost use Rattle.turning.specs.Rows.{pair_in, pairs_with, pairs_of, run_in};
 
 use crate::bits::bans;
 use crate::gaps::{begins, gap_byte, last_of};
+use crate::pair::Pair;
 use sheet_writer::pack;
 
 // Behind the first `at` rows, the lower's value v with the higher's value w, if the word has that pair.
-fn with_pair(rows: &mut [u32], at: usize, i: u8, j: u8, word: u64, v: u8, w: u8) -> usize
-    requires { (1 ≤ v) × (v ≤ 8) × (1 ≤ w) × (w ≤ 8) × Room rows.old at (pair_in i j word v w) }
-    ensures { Filled rows.old at rows.new result (pair_in i j word v w) }
+fn with_pair(rows: &mut [u32], at: usize, q: Pair, v: u8, w: u8) -> usize
+    requires { (1 ≤ v) × (v ≤ 8) × (1 ≤ w) × (w ≤ 8) × Room rows.old at (pair_in q.lower q.higher q.word v w) }
+    ensures { Filled rows.old at rows.new result (pair_in q.lower q.higher q.word v w) }
 {
-    if !bans(word, v, w) {
-        return at;
+    if bans(q.word, v, w) {
+        rows[at] = pack(q.lower, q.higher, v, w);
+        at + 1
+    } else {
+        at
     }
-    rows[at] = pack(i, j, v, w);
-    at + 1
 }
 
-// The pairs that the word has of the lower's value v, where the higher has e values.
-fn pairs_with(rows: &mut [u32], at: usize, i: u8, j: u8, e: u8, word: u64, v: u8) -> usize
-    requires { (1 ≤ v) × (v ≤ 8) × (e ≤ 8) × Room rows.old at (pairs_with i j e word v) }
-    ensures { Filled rows.old at rows.new result (pairs_with i j e word v) }
+// The pairs that the word has of the lower's value v.
+fn pairs_with(rows: &mut [u32], at: usize, q: Pair, v: u8) -> usize
+    requires { (1 ≤ v) × (v ≤ 8) × Room rows.old at (pairs_with q.lower q.higher q.others q.word v) }
+    ensures { Filled rows.old at rows.new result (pairs_with q.lower q.higher q.others q.word v) }
 {
     let mut count = at;
-    let mut w: u8 = 0;
-    while w < e {
-        w += 1;
-        count = with_pair(rows, count, i, j, word, v, w);
+    for w in 1..=q.others {
+        count = with_pair(rows, count, q, v, w);
     }
     count
 }
 
-// All pairs that the word has, of the first d values of the lower and the first e of the higher.
-pub fn pairs_of(rows: &mut [u32], at: usize, i: u8, j: u8, d: u8, e: u8, word: u64) -> usize
-    requires { (d ≤ 8) × (e ≤ 8) × Room rows.old at (pairs_of i j d e word) }
-    ensures { Filled rows.old at rows.new result (pairs_of i j d e word) }
+// All pairs that the word has.
+pub fn pairs_of(rows: &mut [u32], at: usize, q: Pair) -> usize
+    requires { Room rows.old at (pairs_of q.lower q.higher q.slots q.others q.word) }
+    ensures { Filled rows.old at rows.new result (pairs_of q.lower q.higher q.slots q.others q.word) }
 {
     let mut count = at;
-    let mut v: u8 = 0;
-    while v < d {
-        v += 1;
-        count = pairs_with(rows, count, i, j, e, word, v);
+    for v in 1..=q.slots {
+        count = pairs_with(rows, count, q, v);
     }
     count
 }
@@ -54,12 +52,12 @@ fn with_run(rows: &mut [u32], at: usize, i: u8, j: u8, gaps: u64, k: u8) -> usiz
     requires { (k < 15) × Room rows.old at (run_in i j (bit gaps) k) }
     ensures { Filled rows.old at rows.new result (run_in i j (bit gaps) k) }
 {
-    if !begins(gaps, k) {
-        return at;
+    if begins(gaps, k) {
+        rows[at] = pack(i, j, gap_byte(k), gap_byte(last_of(gaps, k)));
+        at + 1
+    } else {
+        at
     }
-    let last = last_of(gaps, k);
-    rows[at] = pack(i, j, gap_byte(k), gap_byte(last));
-    at + 1
 }
 
 // The runs of these gaps.
@@ -68,10 +66,8 @@ pub fn runs_of(rows: &mut [u32], at: usize, i: u8, j: u8, gaps: u64) -> usize
     ensures { Filled rows.old at rows.new result (runs_of i j (bit gaps)) }
 {
     let mut count = at;
-    let mut k: u8 = 0;
-    while k < 15 {
+    for k in 0..15 {
         count = with_run(rows, count, i, j, gaps, k);
-        k += 1;
     }
     count
 }

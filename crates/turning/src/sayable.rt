@@ -9,31 +9,26 @@ use crate::pairs::{pair_at, pair_sayable};
 use sheet::Problem;
 
 // Agent j with each agent above it.
-fn sayable_with(p: Problem, j: u8) -> bool
-    requires { (in_range (problem_of p) ≡ true) × (1 ≤ j) × (j ≤ p.count) }
-    ensures { result ≡ all_to (pred j) (λ i. all_to gap_places (λ k. not (mixed_gap (problem_of p) i j (pred k)))) }
+fn sayable_with(p: &Problem, j: u8) -> bool
+    requires { (in_range (problem_of p.now) ≡ true) × (1 ≤ j) × (j ≤ p.now.count) }
+    ensures { result ≡ all_to (pred j) (λ i. all_to gap_places (λ k. not (mixed_gap (problem_of p.now) i j (pred k)))) }
 {
-    let mut i = j - 1;
-    while 0 < i {
-        let q = pair_at(p, i, j);
-        if !pair_sayable(q) {
+    for i in 1..j {
+        if !pair_sayable(pair_at(p, i, j)) {
             return false;
         }
-        i -= 1;
     }
     true
 }
 
-pub fn sayable(p: Problem) -> bool
-    requires { in_range (problem_of p) ≡ true }
-    ensures { result ≡ sayable (problem_of p) }
+pub fn sayable(p: &Problem) -> bool
+    requires { in_range (problem_of p.now) ≡ true }
+    ensures { result ≡ sayable (problem_of p.now) }
 {
-    let mut j = p.count;
-    while 0 < j {
+    for j in 1..=p.count {
         if !sayable_with(p, j) {
             return false;
         }
-        j -= 1;
     }
     true
 }

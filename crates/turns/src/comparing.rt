@@ -18,10 +18,9 @@ fn chosen(i: usize, j: usize, v: usize, w: usize) -> Choice
 fn same_with(s: &[u8], t: &[u8], i: usize, j: usize, v: usize) -> bool
     requires { (1 ≤ i) × (i ≤ 12) × (1 ≤ j) × (j ≤ 12) }
 {
-    let most = slots(s, j);
-    for w in 1..9 {
+    for w in 1..=slots(s, j).min(8) {
         let c = chosen(i, j, v, w);
-        if w <= most && forbids(s, i, j, c) != forbids(t, i, j, c) {
+        if forbids(s, i, j, c) != forbids(t, i, j, c) {
             return false;
         }
     }
@@ -32,9 +31,8 @@ fn same_with(s: &[u8], t: &[u8], i: usize, j: usize, v: usize) -> bool
 fn same_between(s: &[u8], t: &[u8], i: usize, j: usize) -> bool
     requires { (1 ≤ i) × (i ≤ 12) × (1 ≤ j) × (j ≤ 12) }
 {
-    let most = slots(s, i);
-    for v in 1..9 {
-        if v <= most && !same_with(s, t, i, j, v) {
+    for v in 1..=slots(s, i).min(8) {
+        if !same_with(s, t, i, j, v) {
             return false;
         }
     }
@@ -45,8 +43,8 @@ fn same_between(s: &[u8], t: &[u8], i: usize, j: usize) -> bool
 fn same_below(s: &[u8], t: &[u8], i: usize) -> bool
     requires { (1 ≤ i) × (i ≤ 12) }
 {
-    for j in 1..13 {
-        if i < j && !same_between(s, t, i, j) {
+    for j in i + 1..=12 {
+        if !same_between(s, t, i, j) {
             return false;
         }
     }
@@ -58,7 +56,7 @@ pub fn alike(s: &[u8], t: &[u8]) -> bool {
     if byte(s, 0) != byte(t, 0) {
         return false;
     }
-    for i in 1..13 {
+    for i in 1..=12 {
         if slots(s, i) != slots(t, i) || !same_below(s, t, i) {
             return false;
         }
@@ -72,19 +70,20 @@ pub fn alike(s: &[u8], t: &[u8]) -> bool {
 fn goes_on(s: &[u8], i: usize, j: usize, v: usize, w: usize) -> bool
     requires { (1 ≤ i) × (i ≤ 12) × (1 ≤ j) × (j ≤ 12) × (v ≤ 8) × (w ≤ 8) }
 {
-    if slots(s, i) <= v || slots(s, j) <= w {
-        return true;
-    }
-    forbids(s, i, j, chosen(i, j, v, w)) == forbids(s, i, j, chosen(i, j, v + 1, w + 1))
+    slots(s, i) <= v
+        || slots(s, j) <= w
+        || forbids(s, i, j, chosen(i, j, v, w)) == forbids(s, i, j, chosen(i, j, v + 1, w + 1))
 }
 
 // All slots of these two scanners.
 fn unmixed_between(s: &[u8], i: usize, j: usize) -> bool
     requires { (1 ≤ i) × (i ≤ 12) × (1 ≤ j) × (j ≤ 12) }
 {
-    for k in 0..64 {
-        if !goes_on(s, i, j, 1 + k / 8, 1 + k % 8) {
-            return false;
+    for v in 1..=8 {
+        for w in 1..=8 {
+            if !goes_on(s, i, j, v, w) {
+                return false;
+            }
         }
     }
     true
@@ -92,11 +91,11 @@ fn unmixed_between(s: &[u8], i: usize, j: usize) -> bool
 
 // No two scanners have two owned pairs of slots with equal gap, one banned and one free.
 pub fn unmixed(s: &[u8]) -> bool {
-    for k in 0..144 {
-        let i = 1 + k / 12;
-        let j = 1 + k % 12;
-        if i < j && !unmixed_between(s, i, j) {
-            return false;
+    for i in 1..=12 {
+        for j in i + 1..=12 {
+            if !unmixed_between(s, i, j) {
+                return false;
+            }
         }
     }
     true

@@ -1,65 +1,43 @@
 // The gap sheet of twelve scanners with eight slots each that bans every gap between any two.
 
-// What it is and where it is written: 66 records of eight bytes behind the header.
+// It is built up record by record: 66 of eight bytes behind the header.
 #[derive(Clone, Copy)]
-pub struct Full {
-    pub bytes: [u8; 552],
-    pub records: u8,
+struct Full {
+    bytes: [u8; 552],
+    records: u8,
 }
 
-fn with_byte(l: Full, at: usize, b: u8) -> Full {
-    let mut o = l;
-    if at < 552 {
-        o.bytes[at] = b;
+impl Full {
+    // Twelve scanners, edition 2, the first record and how many there are to be, eight slots each.
+    fn new() -> Full {
+        let mut bytes = [0; 552];
+        bytes[..6].copy_from_slice(&[12, 2, 1, 0, 66, 0]);
+        bytes[8..20].fill(8);
+        Full { bytes, records: 0 }
     }
-    o
+
+    // One record more: gaps -7 to 7 of two scanners; the last one leads nowhere.
+    fn with_record(mut self, lower: u8, higher: u8) -> Full {
+        if self.records < 66 {
+            self.records += 1;
+            let next = if self.records < 66 {
+                self.records + 1
+            } else {
+                0
+            };
+            let at = 16 + 8 * self.records as usize;
+            self.bytes[at..at + 8].copy_from_slice(&[lower, higher, 249, 7, next, 0, 0, 0]);
+        }
+        self
+    }
 }
 
-// Twelve scanners, edition 2, the first record, eight slots each.
-fn headed() -> Full {
-    let mut o = Full {
-        bytes: [0u8; 552],
-        records: 0,
-    };
-    o = with_byte(with_byte(with_byte(o, 0, 12), 1, 2), 2, 1);
-    o = with_byte(o, 4, 66);
-    for i in 8..20 {
-        o = with_byte(o, i, 8);
-    }
-    o
-}
-
-// One record more: gaps -7 to 7 of two scanners; the last one leads nowhere.
-fn with_record(l: Full, lower: u8, higher: u8) -> Full {
-    if 66 <= l.records {
-        return l;
-    }
-    let r = l.records + 1;
-    let at = 16 + 8 * r as usize;
-    let mut o = with_byte(with_byte(l, at, lower), at + 1, higher);
-    o = with_byte(with_byte(o, at + 2, 249), at + 3, 7);
-    if r < 66 {
-        o = with_byte(o, at + 4, r + 1);
-    }
-    o.records = r;
-    o
-}
-
-// Of one scanner with each below it.
-fn with_lower(l: Full, lower: u8) -> Full {
-    let mut o = l;
-    for higher in 2..13 {
-        if lower < higher {
-            o = with_record(o, lower, higher);
+pub fn all_gaps() -> [u8; 552] {
+    let mut full = Full::new();
+    for lower in 1..12 {
+        for higher in lower + 1..=12 {
+            full = full.with_record(lower, higher);
         }
     }
-    o
-}
-
-pub fn all_gaps() -> Full {
-    let mut o = headed();
-    for lower in 1..12 {
-        o = with_lower(o, lower);
-    }
-    o
+    full.bytes
 }

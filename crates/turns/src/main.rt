@@ -4,48 +4,46 @@
 // stands how many of each kind there are.
 #![tactic(auto)]
 
+ghost use Rattle.lent.specs.Abstract.{InBuffer};
+
 mod comparing;
 mod full;
 mod tallies;
 
 use comparing::{alike, unmixed};
 use full::all_gaps;
-use lent::Written;
 use little_sheet::little;
 use oracle::buffers::{MARK, untouched};
 use oracle::reading::{byte, fault};
 use random_rails::drafts::drawn;
 use random_rails::draws::next;
-use tallies::{
-    BANS, GAPS, LITTLE_GAPS, LITTLE_MIXED, LONG, MIXED, REFUSED, Tally, blank, judged, report,
-};
+use refusals::Refusal;
+use tallies::{Kind, Tally};
 use turning::{to_bans, to_gaps};
 
 // The longest sheet has so many bytes.
 const LONGEST: usize = 33816;
 
 // Into the edition that s does not have, or into gaps where it has neither.
-fn turn(s: &[u8], out: &mut [u8]) -> Written {
+fn turn(s: &[u8], out: &mut [u8]) -> Result<usize, Refusal>
+    ensures { InBuffer result out.new }
+{
     if byte(s, 1) == 2 {
-        return to_bans(s, out);
+        to_bans(s, out)
+    } else {
+        to_gaps(s, out)
     }
-    to_gaps(s, out)
 }
 
 // Into the edition that it has.
-fn turn_wrongly(s: &[u8], out: &mut [u8]) -> Written {
+fn turn_wrongly(s: &[u8], out: &mut [u8]) -> Result<usize, Refusal>
+    ensures { InBuffer result out.new }
+{
     if byte(s, 1) == 2 {
-        return to_gaps(s, out);
+        to_gaps(s, out)
+    } else {
+        to_bans(s, out)
     }
-    to_bans(s, out)
-}
-
-// The first n bytes, or all where there are not so many.
-fn start_of<'a>(s: &'a [u8], n: usize) -> &'a [u8] {
-    if n <= s.len() {
-        return &s[..n];
-    }
-    s
 }
 
 // ---- what was written
@@ -53,24 +51,27 @@ fn start_of<'a>(s: &'a [u8], n: usize) -> &'a [u8] {
 // Turning s gives the bytes of t, and leaves those behind them.
 fn gives(s: &[u8], t: &[u8]) -> bool {
     let mut buffer = [MARK; LONGEST];
-    let w = turn(s, &mut buffer);
-    w.number == 0 && untouched(&buffer, w.length) && check::same(start_of(&buffer, w.length), t)
+    match turn(s, &mut buffer) {
+        Ok(n) => untouched(&buffer, n) && &buffer[..n] == t,
+        Err(_) => false,
+    }
 }
 
 // The sheet t turned back says the same, and forth again is t.
 fn comes_back(t: &[u8]) -> bool {
     let mut buffer = [MARK; LONGEST];
-    let w = turn(t, &mut buffer);
-    let u = start_of(&buffer, w.length);
-    w.number == 0 && fault(u) == 0 && alike(t, u) && gives(u, t)
+    match turn(t, &mut buffer) {
+        Ok(n) => {
+            let u = &buffer[..n];
+            fault(u) == 0 && alike(t, u) && gives(u, t)
+        }
+        Err(_) => false,
+    }
 }
 
 // Turning s into one byte less than n is refused with 12.
 fn short_refused(s: &[u8], n: usize) -> bool {
-    if n == 0 {
-        return false;
-    }
-    is_refused(s, n - 1, 12)
+    0 < n && is_refused(s, n - 1, Refusal::ShortBuffer.number())
 }
 
 // s was turned into t.
@@ -84,119 +85,126 @@ fn is_right(s: &[u8], t: &[u8]) -> bool {
 
 // ---- what was refused
 
-// Turning s is refused with this number, and leaves the buffer.
-fn refused_into(s: &[u8], out: &mut [u8], number: u8) -> bool {
-    let w = turn(s, out);
-    w.number == number && w.length == 0 && untouched(out, 0)
+// This is a refusal with this number, and the buffer is as it was.
+fn is_left(turned: Result<usize, Refusal>, out: &[u8], number: u8) -> bool {
+    matches!(turned, Err(refusal) if refusal.number() == number) && untouched(out, 0)
 }
 
-// The buffer has n bytes.
+// Turning s is refused with this number, in a buffer of n bytes.
 fn is_refused(s: &[u8], n: usize, number: u8) -> bool {
     let mut buffer = [MARK; LONGEST];
     if LONGEST < n {
         return false;
     }
-    refused_into(s, &mut buffer[..n], number)
+    let out = &mut buffer[..n];
+    is_left(turn(s, out), out, number)
 }
 
 // It is not sayable in gaps, and that comes before a short buffer.
 fn is_mixed(s: &[u8]) -> bool {
-    byte(s, 1) == 1 && !unmixed(s) && is_refused(s, LONGEST, 15) && is_refused(s, 0, 15)
+    let number = Refusal::NotSayable.number();
+    byte(s, 1) == 1 && !unmixed(s) && is_refused(s, LONGEST, number) && is_refused(s, 0, number)
 }
 
 // Turning s into its own edition is refused with 2, behind a length under 24.
 fn own_refused(s: &[u8]) -> bool {
     let mut buffer = [MARK; LONGEST];
-    let w = turn_wrongly(s, &mut buffer);
-    let number = if s.len() < 24 { 1 } else { 2 };
-    w.number == number && w.length == 0 && untouched(&buffer, 0)
+    let refusal = if s.len() < 24 {
+        Refusal::BadLength
+    } else {
+        Refusal::BadHeader
+    };
+    is_left(turn_wrongly(s, &mut buffer), &buffer, refusal.number())
 }
 
 // ---- sheets tried
 
 // A little sheet; where it is turned, it comes back as it was.
-fn with_little(t: Tally, ordinal: u64) -> Tally {
+fn with_little(tally: Tally, ordinal: u64) -> Tally {
     let mut given = [MARK; 136];
-    let m = little(ordinal, &mut given).length;
-    let s = start_of(&given, m);
+    let Ok(m) = little(ordinal, &mut given) else {
+        return tally.judged(Kind::LittleGaps, false, b"little, none", ordinal);
+    };
+    let s = &given[..m];
     let mut buffer = [MARK; LONGEST];
-    let w = turn(s, &mut buffer);
-    if w.number == 15 {
-        return judged(t, LITTLE_MIXED, is_mixed(s), b"little, refused", ordinal);
+    match turn(s, &mut buffer) {
+        Ok(n) => {
+            let u = &buffer[..n];
+            let right = unmixed(s) && is_right(s, u) && gives(u, s);
+            tally.judged(Kind::LittleGaps, right, b"little, turned", ordinal)
+        }
+        Err(Refusal::NotSayable) => {
+            tally.judged(Kind::LittleMixed, is_mixed(s), b"little, refused", ordinal)
+        }
+        Err(_) => tally.judged(Kind::LittleGaps, false, b"little, turned", ordinal),
     }
-    let u = start_of(&buffer, w.length);
-    let right = w.number == 0 && unmixed(s) && is_right(s, u) && gives(u, s);
-    judged(t, LITTLE_GAPS, right, b"little, turned", ordinal)
 }
 
 // A sheet that is good.
-fn with_good(t: Tally, s: &[u8], tried: u64) -> Tally {
+fn with_good(tally: Tally, s: &[u8], tried: u64) -> Tally {
     let mut buffer = [MARK; LONGEST];
-    let w = turn(s, &mut buffer);
-    if w.number == 15 {
-        return judged(t, MIXED, is_mixed(s), b"random, refused with 15", tried);
+    let kind = if byte(s, 1) == 2 {
+        Kind::Bans
+    } else {
+        Kind::Gaps
+    };
+    match turn(s, &mut buffer) {
+        Ok(n) => {
+            let right = unmixed(s) && is_right(s, &buffer[..n]);
+            tally.judged(kind, right, b"random, turned", tried)
+        }
+        Err(Refusal::NotSayable) => {
+            tally.judged(Kind::Mixed, is_mixed(s), b"random, refused with 15", tried)
+        }
+        Err(_) => tally.judged(kind, false, b"random, turned", tried),
     }
-    let kind = if byte(s, 1) == 2 { BANS } else { GAPS };
-    let right = w.number == 0 && unmixed(s) && is_right(s, start_of(&buffer, w.length));
-    judged(t, kind, right, b"random, turned", tried)
 }
 
-fn with_sheet(t: Tally, s: &[u8], tried: u64) -> Tally {
+fn with_sheet(tally: Tally, s: &[u8], tried: u64) -> Tally {
     if !own_refused(s) {
-        return judged(t, REFUSED, false, b"its own edition", tried);
+        return tally.judged(Kind::Refused, false, b"its own edition", tried);
     }
-    let number = fault(s);
-    if number == 0 {
-        return with_good(t, s, tried);
+    match fault(s) {
+        0 => with_good(tally, s, tried),
+        number => {
+            let right = is_refused(s, LONGEST, number);
+            tally.judged(Kind::Refused, right, b"random, refused", tried)
+        }
     }
-    judged(
-        t,
-        REFUSED,
-        is_refused(s, LONGEST, number),
-        b"random, refused",
-        tried,
-    )
 }
 
-fn with_drawn(t: Tally, state: u64) -> Tally {
+fn with_drawn(tally: Tally, state: u64) -> Tally {
     let d = drawn(state);
     let bytes = d.bytes;
-    with_sheet(t, start_of(&bytes, d.length), state)
+    with_sheet(tally, bytes.get(..d.length).unwrap_or(&bytes), state)
 }
 
 // Every gap between twelve scanners: 4,224 records, the most there can be.
-fn with_longest(t: Tally) -> Tally {
-    let l = all_gaps();
-    let bytes = l.bytes;
+fn with_longest(tally: Tally) -> Tally {
+    let bytes = all_gaps();
     let mut buffer = [MARK; LONGEST];
-    let w = to_bans(&bytes, &mut buffer);
-    let right = w.number == 0
-        && w.length == LONGEST
+    let right = to_bans(&bytes, &mut buffer) == Ok(LONGEST)
         && is_right(&bytes, &buffer)
         && gives(&buffer, &bytes);
-    judged(t, LONG, right, b"the longest", 0)
+    tally.judged(Kind::Long, right, b"the longest", 0)
 }
 
-fn with_littles(tally: Tally) -> Tally {
-    let mut t = tally;
+fn with_littles(mut tally: Tally) -> Tally {
     for ordinal in 0..4996 {
-        t = with_little(t, ordinal);
+        tally = with_little(tally, ordinal);
     }
-    t
+    tally
 }
 
-fn with_randoms(tally: Tally) -> Tally {
-    let mut t = tally;
-    let mut state: u64 = 2026;
-    let mut left: usize = 10000;
-    while 0 < left {
-        t = with_drawn(t, state);
+fn with_randoms(mut tally: Tally) -> Tally {
+    let mut state = 2026;
+    for _ in 0..10000 {
+        tally = with_drawn(tally, state);
         state = next(state);
-        left -= 1;
     }
-    t
+    tally
 }
 
 fn main() {
-    report(with_randoms(with_littles(with_longest(blank()))));
+    with_randoms(with_littles(with_longest(Tally::new()))).report();
 }

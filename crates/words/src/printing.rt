@@ -1,12 +1,14 @@
 // Printing, on standard output.
-ghost use Rattle.std.specs.Prelude.{◌≡◌, true, false};
+ghost use Rattle.std.specs.Prelude.{◌≡◌, false};
+ghost use Rattle.words.specs.Printing.{StaysFailed};
 
 use crate::word_for;
 use engine::Ending;
 use text::append_number;
 use tool::written;
 
-// Standard output, and whether something could not be written there.
+// Standard output, and whether something could not be written there. It is handed on from part to part, so that a line reads as it is printed. A `Result`
+// from each part would be no plainer: a `?` behind each word of a line, and one more from each function that prints.
 #[derive(Clone, Copy)]
 pub struct Out {
     pub failed: bool,
@@ -21,18 +23,15 @@ impl Out {
 
     // What could not be written is said once: nothing more is written then.
     pub fn put(self, s: &[u8]) -> Out
-        ensures { self.failed ≡ true → result.failed ≡ true }
+        ensures { StaysFailed self result }
     {
-        if self.failed {
-            return self;
-        }
         Out {
-            failed: !written(s),
+            failed: self.failed || !written(s),
         }
     }
 
     pub fn number(self, n: u64) -> Out
-        ensures { self.failed ≡ true → result.failed ≡ true }
+        ensures { StaysFailed self result }
     {
         let mut text = [0u8; 20];
         let k = append_number(&mut text, 0, n);
@@ -41,14 +40,14 @@ impl Out {
 
     // A line: what stands before the number, and the number.
     pub fn line(self, before: &[u8], n: u64) -> Out
-        ensures { self.failed ≡ true → result.failed ≡ true }
+        ensures { StaysFailed self result }
     {
         self.put(before).number(n).put(b"\n")
     }
 
     // A byte in two hexadecimal digits, behind a blank.
     pub fn byte(self, b: u8) -> Out
-        ensures { self.failed ≡ true → result.failed ≡ true }
+        ensures { StaysFailed self result }
     {
         let mut text = [0u8; 16];
         let k = io::hex(b as u64, 2, &mut text);
@@ -57,11 +56,8 @@ impl Out {
 
     // The word for how a run ended.
     pub fn ending(self, e: Ending) -> Out
-        ensures { self.failed ≡ true → result.failed ≡ true }
+        ensures { StaysFailed self result }
     {
-        let w = word_for(e);
-        let letters = w.letters;
-        let n = w.length;
-        self.put(&letters[..n])
+        self.put(word_for(e))
     }
 }

@@ -7,7 +7,7 @@ use cases::lines::{Numbers, small};
 use cases::sheets::Sheet;
 use engine::Ending;
 use network::Network;
-use start::Started;
+use refusals::Refusal;
 use words::printing::Out;
 
 // What a line finds: a number, whether all else is as the line says, and the rail after it.
@@ -29,32 +29,28 @@ fn rule_at(n: Numbers, k: usize) -> u8
 }
 
 // The start, under a rule, of the sheet that is the first n bytes.
-fn start_on(rule: u8, bytes: &[u8], n: usize) -> Started {
+fn start_on(rule: u8, bytes: &[u8], n: usize) -> Result<Network, Refusal> {
     if n <= bytes.len() {
         return start::start(rule, &bytes[..n]);
     }
     start::start(rule, bytes)
 }
 
-// An accepted sheet gives a rail that holds the rule, a refused one, or a refused rule, the empty rail.
+// An accepted sheet gives a rail that holds the rule; a refused one, or a refused rule, leaves the empty rail.
 fn started(out: Out, rule: u8, s: Sheet) -> Found {
-    let bytes = s.bytes;
-    let answer = start_on(rule, &bytes, s.length);
-    let rail = answer.network;
-    let number = answer.number;
-    if number == 0 {
-        return Found {
+    match start_on(rule, &s.bytes, s.length) {
+        Ok(rail) => Found {
             rail,
             number: 0,
             right: rail.rule == rule,
             out,
-        };
-    }
-    Found {
-        rail,
-        number: number as u64,
-        right: same_rail(rail, network::empty()),
-        out,
+        },
+        Err(refusal) => Found {
+            rail: network::empty(),
+            number: u64::from(refusal.number()),
+            right: true,
+            out,
+        },
     }
 }
 
@@ -73,18 +69,16 @@ fn initial(e: Ending) -> u8 {
 
 // The line names the word, behind `run`.
 fn ended(e: Ending, line: &[u8]) -> bool {
-    if 4 < line.len() {
-        return line[4] == initial(e);
-    }
-    false
+    4 < line.len() && line[4] == initial(e)
 }
 
 // Where the line names another word, the one that came is printed.
 fn put_word(o: Out, e: Ending, right: bool) -> Out {
     if right {
-        return o;
+        o
+    } else {
+        o.put(b"the run's word is ").ending(e).put(b"\n")
     }
-    o.put(b"the run's word is ").ending(e).put(b"\n")
 }
 
 // The rounds that a line allows: its second number, or 100,000.
@@ -94,23 +88,23 @@ fn allowed(n: Numbers) -> u64 {
 
 fn ran(o: Out, rail: Network, n: Numbers, line: &[u8]) -> Found {
     let answer = run::run(rail, allowed(n));
-    let after = answer.network;
-    let ending = answer.ending;
-    let right = ended(ending, line);
+    let right = ended(answer.ending, line);
     Found {
-        rail: after,
+        rail: answer.network,
         number: answer.rounds,
         right,
-        out: put_word(o, ending, right),
+        out: put_word(o, answer.ending, right),
     }
 }
 
 fn delivered(out: Out, rail: Network, n: Numbers) -> Found {
     let answer = run::deliver(rail, small(n, 0), small(n, 1));
-    let after = answer.network;
     Found {
-        rail: after,
-        number: answer.number as u64,
+        rail: answer.network,
+        number: match answer.refusal {
+            Some(refusal) => u64::from(refusal.number()),
+            None => 0,
+        },
         right: true,
         out,
     }
@@ -122,19 +116,17 @@ fn delivered(out: Out, rail: Network, n: Numbers) -> Found {
 fn slot_right(rail: Network, n: Numbers, k: usize) -> bool
     requires { k < 12 }
 {
-    let a = network::value(rail, k as u8 + 1);
-    if k < n.count {
-        return a.number == 0 && a.value as u64 == n.values[k];
+    match network::value(rail, k as u8 + 1) {
+        Ok(slot) => k < n.count && u64::from(slot) == n.values[k],
+        Err(refusal) => n.count <= k && refusal == Refusal::BadNumbers,
     }
-    a.number == 6 && a.value == 0
 }
 
 // The last slot that scanner k + 1 took is the one that the line gives; 0 where there is no such scanner.
 fn last_right(rail: Network, n: Numbers, k: usize) -> bool
     requires { k < 12 }
 {
-    let a = rail.agents[k];
-    a.last as u64 == n.values[k]
+    u64::from(rail.agents[k].last) == n.values[k]
 }
 
 // The slot or the last slot of scanner k + 1, as the kind of the line says.
@@ -142,9 +134,10 @@ fn given_right(rail: Network, kind: usize, n: Numbers, k: usize) -> bool
     requires { k < 12 }
 {
     if kind == LAST {
-        return last_right(rail, n, k);
+        last_right(rail, n, k)
+    } else {
+        slot_right(rail, n, k)
     }
-    slot_right(rail, n, k)
 }
 
 // The first scanner for which the line is not right, and 0 where it is for all.
@@ -182,11 +175,9 @@ fn news_right(rail: Network, kind: usize, n: Numbers) -> bool {
 
 fn looked(rail: Network, kept: Network, kind: usize, n: Numbers) -> u64 {
     match kind {
-        TAKEN => first_wrong(rail, kind, n),
-        LAST => first_wrong(rail, kind, n),
+        TAKEN | LAST => first_wrong(rail, kind, n),
         LINE => waiting(rail, n),
-        SAME => same_rail(rail, kept) as u64,
-        DIFFERS => same_rail(rail, kept) as u64,
+        SAME | DIFFERS => u64::from(same_rail(rail, kept)),
         _ => 0,
     }
 }

@@ -1,17 +1,14 @@
 -- The fault's number, or a word of the table that the sheet is decoded to.
-use native.Mathlib.Omega.{arith}
-use Rattle.sheet.specs.Abstract.{problem_of, outcome_of}
+use mathlib.Core.Path.{◌∙◌}
+use borrow.Author.Rules.{rules}
 use Rattle.bench_entry.proofs.Giving.{fault-given, word-given, no-word-given}
 use Rattle.bench_entry.proofs.bench_entry_decode.Goals as goal
 
-pub returns-then-d-ne0 : goal.returns-then-d-ne0
-unfolding outcome_of
-returns-then-d-ne0 c = fault-given _ (outcome_of c.decode-d.result) c.decode-d.ensures.0 _ c.if-d-ne0.true
-
 pub returns-then-word-lt66 : goal.returns-then-word-lt66
-unfolding outcome_of problem_of
-returns-then-word-lt66 c = word-given _ (outcome_of c.decode-d.result) c.decode-d.ensures.0 _ c.if-d-ne0.false
+returns-then-word-lt66 c = word-given _ _ c.in-Ok.problem c.in-Ok.ensures
 
-pub returns : goal.returns
-unfolding outcome_of problem_of
-returns c = no-word-given _ (outcome_of c.decode-d.result) c.decode-d.ensures.0 _ c.if-d-ne0.false (omega (arith, c.decode-d.ensures.1.bans, c.if-word-lt66.false))
+pub returns-else-word-lt66 : goal.returns-else-word-lt66
+returns-else-word-lt66 c = no-word-given _ _ c.in-Ok.problem c.in-Ok.ensures (search rules)
+
+pub returns-in-Err : goal.returns-in-Err
+returns-in-Err c = c.from.ensures ∙ c.number.ensures ∙ fault-given _ _ c.in-Err.refusal c.in-Err.ensures

@@ -1,12 +1,8 @@
 -- All calls, and then value by value.
-use Prim.Native.Nat.{◌-◌, ◌≤◌}
 use mathlib.Core.Path.{◌≡◌}
 use Rattle.network.specs.Abstract.{network_of}
 use Rattle.bench_entry.specs.Giving.{asked_to}
 use Rattle.bench_entry.proofs.bench_entry_deliver.Given as goal
 
 abbrev pub invariant-loop-i : goal.invariant-loop-i
-invariant-loop-i l = (l.i ≤ 13) × (l.sum ≡ asked_to l.i (network_of l.network) l.initial.sum)
-
-abbrev pub decreases-loop-i : goal.decreases-loop-i
-decreases-loop-i l = 13 - l.i
+invariant-loop-i l = l.sum ≡ asked_to l.i (network_of l.network) l.initial.sum

@@ -1,25 +1,24 @@
 -- Agent by agent, the number so far is the definition's.
-use mathlib.Core.Path.{◌≡◌, ◌∙◌}
+use mathlib.Core.Path.{◌≡◌, refl, ◌∙◌}
 use native.Mathlib.Omega.{arith}
 use native.Mathlib.Numerals.{add-one}
 use lib.ListN.{length}
-use Rattle.packed.proofs.Masks.{byte-lt}
-use Rattle.bench_entry.proofs.Images.{none_read, one-read, all_read}
 use borrow.Author.Rules.{rules}
+use Rattle.bench_entry.proofs.Images.{loaded-network, loaded-number, none_read, one-read, all_read}
 use Rattle.bench_entry.proofs.bench_entry_read.Goals as goal
 
-pub overflow_add-sum : goal.overflow_add-sum
-overflow_add-sum c = omega (arith, byte-lt c.load-loaded.result.network.verdict)
+pub loop-agent-init : goal.loop-agent-init
+loop-agent-init c = λ r e z. z
 
-pub loop-k-init : goal.loop-k-init
-loop-k-init c = (omega arith, none_read _)
-
-pub loop-k-preserved : goal.loop-k-preserved
-loop-k-preserved c =
-    let n : length c.load-loaded.result.network.agents ≡ 12 = search rules in
-    (omega arith, rw add-one (c.agent_mixed-sum.ensures ∙ one-read _ _ _ _ (omega arith) c.loop-k.invariant.1))
+pub loop-agent-preserved : goal.loop-agent-preserved
+loop-agent-preserved c =
+    λ r e z. let n : length c.answered-number.result.0.agents ≡ 12 = search rules in
+    rw add-one (c.agent_mixed-sum.ensures ∙ one-read r _ _ _ _ e (omega arith) (c.loop-agent.invariant r e z))
 
 pub returns : goal.returns
 returns c =
-    let e : c.loop-k.k ≡ 12 = omega arith in
-    all_read _ _ _ _ c.load-loaded.ensures.number_value.0 c.load-loaded.ensures.number_value.1 (rw e at c.loop-k.invariant.1)
+    let r = c.answered-number.result.0 in
+    let e : c.loop-agent.agent-index ≡ 12 = omega arith in
+    rw c.from-4.ensures
+    (all_read _ r _ _ (c.answered-number.ensures.1 ∙ loaded-number _ _ c.load.ensures) (c.answered-number.ensures.0 ∙ loaded-network _ _ c.load.ensures)
+    (rw e at (c.loop-agent.invariant r refl (rw (c.from.ensures, c.from-2.ensures, c.from-3.ensures) (none_read r)))))

@@ -1,12 +1,8 @@
--- Agent by agent, the number so far is the definition's; what is made of it at the end fits a word.
-use Prim.Native.Nat.{◌-◌, ◌≤◌}
+-- Agent by agent, the number so far is the definition's.
 use mathlib.Core.Path.{◌≡◌}
 use Rattle.network.specs.Abstract.{network_of}
 use Rattle.bench_entry.specs.Giving.{values_to}
 use Rattle.bench_entry.proofs.bench_entry_settle.Given as goal
 
-abbrev pub invariant-loop-k : goal.invariant-loop-k
-invariant-loop-k l = (l.k ≤ 12) × (l.values ≡ values_to l.k (network_of l.ran.network))
-
-abbrev pub decreases-loop-k : goal.decreases-loop-k
-decreases-loop-k l = 12 - l.k
+abbrev pub invariant-loop-agent : goal.invariant-loop-agent
+invariant-loop-agent l = l.values ≡ values_to l.agent-index (network_of l.ran.network)

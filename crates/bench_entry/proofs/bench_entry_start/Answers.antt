@@ -1,16 +1,15 @@
 -- The refusal's number, or the sender's row less what is no channel's.
-use mathlib.Core.Path.{sym, ◌∙◌}
+use mathlib.Core.Path.{◌∙◌}
 use native.Mathlib.Numerals.{add-one}
-use Rattle.bench_entry.proofs.Giving.{row-given, row-held, none-held}
+use Rattle.bench_entry.proofs.Giving.{refused-start, row-given, row-held, none-held}
 use Rattle.bench_entry.proofs.bench_entry_start.Goals as goal
 
-pub returns-then-started-ne0 : goal.returns-then-started-ne0
-returns-then-started-ne0 c = record { refused = λ _. c.start-started.ensures.number; waits = λ z. absurd (c.if-started-ne0.true (c.start-started.ensures.number ∙ z)) }
+pub returns-in-Ok : goal.returns-in-Ok
+returns-in-Ok c =
+    row-given _ _ c.in-Ok.network _ c.in-Ok.ensures _ (λ j. rw add-one at (c.lines_of.ensures j) ∙ row-held _ _ j)
 
-pub returns-then-sender-lt12 : goal.returns-then-sender-lt12
-returns-then-sender-lt12 c =
-    row-given _ _ _ _ (sym c.start-started.ensures.number ∙ c.if-started-ne0.false) c.start-started.ensures.network _
-    (λ j. rw add-one at (c.lines_of.ensures j) ∙ row-held _ _ j)
+pub returns-in-Ok-2 : goal.returns-in-Ok-2
+returns-in-Ok-2 c = row-given _ _ c.in-Ok-2.field-0 _ c.in-Ok-2.ensures _ (λ j. none-held _ _ j c.if-sender-lt12.false)
 
-pub returns : goal.returns
-returns c = row-given _ _ _ _ (sym c.start-started.ensures.number ∙ c.if-started-ne0.false) c.start-started.ensures.network _ (λ j. none-held _ _ j c.if-sender-lt12.false)
+pub returns-in-Err : goal.returns-in-Err
+returns-in-Err c = rw (c.from.ensures, c.number.ensures) (refused-start _ _ _ c.in-Err.refusal c.in-Err.ensures)

@@ -1,19 +1,29 @@
--- The start's contract, for the whole input, and a dispatcher that begins with its network. Assumes nothing.
+-- The start's contract, for the whole input, and a dispatcher that begins with its network.
 use mathlib.Core.Path.{◌≡◌, sym, ap, ◌∙◌}
+use mathlib.Core.List.{List}
+use Prim.Native.Nat.{ℕ}
+use Rattle.std.specs.Prelude.{Result}
+use Rattle.refusals.specs.declared.Refusal.{Refusal}
 use Rattle.protocol.specs.Network.{Started, start_sheet}
 use Rattle.dispatch_rules.specs.Dispatch.{dispatcher}
+use Rattle.dispatch.specs.declared.Dispatcher.{Dispatcher}
 use Rattle.dock_text.proofs.Cut.{start-cut}
+use Rattle.board_text.specs.Calling.{begun_number, begun_of, BeginsAs}
 use Rattle.board_text.proofs.begin.Goals as goal
 
-pub returns : goal.returns
-returns c =
+begins : (rule : ℕ) (sheet : List ℕ) (b : Result Dispatcher Refusal) → begun_number b ≡ (start_sheet rule sheet).number
+    → begun_of b ≡ dispatcher (start_sheet rule sheet).network → BeginsAs rule sheet b
+begins rule sheet b n d =
     record {
-      numbered = c.start-started.ensures.number;
-      started = c.begin.ensures ∙ ap dispatcher c.start-started.ensures.network;
+      numbered = n;
+      started = d;
       whole = λ input h.
-          let rule = c.args.rule in
-          let s : start_sheet rule _ ≡ start_sheet rule input = ap (start_sheet rule) (sym h) ∙ start-cut rule input in (
-            c.start-started.ensures.number ∙ ap (λ (x : Started). x.number) s,
-            c.begin.ensures ∙ ap dispatcher (c.start-started.ensures.network ∙ ap (λ (x : Started). x.network) s),
-          );
+          let s : start_sheet rule sheet ≡ start_sheet rule input = ap (start_sheet rule) (sym h) ∙ start-cut rule input in
+          (n ∙ ap (λ (x : Started). x.number) s, d ∙ ap (λ (x : Started). dispatcher x.network) s);
     }
+
+pub returns-in-Ok : goal.returns-in-Ok
+returns-in-Ok c = let s = c.in-Ok.ensures in begins _ _ _ s.number (c.begin.ensures ∙ ap dispatcher s.network)
+
+pub returns-in-Err : goal.returns-in-Err
+returns-in-Err c = let s = c.in-Err.ensures in begins _ _ _ s.number (ap dispatcher s.network)

@@ -5,7 +5,7 @@ use mathlib.Core.Path.{◌≡◌, sym, ◌∙◌}
 use mathlib.Core.Logic.{◌≢◌}
 use mathlib.Core.Option.{none, some}
 use native.Mathlib.Omega.{arith}
-use lib.Count.{count_trailing_zeros, trailing_le, leading_le}
+use lib.Count.{count_trailing_zeros}
 use Rattle.base.specs.Finite.{lowest}
 use Rattle.packed.proofs.Masks.{mask-lowest, mask-none}
 use Rattle.packed.specs.Packed.{mask_from}
@@ -26,45 +26,30 @@ none_free : (own : Own) (stored : ℕ) (bars : Bars) (mask : ℕ) → mask ≡ m
     → lowest own.domain 1 (left_free stored bars) ≡ none
 none_free own stored bars mask e z = mask-none _ 1 _ (sym e ∙ z)
 
--- at either end of a byte there are at most eight zeros; which end it must be is the law of the mask
-pub overflow_cast-tried : goal.overflow_cast-tried
-overflow_cast-tried c = record { fits = omega (arith, trailing_le 8 c.free-mask.result, leading_le 8 c.free-mask.result) }
-
-pub overflow_add-value : goal.overflow_add-value
-overflow_add-value c = record { fits = omega (arith, trailing_le 8 c.free-mask.result, leading_le 8 c.free-mask.result) }
-
-pub give_reasons-t-requires : goal.give_reasons-t-requires
-give_reasons-t-requires c =
-    let t : (c.if-mask-ne0.tried ≤ c.args.own.domain) × Barred c.args.stored c.args.bars c.if-mask-ne0.tried =
+pub give_reasons-stored-requires-clause-none_free :
+    goal.give_reasons-stored-requires-clause-none_free
+give_reasons-stored-requires-clause-none_free c =
+    let t : (c.if-mask-ne0.tried.0 ≤ c.args.own.domain) × Barred c.args.stored c.args.bars c.if-mask-ne0.tried.0 =
     elim c.if-mask-ne0.branch [
       | then-mask-ne0 u ↦
-          rw u.tried-is
-          (let t = tried-below _ _ _ _ (lowest-free c.args.own c.args.stored c.args.bars _ c.requires.own_fits c.free-mask.ensures u.if-mask-ne0.true) in
-          (omega (arith, t.0), t.1))
+          let below = tried-below _ _ _ _ (lowest-free c.args.own c.args.stored c.args.bars _ c.requires.own_fits c.free-mask.ensures u.if-mask-ne0.true) in
+          rw u.tried-is (omega (arith, below.0), below.1)
       | else-mask-ne0 u ↦
           rw u.tried-is
           (omega arith, tried-all _ _ _ (none_free c.args.own c.args.stored c.args.bars _ c.free-mask.ensures u.if-mask-ne0.false))
     ] in
-    record { own_fits = c.requires.own_fits; nogoods_len = (c.requires.nogoods_len.0, t.0, t.1); coherent = c.requires.nogoods_len.1 }
+    (c.requires.coherent.0, t.0, t.1)
 
-pub returns : goal.returns
-returns c =
-    let g = c.give_reasons-t.ensures.nogoods_len_2.1 in
-    record {
-      nogoods_len_2 = (
-        c.give_reasons-t.ensures.nogoods_len_2.0,
-        elim c.if-mask-ne0.branch [
-          | then-mask-ne0 u ↦
-              let e = lowest-free c.args.own c.args.stored c.args.bars _ c.requires.own_fits c.free-mask.ensures u.if-mask-ne0.true in
-              rw u.value-is
-              (chose-some c.args.own _ c.args.bars c.args.stored c.args.nogoods.now _ _ c.requires.own_fits (rw u.tried-is at g)
-              (tried-below _ _ _ _ e).0 (next-free _ _ _ _ e))
-          | else-mask-ne0 u ↦ rw u.value-is (chose_none c.args.own _ c.args.bars _ _ (rw u.tried-is at g))
-        ],
-      );
-      whole_value = λ z.
-          elim c.if-mask-ne0.branch [
-            | then-mask-ne0 u ↦ absurd (omega (arith, z, u.value-is))
-            | else-mask-ne0 u ↦ rw u.tried-is at c.give_reasons-t.ensures.whole_value
-          ];
-    }
+pub returns-clause-chose : goal.returns-clause-chose
+returns-clause-chose c =
+    let g = c.give_reasons-stored.ensures.reasoned in (
+      g.0,
+      elim c.if-mask-ne0.branch [
+        | then-mask-ne0 u ↦
+            let e = lowest-free c.args.own c.args.stored c.args.bars _ c.requires.own_fits c.free-mask.ensures u.if-mask-ne0.true in
+            rw u.tried-is
+            (chose-some c.args.own _ c.args.bars c.args.stored c.args.nogoods.now _ _ c.requires.own_fits (rw u.tried-is at g.1)
+            (tried-below _ _ _ _ e).0 (next-free _ _ _ _ e))
+        | else-mask-ne0 u ↦ rw u.tried-is (chose_none c.args.own _ c.args.bars _ _ (rw u.tried-is at g.1))
+      ],
+    )

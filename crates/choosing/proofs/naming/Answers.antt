@@ -11,24 +11,22 @@ use Rattle.choosing.proofs.naming.Goals as goal
 use Rattle.choosing.proofs.naming.Goals.{else-rest-eq1, then-rest-eq1}
 
 pub loop-i-init : goal.loop-i-init
-loop-i-init c = (omega arith, overlaid-none c.args.stored c.args.nogoods.now, sym (div-one _))
+loop-i-init c = (overlaid-none c.args.stored c.args.nogoods.now, sym (div-one _))
 
 pub loop-i-preserved : goal.loop-i-preserved
 loop-i-preserved c =
     let loop = c.loop-i in
-    let halved : loop.rest / 2 ≡ c.args.stored / 2 ^ (loop.i + 1) = rw (loop.invariant.2, add-one loop.i, half c.args.stored loop.i) in
+    let halved : loop.rest / 2 ≡ c.args.stored / 2 ^ (loop.i + 1) = rw (loop.invariant.1, add-one loop.i, half c.args.stored loop.i) in
     elim c.if-rest-eq1.branch [
       | then-rest-eq1 u ↦ rw u.all-is (
-        omega arith,
-        rw (add-one loop.i) (overlaid-stored c.args.stored c.args.nogoods.now loop.i loop.all (rw loop.invariant.2 at u.if-rest-eq1.true) loop.invariant.1),
+        rw (add-one loop.i) (overlaid-stored c.args.stored c.args.nogoods.now loop.i loop.all (rw loop.invariant.1 at u.if-rest-eq1.true) loop.invariant.0),
         halved,
       )
       | else-rest-eq1 u ↦ rw u.all-is (
-        omega arith,
-        rw (add-one loop.i) (overlaid-other c.args.stored c.args.nogoods.now loop.i loop.all (rw loop.invariant.2 at u.if-rest-eq1.false) loop.invariant.1),
+        rw (add-one loop.i) (overlaid-other c.args.stored c.args.nogoods.now loop.i loop.all (rw loop.invariant.1 at u.if-rest-eq1.false) loop.invariant.0),
         halved,
       )
     ]
 
 pub returns : goal.returns
-returns c = let e : c.loop-i.i ≡ c.args.domain = omega arith in rw e at c.loop-i.invariant.1
+returns c = let e : c.loop-i.i ≡ c.args.domain = omega arith in rw e at c.loop-i.invariant.0

@@ -1,13 +1,7 @@
 -- `sparing` is the mask of the nogoods that do not name an agent.
--- From the highest own value down. The invariant: the mask of the values above i.
-use Prim.Native.Nat.{suc, ◌-◌, ◌≤◌}
-use mathlib.Core.Path.{◌≡◌}
-use Rattle.packed.specs.Packed.{mask_from}
-use Rattle.choosing.proofs.Spared.{spares}
+-- From the highest own value down. The invariant: the values above those that are left have their bits.
+use Rattle.choosing.proofs.Spared.{Sparing}
 use Rattle.choosing.proofs.sparing.Given as goal
 
-abbrev pub invariant-loop-i : goal.invariant-loop-i
-invariant-loop-i l = (l.i ≤ 8) × (l.mask ≡ mask_from (spares l.nogoods l.k) (suc l.i) (8 - l.i))
-
-abbrev pub decreases-loop-i : goal.decreases-loop-i
-decreases-loop-i l = l.i
+abbrev pub invariant-loop-nogood : goal.invariant-loop-nogood
+invariant-loop-nogood l = Sparing l.nogoods l.k l.nogood-iterator.iter.rest.now l.mask

@@ -2,36 +2,27 @@
 use mathlib.Core.Path.{◌≡◌, sym, ◌∙◌}
 use mathlib.Core.Bool.{false}
 use Rattle.dispatch_rules.specs.Dispatch.{meets}
-use Rattle.network.specs.Abstract.{network_of}
-use Rattle.dispatch.specs.Abstract.{line, dispatcher_of, tested_by}
-use Rattle.dispatch.proofs.Delivering.{can, cannot}
+use Rattle.dispatch.specs.Abstract.{line_of, dispatcher_of}
 use Rattle.dispatch.proofs.Picking.{refused, even, cannot-be, wished, evens}
 use Rattle.dispatch.proofs.pick.Goals as goal
-use Rattle.dispatch.proofs.pick.Goals.{else-is_odd, then-is_odd+else-a-eq0}
+use Rattle.dispatch.proofs.pick.Goals.{else-is_odd, then-is_odd+in_default-delivered}
 
-pub returns-then-number-ne0 : goal.returns-then-number-ne0
-returns-then-number-ne0 c = refused _ _ _ _ c.tested-number.ensures c.if-number-ne0.true
-
-pub returns-then-a-eq0 : goal.returns-then-a-eq0
-returns-then-a-eq0 c =
-    let d = c.deliver-a.ensures.delivers_as in
-    wished _ _ _ (sym c.tested-number.ensures ∙ c.if-number-ne0.false) (sym c.is_odd.ensures ∙ c.if-is_odd.true)
-    (can _ _ _ _ d.number c.if-a-eq0.true) _ _ _ c.if-a-eq0.true d.network c.one_more.ensures
+pub returns-in-Some : goal.returns-in-Some
+returns-in-Some c = refused _ _ _ c.in-Some.ensures
 
 pub pick_in_turn-requires : goal.pick_in_turn-requires
-pick_in_turn-requires c =
-    let tests : tested_by (network_of c.args.d.network) ≡ 0 =
-    sym c.tested-number.ensures ∙ c.if-number-ne0.false in
-    tests
+pick_in_turn-requires c = sym c.in_default.ensures
+
+pub returns-in-Some-delivered : goal.returns-in-Some-delivered
+returns-in-Some-delivered c =
+    let d = c.in-Some-delivered.ensures in
+    wished _ _ (sym c.in_default.ensures) (sym c.is_odd.ensures ∙ c.if-is_odd.true) d.0 _ _ d.1 c.one_more.ensures
 
 pub returns : goal.returns
 returns c =
-    let tests : tested_by (network_of c.args.d.network) ≡ 0 =
-    sym c.tested-number.ensures ∙ c.if-number-ne0.false in
-    let unmet : meets (dispatcher_of c.args.d)
-    (line c.args.from c.args.to) ≡ false =
+    let unmet : meets (dispatcher_of c.args.d) (line_of c.args.wish) ≡ false =
     elim c.if-is_odd.branch [
-      | then-is_odd+else-a-eq0 u ↦ cannot-be _ _ _ (cannot _ _ _ _ u.deliver-a.ensures.delivers_as.number u.if-a-eq0.false)
-      | else-is_odd u ↦ even _ _ _ (sym c.is_odd.ensures ∙ u.if-is_odd.false)
+      | then-is_odd+in_default-delivered u ↦ cannot-be _ _ u.in_default-delivered.ensures
+      | else-is_odd u ↦ even _ _ (sym c.is_odd.ensures ∙ u.if-is_odd.false)
     ] in
-    evens _ _ _ tests unmet _ c.pick_in_turn.ensures
+    evens _ _ (sym c.in_default.ensures) unmet _ c.pick_in_turn.ensures

@@ -1,24 +1,33 @@
--- After i turns the lines of the first i scanners stand in the buffer. Assumes nothing.
+-- Before line i the lines of the scanners below i stand in the buffer.
+use mathlib.Core.Path.{◌≡◌, ◌∙◌}
+use Prim.Native.Nat.{◌+◌, ◌-◌}
 use native.Mathlib.Omega.{arith}
 use Rattle.base.specs.Finite.{gather}
 use Rattle.text.proofs.Appending.{appends-none}
-use Rattle.dock_text.proofs.Lines.{slots-more, slots-all}
+use Rattle.dock_text.proofs.Lines.{unwrapped, slots-more, slots-all}
 use Rattle.dock_text.proofs.append_slots.Goals as goal
 
 pub loop-i-init : goal.loop-i-init
 unfolding gather
-loop-i-init c = (appends-none _ _, omega arith, omega arith)
+loop-i-init c = record { lines = appends-none _ _; few = omega arith; near = omega arith }
 
 pub append_slot-n-requires : goal.append_slot-n-requires
-append_slot-n-requires c = omega (arith, c.loop-i.invariant.0.room)
+append_slot-n-requires c = omega (arith, c.loop-i.invariant.lines.room)
 
 pub loop-i-preserved : goal.loop-i-preserved
 loop-i-preserved c =
-    let l = c.loop-i in
-    (slots-more _ l.i _ l.invariant.0 c.value.ensures.1 c.append_slot-n.ensures.0, omega (arith, l.invariant.1, c.append_slot-n.ensures.1), omega arith)
-
-pub shape_of-out : goal.shape_of-out
-shape_of-out c = c.loop-i.invariant.0.room
+    let h = c.loop-i in
+    let done : (h.i + 1) - 1 ≡ h.i = omega arith in
+    record {
+      lines = rw done (slots-more _ h.i _ h.auto.i h.invariant.lines (c.unwrap_or.ensures ∙ unwrapped c.value.result ∙ c.value.ensures.1) c.append_slot-n.ensures.0);
+      few = omega (arith, h.invariant.few, c.append_slot-n.ensures.1);
+      near = omega arith;
+    }
 
 pub returns : goal.returns
-returns c = let l = c.loop-i in slots-all _ l.i l.invariant.0 (omega (arith, l.invariant.2))
+returns c = let h = c.loop-i in slots-all _ (h.i - 1) h.invariant.lines (omega arith)
+
+pub returns-2 : goal.returns-2
+returns-2 c =
+    let h = c.loop-i in
+    slots-all _ h.i (slots-more _ h.i _ h.auto.i h.invariant.lines (c.unwrap_or.ensures ∙ unwrapped c.value.result ∙ c.value.ensures.1) c.append_slot-n.ensures.0) (omega arith)

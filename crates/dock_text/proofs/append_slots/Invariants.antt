@@ -1,4 +1,4 @@
--- After i turns the lines of the first i scanners stand in the buffer. Assumes nothing.
+-- Before line i the lines of the scanners below i stand in the buffer.
 use Prim.Native.Nat.{◌+◌, ◌*◌, ◌-◌, ◌≤◌}
 use Rattle.base.specs.Finite.{gather}
 use Rattle.network.specs.Abstract.{network_of}
@@ -8,7 +8,8 @@ use Rattle.dock_text.proofs.append_slots.Given as goal
 
 abbrev pub invariant-loop-i : goal.invariant-loop-i
 invariant-loop-i l =
-    Appends l.initial.out l.at (gather l.i 1 (slot_of (network_of l.r))) l.out l.n × (l.n ≤ l.at + 55 * l.i) × (l.i ≤ l.r.count)
-
-abbrev pub decreases-loop-i : goal.decreases-loop-i
-decreases-loop-i l = l.r.count - l.i
+    record {
+      lines : Appends l.initial.out l.at (gather (l.i - 1) 1 (slot_of (network_of l.r))) l.out l.n;
+      few : l.n ≤ l.at + 55 * (l.i - 1);
+      near : l.i ≤ l.r.count + 1;
+    }

@@ -1,190 +1,117 @@
--- The work on a network. The first loop's invariant is `Sweeping`: what has been looked at of the shape fits, or it is known whether all does. The outer
--- loop's is `Here`: the work left, described at the network as it stands, is the whole work; and `Settled`: where a verdict stands, no line is ahead. The
--- inner loop's is `Storing`: what is not left of the receiver's posts is stored.
+-- The work on a network: each goal by the laws that the invariants are built on.
 use Prim.Native.Nat.{◌+◌, ◌-◌}
-use mathlib.Core.Bool.{false, not, false≢true}
+use mathlib.Core.Bool.{Bool, false, not, cond, ◌&&◌, false≢true}
 use mathlib.Core.Path.{◌≡◌, refl, sym, ap, ◌∙◌}
-use mathlib.Core.Logic.{inl, inr}
 use native.Mathlib.Omega.{arith}
 use lib.ListN.{length, get_or, set}
 use borrow.Author.Rules.{rules}
-use borrow.Author.Tests.{not-true, not-false}
-use Rattle.base.specs.Finite.{at}
-use Rattle.base.proofs.Tests.{both}
 use Rattle.packed.specs.Packed.{assignment}
 use Rattle.agent.specs.Abstract.{assigned}
-use Rattle.agent.specs.Posting.{posts_left}
+use Rattle.agent.specs.Posting.{letters_left}
 use Rattle.protocol.specs.Run.{one_if}
-use Rattle.network.specs.Abstract.{place_of, no_place, network_of}
-use Rattle.network.proofs.Whole.{lengths}
-use Rattle.network.proofs.Turns.{line-here, few-left, all-lined, last-read}
-use Rattle.clauses.proofs.Numbering.{Ends, ends}
-use Rattle.network_laws.proofs.Changes.{counted as with_counts, FullArrays, rowed, arrived}
+use Rattle.network.specs.Abstract.{network_of}
+use Rattle.clauses.proofs.Numbering.{Ends}
+use Rattle.network_laws.proofs.Changes.{FullArrays, rowed, arrived}
 use Rattle.network_laws.proofs.Handing.{Found, Stepped, bars-ask, step-asks, steps, storing}
 use Rattle.network_laws.proofs.Stepping.{few-agents}
-use Rattle.engine.specs.Working.{work_by}
-use Rattle.engine.proofs.Ahead.{ahead_none, visit-less, none-less, passed-less, round-less}
+use Rattle.engine.specs.Refused.{refused_number}
+use Rattle.engine.specs.Working.{ends_by, work_by}
+use Rattle.engine.proofs.After.{told-ten, told-goes, told-run, told-not-five, jams-run, jams-never}
+use Rattle.engine.proofs.Ahead.{ahead_none, visit-less, none-less, passed-less}
 use Rattle.engine.proofs.Barrings.{no_agent, no_bars, Barred, BarsOf, Readied, had, worked, bars-ready}
-use Rattle.engine.proofs.Testing.{fresh-line}
-use Rattle.engine.proofs.Here.{Live, Here}
-use Rattle.engine.proofs.Starting.{Rows, Began, broken, running, refused, found, clean-shape, began-network, began-settled, began-untouched, begins}
-use Rattle.engine.proofs.Visiting.{passes-all, line-channel, line-ends, here, no-verdict, finds}
-use Rattle.engine.proofs.Storing.{storing-starts, turn-line, turn-ends, turn-stores, turn-less, turn-full, full-less, no-posts, head-moved, waits-still}
+use Rattle.engine.proofs.Testing.{fresh-line, never-five}
+use Rattle.engine.proofs.Here.{Here}
+use Rattle.engine.proofs.Starting.{Began, running, found, breaks, refused, begins}
+use Rattle.engine.proofs.Visiting.{passes-all, line-channel, line-ends, no-verdict, finds}
+use Rattle.engine.proofs.Storing.{turn-line, turn-ends, turn-stores, turn-full, head-moved, waits-still}
 use Rattle.engine.proofs.Accepting.{stored-jams, stored-goes}
-use Rattle.engine.proofs.Resting.{one_more, no_more, work-stops, stops-untouched, round-left, round-settled, round-begins}
+use Rattle.engine.proofs.Resting.{one_more, no_more, Stop, verdict-stands, round-stuck, nothing-waits, rounds-used, work-stops, round-settled, round-begins}
 use Rattle.engine.proofs.work.Goals as goal
-use Rattle.engine.proofs.work.Goals.{else-not-has, else-not-missed, else-sweep, then-not-has, then-not-missed, then-sweep+else-once, then-sweep+then-once+else-number-eq0, then-sweep+then-once+then-number-eq0, After-barred-1, After-place_at-then-not-visit, After-with_digit-rest, Joined-not-has, Then-not-visit}
+use Rattle.engine.proofs.work.Goals.{then-not-has, else-not-has, then-not-missed, else-not-missed, then-once+in_default, else-once, then-o-via-then-o, then-o-via-else-o+then-stuck, then-o-via-else-o+else-stuck+then-not-waits, then-o-via-else-o+else-stuck+else-not-waits+then-left-eq0, then-once-2+then-stuck-2, else-once-2, else-once-2-via-then-once-2+else-stuck-2, else-once-2-via-else-once-2, then-not-once, else-not-once, In-Some-next_visit, After-place_at, After-receive-step, After-one_less, Joined-not-has, Joined-not-missed}
 
--- a line is visited: its ends, the network, and the message at its head
-visited : (c : Then-not-visit)
-    → Ends c.next_visit-visit.result.from c.next_visit-visit.result.to
-visited c =
-    line-ends c.loop-to.invariant.0 c.next_visit-visit.result c.next_visit-visit.ensures (not-true _ c.if-not-visit.true)
+-- a line is visited: its ends, no verdict, and the message at its head
+visited : (c : In-Some-next_visit) → Ends c.in-Some-next_visit.visit.from c.in-Some-next_visit.visit.to
+visited c = line-ends c.visits.invariant.0 c.in-Some-next_visit.visit c.in-Some-next_visit.ensures
 
-alive : (c : Then-not-visit)
-    → Live c.loop-to.o c.if-sweep.n c.if-sweep.o.domains c.if-sweep.o.bans c.loop-to.bars c.loop-to.ready
-alive c =
-    here c.loop-to.invariant.0 c.next_visit-visit.result c.next_visit-visit.ensures (not-true _ c.if-not-visit.true)
+going : (c : In-Some-next_visit) → c.visits.o.verdict ≡ false
+going c = no-verdict c.visits.invariant.0 c.in-Some-next_visit.visit c.in-Some-next_visit.ensures c.visits.invariant.1
 
-going : (c : Then-not-visit)
-    → c.loop-to.o.verdict ≡ false
-going c =
-    no-verdict c.loop-to.invariant.0 c.next_visit-visit.result c.next_visit-visit.ensures (not-true _ c.if-not-visit.true) c.loop-to.invariant.1
-
-finding : (c : After-place_at-then-not-visit)
-    → Found c.loop-to.o c.next_visit-visit.result.from c.next_visit-visit.result.to c.place_at-then-not-visit.result
+finding : (c : After-place_at) → Found c.visits.o c.in-Some-next_visit.visit.from c.in-Some-next_visit.visit.to c.place_at.result
 finding c =
-    finds c.loop-to.invariant.0 c.next_visit-visit.result c.next_visit-visit.ensures (not-true _ c.if-not-visit.true) (going c.before.before.before.before) c.channel_at-then-not-visit.result c.digit-head-then-not-visit.result c.place_at-then-not-visit.result c.channel_at-then-not-visit.ensures.0 c.digit-head-then-not-visit.ensures.0 c.place_at-then-not-visit.ensures.0
+    finds c.visits.invariant.0 c.in-Some-next_visit.visit c.in-Some-next_visit.ensures
+    (no-verdict c.visits.invariant.0 c.in-Some-next_visit.visit c.in-Some-next_visit.ensures c.visits.invariant.1) c.channel_at.result c.digit-head.result c.place_at.result c.channel_at.ensures.0 c.digit-head.ensures.0 c.place_at.ensures.0
 
 -- agent `to` has its bars, or they are worked out now
 readied : (c : Joined-not-has)
-    → Readied c.if-sweep.o.bans c.next_visit-visit.result.to c.words_before-words.result (get_or c.loop-to.o.agents (c.next_visit-visit.result.to - 1) no_agent) c.loop-to.bars c.loop-to.ready c.if-not-has.bars c.if-not-has.ready
+    → Readied c.args.r.bans c.in-Some-next_visit.visit.to c.words_before-words.result (get_or c.visits.o.agents (c.in-Some-next_visit.visit.to - 1) no_agent) c.visits.bars c.visits.ready c.if-not-has.bars c.if-not-has.ready
 unfolding assigned
 readied c =
     elim c.if-not-has.branch [
-      | then-not-has a ↦ worked a.of-b.result a.add-ready.result a.of-b.ensures a.add-ready.ensures a.bars-is a.ready-is
+      | then-not-has a ↦ worked a.of.result a.add-ready.result a.of.ensures a.add-ready.ensures a.bars-is a.ready-is
       | else-not-has a ↦ had (sym c.has.ensures ∙ a.if-not-has.false) a.bars-is a.ready-is
     ]
 
 bars-now : (c : Joined-not-has)
     → (length c.if-not-has.bars ≡ 12)
-    × Barred c.if-sweep.o.bans c.loop-to.o.agents c.if-not-has.bars c.if-not-has.ready
-    × BarsOf c.if-sweep.o.bans c.next_visit-visit.result.to c.words_before-words.result (get_or c.loop-to.o.agents (c.next_visit-visit.result.to - 1) no_agent) (get_or c.if-not-has.bars (c.next_visit-visit.result.to - 1) no_bars)
+    × Barred c.args.r.bans c.visits.o.agents c.if-not-has.bars c.if-not-has.ready
+    × BarsOf c.args.r.bans c.in-Some-next_visit.visit.to c.words_before-words.result (get_or c.visits.o.agents (c.in-Some-next_visit.visit.to - 1) no_agent) (get_or c.if-not-has.bars (c.in-Some-next_visit.visit.to - 1) no_bars)
 bars-now c =
-    bars-ready c.if-sweep.o.bans c.next_visit-visit.result.to c.words_before-words.result (visited c.before.before.before.before.before.before.before.before.before.before).to_low (visited c.before.before.before.before.before.before.before.before.before.before).to_high c.words_before-words.ensures.0 c.loop-to.o.agents c.loop-to.bars c.loop-to.ready (alive c.before.before.before.before.before.before.before.before.before.before).beside (alive c.before.before.before.before.before.before.before.before.before.before).barred c.if-not-has.bars c.if-not-has.ready (readied c)
+    let e = line-ends c.visits.invariant.0 c.in-Some-next_visit.visit c.in-Some-next_visit.ensures in
+    let live = c.visits.invariant.0.live in
+    bars-ready c.args.r.bans c.in-Some-next_visit.visit.to c.words_before-words.result e.to_low e.to_high c.words_before-words.ensures.0 c.visits.o.agents c.visits.bars c.visits.ready live.beside live.barred c.if-not-has.bars c.if-not-has.ready (readied c)
+
+-- the agent has made its step
+stepped : (c : After-receive-step) → Stepped c.visits.o c.in-Some-next_visit.visit.from c.in-Some-next_visit.visit.to c.place_at.result c.receive-step.result
+stepped c =
+    let h = c.visits.invariant.0 in
+    let none = no-verdict h c.in-Some-next_visit.visit c.in-Some-next_visit.ensures c.visits.invariant.1 in
+    let found = finds h c.in-Some-next_visit.visit c.in-Some-next_visit.ensures none c.channel_at.result c.digit-head.result c.place_at.result c.channel_at.ensures.0 c.digit-head.ensures.0 c.place_at.ensures.0 in
+    steps found no_agent _ _ c.words_before-words.result h.live.owned h.live.table c.words_before-words.ensures.0 c.receive-step.result c.receive-step.ensures
 
 -- the delivery is made
-gone : (c : After-barred-1)
-    → Here c.args.once (work_by c.args.once c.args.sender c.args.receiver c.args.allowed (network_of c.if-sweep.o)) c.if-sweep.o c.if-sweep.number (arrived (rowed c.loop-room.o c.next_visit-visit.result.to c.loop-room.now) c.next_visit-visit.result.from c.next_visit-visit.result.to c.with_digit.result c.one_less.result c.receive-step.result.agent c.receive-step.result.verdict) c.if-sweep.n c.if-sweep.o.domains c.if-sweep.o.bans (set c.if-not-has.bars (c.next_visit-visit.result.to - 1) c.receive-step.result.bars) c.if-not-has.ready c.loop-to.quota c.loop-to.missed c.loop-to.left c.loop-to.made 0 c.next_visit-visit.result.from c.next_visit-visit.result.rest
-gone c =
-    let stepped : Stepped c.loop-to.o c.next_visit-visit.result.from c.next_visit-visit.result.to c.place_at-then-not-visit.result c.receive-step.result =
-    steps (finding c.before.before.before.before.before.before.before.before.before.before.before.before.before.before.before.before.before.before.before.before.before.before) no_agent _ _ c.words_before-words.result (alive c.before.before.before.before.before.before.before.before.before.before.before.before.before.before.before.before.before.before.before.before.before.before.before.before.before.before).owned (alive c.before.before.before.before.before.before.before.before.before.before.before.before.before.before.before.before.before.before.before.before.before.before.before.before.before.before).table c.words_before-words.ensures.0 c.receive-step.result c.receive-step.ensures in
-    let q = (bars-now c.before.before.before.before.before.before.before.before.before.before.before.before.before.before.before.before) in
-    stored-goes c.loop-to.invariant.0 c.next_visit-visit.result c.next_visit-visit.ensures (not-true _ c.if-not-visit.true) (going c.before.before.before.before.before.before.before.before.before.before.before.before.before.before.before.before.before.before.before.before.before.before.before.before.before.before) c.if-not-has.bars c.if-not-has.ready q.0 q.1 stepped c.loop-room.invariant (no-posts _ _ _ _ c.is_empty.ensures.1 c.loop-room-test.false c.if-room.true c.loop-room.invariant.ready)
-    (record { head = head-moved _ _ _ _ c.with_digit.ensures c.digit-then-room.ensures.0; count = c.one_less.ensures.0 }) _ c.words_before-words.ensures.0 c.receive-step.ensures.barring
+gone : (c : After-one_less) (q : (length c.if-not-has.bars ≡ 12) × Barred c.args.r.bans c.visits.o.agents c.if-not-has.bars c.if-not-has.ready) (step : Stepped c.visits.o c.in-Some-next_visit.visit.from c.in-Some-next_visit.visit.to c.place_at.result c.receive-step.result)
+    → Here c.args.once (work_by c.args.once c.args.sender c.args.receiver c.args.allowed (network_of c.args.r)) (arrived (rowed c.posts.o c.in-Some-next_visit.visit.to c.posts.now) c.in-Some-next_visit.visit.from c.in-Some-next_visit.visit.to c.with_digit.result c.one_less.result c.receive-step.result.agent c.receive-step.result.verdict) c.args.r.count c.args.r.domains c.args.r.bans (set c.if-not-has.bars (c.in-Some-next_visit.visit.to - 1) c.receive-step.result.bars) c.if-not-has.ready c.rounds.quota c.posts.missed c.rounds.left c.rounds.made false c.in-Some-next_visit.visit.from c.posts.rest
+gone c q step =
+    let h = c.visits.invariant.0 in
+    rw (c.posts.invariant.1, c.posts.invariant.2)
+    (stored-goes h c.in-Some-next_visit.visit c.in-Some-next_visit.ensures (no-verdict h c.in-Some-next_visit.visit c.in-Some-next_visit.ensures c.visits.invariant.1) c.if-not-has.bars c.if-not-has.ready q.0 q.1 step
+    (rw (ap letters_left c.into_iter-post-iterator.ensures.into_iter_gives) at c.posts.invariant.0) c.in-None.ensures.steps.0
+    (record { head = head-moved _ _ _ _ c.with_digit.ensures c.digit-in-Some-next_visit.ensures.0; count = c.one_less.ensures.0 }) _ c.words_before-words.ensures.0 c.receive-step.ensures.barring)
 
--- a line that meets a 10 is passed over for the rest of the round, and no other line of its sender
-passed : (c : After-with_digit-rest)
-    → assignment c.with_digit-rest.result ≡ at (assignment c.next_visit-visit.result.rest) c.next_visit-visit.result.to 0
-passed c =
-    search rules
+-- the rounds made, this one counted if it was full
+counted : (c : Joined-not-missed) → c.if-not-missed.made ≡ c.rounds.made + one_if (not c.visits.missed)
+counted c =
+    elim c.if-not-missed.branch [
+      | then-not-missed a ↦ one_more c.rounds.made c.if-not-missed.made c.visits.missed (ap not a.if-not-missed.true) a.made-is
+      | else-not-missed a ↦ no_more c.rounds.made c.if-not-missed.made c.visits.missed (ap not a.if-not-missed.false) a.made-is
+    ]
 
-pub loop-sweep-init : goal.loop-sweep-init
-loop-sweep-init c =
-    let sizes : FullArrays c.args.r =
+pub returns-then-answer : goal.returns-then-answer
+returns-then-answer c =
     record {
-      domains = search rules;
-      bans = search rules;
-      agents = search rules;
-      heads = search rules;
-      counts = search rules;
-      places = search rules;
-    } in
-    let o = with_counts c.args.r c.cleaned-rows.result in
-    let z = sizes in
-    let m = c.frame_of-frame.ensures o (record {
-      wide = lengths o z.domains z.bans;
-      count-is = refl;
-      rule-is = refl;
-      verdict-is = refl;
-      domains-are = refl;
-      bans-are = refl;
-      agents-are = refl;
-    }) in
-    record { framed = m; going = c.begin-sweep.ensures.going o refl m; some = c.begin-sweep.ensures.le_left }
-
-pub overflow_sub-sweep : goal.overflow_sub-sweep
-overflow_sub-sweep c = (ends _ _ (line-here c.loop-sweep.invariant (not-true _ c.loop-sweep-test.true))).from_low
-
-pub bounds-o-sweep : goal.bounds-o-sweep
-bounds-o-sweep c =
-    let sizes : FullArrays c.args.r =
-    record {
-      domains = search rules;
-      bans = search rules;
-      agents = search rules;
-      heads = search rules;
-      counts = search rules;
-      places = search rules;
-    } in
-    let b = ends _ _ (line-here c.loop-sweep.invariant (not-true _ c.loop-sweep-test.true)) in let z = sizes.heads in omega (arith, b.from_low, b.from-high)
-
-pub digit-head-requires : goal.digit-head-requires
-digit-head-requires c = let b = ends _ _ (line-here c.loop-sweep.invariant (not-true _ c.loop-sweep-test.true)) in (b.to_low, omega (arith, b.to_high))
-
-pub channel_at-requires : goal.channel_at-requires
-channel_at-requires c = line-here c.loop-sweep.invariant (not-true _ c.loop-sweep-test.true)
-
-pub overflow_sub-sweep-in-loop-sweep : goal.overflow_sub-sweep-in-loop-sweep
-overflow_sub-sweep-in-loop-sweep c = c.loop-sweep.invariant.some (not-true _ c.loop-sweep-test.true)
-
-pub place_at-requires : goal.place_at-requires
-place_at-requires c = (c.channel_at.ensures.1, c.digit-head.ensures.1, omega (arith, few-left c.loop-sweep.invariant (not-true _ c.loop-sweep-test.true)))
-
-pub bounds-o-place_at : goal.bounds-o-place_at
-bounds-o-place_at c = c.place_at.ensures.1
-
-pub after-sweep-requires : goal.after-sweep-requires
-after-sweep-requires c =
-    let o = (not-true _ c.loop-sweep-test.true) in
-    record {
-      lined = all-lined c.loop-sweep.invariant o;
-      to_value = (line-here c.loop-sweep.invariant o, c.loop-sweep.invariant.some o, o);
+      works_as = breaks c.args.once c.args.sender c.args.receiver c.args.allowed c.args.r (sym c.if-answer.ensures);
+      network_value = λ _. refl;
     }
 
-pub loop-sweep-smaller : goal.loop-sweep-smaller
-loop-sweep-smaller c = c.after-sweep.ensures.le_left.1
-
-pub loop-sweep-preserved : goal.loop-sweep-preserved
-unfolding place_of no_place
-loop-sweep-preserved c =
-    let sizes : FullArrays c.args.r =
+pub returns-in-Some : goal.returns-in-Some
+returns-in-Some c =
     record {
-      domains = search rules;
-      bans = search rules;
-      agents = search rules;
-      heads = search rules;
-      counts = search rules;
-      places = search rules;
-    } in
-    let r = with_counts c.args.r c.cleaned-rows.result in
-    let s = c.loop-sweep.sweep in
-    let o = (not-true _ c.loop-sweep-test.true) in
-    let read = last-read r s c.digit-head.result c.channel_at.result c.place_at.result no_place sizes.places (ends _ _ (line-here c.loop-sweep.invariant o)).from_low c.digit-head.ensures.0 c.channel_at.ensures.0 c.place_at.ensures in
-    record {
-      framed = c.loop-sweep.invariant.framed;
-      going = c.after-sweep.ensures.going r refl c.loop-sweep.invariant.framed c.loop-sweep.invariant.going read;
-      some = c.after-sweep.ensures.le_left.0;
+      works_as = refused c.args.once c.args.sender c.args.receiver c.args.allowed c.args.r c.cleaned-o.result (record { width = c.cleaned-o.ensures.0; held = c.cleaned-o.ensures.1 })
+          (sym c.if-answer.ensures) c.if-once.true c.in-Some.refusal c.in-Some.ensures _ c.waits.ensures _ c.ending_at.ensures;
+      network_value = λ e. absurd (never-five _ _ _ _ _ _ c.in-Some.ensures e);
     }
 
-pub tested-number-requires : goal.tested-number-requires
-tested-number-requires c = few-agents _ (c.loop-sweep.invariant.going.ended (not-false _ c.loop-sweep-test.false) ∙ c.if-sweep.true)
+pub tested-requires : goal.tested-requires
+tested-requires c = few-agents _ (sym c.if-answer.ensures)
+
+pub waits-requires : goal.waits-requires
+waits-requires c = few-agents _ (sym c.if-answer.ensures)
 
 pub one_more-rest-requires : goal.one_more-rest-requires
-one_more-rest-requires c = (fresh-line _ _ _ _ _ _ (few-agents _ (c.loop-sweep.invariant.going.ended (not-false _ c.loop-sweep-test.false) ∙ c.if-sweep.true)) c.tested-number.ensures c.if-number-eq0.true)
+one_more-rest-requires c = fresh-line _ _ _ _ _ (few-agents _ (sym c.if-answer.ensures)) c.in_default.ensures
 
-pub loop-to-init : goal.loop-to-init
-loop-to-init c =
+pub rounds-init : goal.rounds-init
+rounds-init c =
     let sizes : FullArrays c.args.r =
     record {
       domains = search rules;
@@ -194,347 +121,189 @@ loop-to-init c =
       counts = search rules;
       places = search rules;
     } in
-    let clean : Rows c.args.r.counts c.cleaned-rows.result =
-    record { width = c.cleaned-rows.ensures.0; held = c.cleaned-rows.ensures.1 } in
-    let began : Began c.args.once c.args.sender c.args.receiver c.args.r c.if-sweep.o c.if-sweep.n c.if-sweep.number c.if-sweep.from c.if-sweep.rest =
-    let shape = clean-shape c.args.r c.cleaned-rows.result clean _ (c.loop-sweep.invariant.going.ended (not-false _ c.loop-sweep-test.false)) in
-    elim c.if-sweep.branch [
-      | then-sweep+then-once+then-number-eq0 a ↦ found (shape ∙ a.if-sweep.true) a.if-once.true _ clean a.o-is a.n-is _ a.tested-number.ensures a.if-number-eq0.true a.number-is a.from-is (ap assignment a.rest-is ∙ a.one_more-rest.ensures)
-      | then-sweep+then-once+else-number-eq0 a ↦ refused (shape ∙ a.if-sweep.true) a.if-once.true _ clean a.o-is a.n-is (a.number-is ∙ a.tested-number.ensures) (λ z. a.if-number-eq0.false (sym a.number-is ∙ z)) a.from-is a.rest-is
-      | then-sweep+else-once a ↦ running (shape ∙ a.if-sweep.true) a.if-once.false _ clean a.o-is a.n-is a.number-is a.from-is a.rest-is
-      | else-sweep a ↦ broken (shape ∙ a.if-sweep.false) a.o-is a.n-is a.number-is a.from-is a.rest-is
+    let began : Began c.args.once c.args.sender c.args.receiver c.args.r.count c.args.r.verdict c.cleaned-o.result c.if-once.from c.if-once.rest =
+    elim c.if-once.branch [
+      | then-once+in_default a ↦ found a.if-once.true a.in_default.ensures a.from-is (ap assignment a.rest-is ∙ a.one_more-rest.ensures)
+      | else-once a ↦ running a.if-once.false a.from-is a.rest-is
     ] in
-    (begins c.args.once c.args.sender c.args.receiver c.args.allowed c.requires.allowed_bound _ refl began sizes c.requires.allowed_value, began-settled began _)
+    begins c.args.once c.args.sender c.args.receiver c.args.allowed c.args.r c.cleaned-o.result (record { width = c.cleaned-o.ensures.0; held = c.cleaned-o.ensures.1 })
+    (sym c.if-answer.ensures) c.requires.allowed_bound _ refl sizes began c.requires.allowed_value
 
-pub next_visit-visit-requires : goal.next_visit-visit-requires
-next_visit-visit-requires c = (c.loop-to.invariant.0.high, c.loop-to.invariant.0.agents)
-
-pub overflow_cast-at : goal.overflow_cast-at
-overflow_cast-at c = let b = (visited (goal.at.overflow_cast-at c).Then-not-visit) in search rules
-
-pub overflow_sub-at : goal.overflow_sub-at
-overflow_sub-at c = let b = (visited (goal.at.overflow_sub-at c).Then-not-visit) in search rules
-
-pub overflow_cast-row : goal.overflow_cast-row
-overflow_cast-row c = let b = (visited (goal.at.overflow_cast-row c).Then-not-visit) in search rules
-
-pub overflow_sub-row : goal.overflow_sub-row
-overflow_sub-row c = let b = (visited (goal.at.overflow_sub-row c).Then-not-visit) in search rules
-
-pub offset_bounds-o-row : goal.offset_bounds-o-row
-offset_bounds-o-row c = let b = (visited (goal.at.offset_bounds-o-row c).Then-not-visit) in search rules
-
-pub bounds-o-row : goal.bounds-o-row
-bounds-o-row c = let b = (visited (goal.at.bounds-o-row c).Then-not-visit) in search rules
-
-pub digit-head-requires-then-not-visit : goal.digit-head-requires-then-not-visit
-digit-head-requires-then-not-visit c = let b = (visited (goal.at.digit-head-requires-then-not-visit c).Then-not-visit) in (b.to_low, omega (arith, b.to_high))
-
-pub channel_at-requires-then-not-visit : goal.channel_at-requires-then-not-visit
-channel_at-requires-then-not-visit c = line-channel c.loop-to.invariant.0 c.next_visit-visit.result c.next_visit-visit.ensures (not-true _ c.if-not-visit.true)
-
-pub place_at-requires-then-not-visit : goal.place_at-requires-then-not-visit
-place_at-requires-then-not-visit c = (c.channel_at-then-not-visit.ensures.1, c.digit-head-then-not-visit.ensures.1, omega arith)
-
-pub bounds-o-place_at-then-not-visit : goal.bounds-o-place_at-then-not-visit
-bounds-o-place_at-then-not-visit c = let z = c.loop-to.invariant.0.sized.places in search rules
-
-pub offset_bounds-o-at : goal.offset_bounds-o-at
-offset_bounds-o-at c = let b = (visited (goal.at.offset_bounds-o-at c).Then-not-visit) in search rules
-
-pub bounds-o-at : goal.bounds-o-at
-bounds-o-at c = let b = (visited (goal.at.bounds-o-at c).Then-not-visit) in let z = c.loop-to.invariant.0.sized.agents in search rules
-
-pub words_before-words-requires : goal.words_before-words-requires
-words_before-words-requires c = let b = (visited (goal.at.words_before-words-requires c).Then-not-visit) in (b.to_low, b.to_high)
-
-pub bounds-domains-at : goal.bounds-domains-at
-bounds-domains-at c = let b = (visited (goal.at.bounds-domains-at c).Then-not-visit) in search rules
-
-pub overflow_add-mine : goal.overflow_add-mine
-overflow_add-mine c = let b = (visited (goal.at.overflow_add-mine c).Then-not-visit) in search rules
-
-pub offset_bounds-bans-words : goal.offset_bounds-bans-words
-offset_bounds-bans-words c = let b = (visited (goal.at.offset_bounds-bans-words c).Then-not-visit) in search rules
-
-pub slice_bounds-mine-count : goal.slice_bounds-mine-count
-slice_bounds-mine-count c = let b = (visited (goal.at.slice_bounds-mine-count c).Then-not-visit) in search rules
-
-pub slice_bounds-mine-start : goal.slice_bounds-mine-start
-slice_bounds-mine-start c = let b = (visited (goal.at.slice_bounds-mine-start c).Then-not-visit) in search rules
-
-pub slice_bounds-mine-end : goal.slice_bounds-mine-end
-slice_bounds-mine-end c = let b = (visited (goal.at.slice_bounds-mine-end c).Then-not-visit) in let w : length c.if-sweep.o.bans ≡ 66 = rw (alive (goal.at.slice_bounds-mine-end c).Then-not-visit).table c.loop-to.invariant.0.sized.bans in search rules
-
-pub has-requires : goal.has-requires
-has-requires c = let b = (visited (goal.at.has-requires c).Then-not-visit) in (b.to_low, omega (arith, b.to_high))
-
-pub of-b-requires : goal.of-b-requires
-unfolding assigned
-of-b-requires c =
-    let a = bars-ask (finding (goal.at.of-b-requires c).After-place_at-then-not-visit) no_agent _ _ c.words_before-words.result (alive (goal.at.of-b-requires c).Then-not-visit).owned (alive (goal.at.of-b-requires c).Then-not-visit).table c.words_before-words.ensures.0 in
-    record {
-      able = a.0;
-      view_fits = a.1;
-    }
-
-pub offset_bounds-bars-at : goal.offset_bounds-bars-at
-offset_bounds-bars-at c = let b = (visited (goal.at.offset_bounds-bars-at c).Then-not-visit) in search rules
-
-pub bounds-bars-at : goal.bounds-bars-at
-bounds-bars-at c = let b = (visited (goal.at.bounds-bars-at c).Then-not-visit) in let z = (alive (goal.at.bounds-bars-at c).Then-not-visit).beside in search rules
-
-pub add-ready-requires : goal.add-ready-requires
-add-ready-requires c = let b = (visited (goal.at.add-ready-requires c).Then-not-visit) in (b.to_low, omega (arith, b.to_high))
-
-pub offset_bounds-bars-at-then-not-visit : goal.offset_bounds-bars-at-then-not-visit
-offset_bounds-bars-at-then-not-visit c = let b = (visited (goal.at.offset_bounds-bars-at-then-not-visit c).Then-not-visit) in search rules
-
-pub bounds-bars-at-then-not-visit : goal.bounds-bars-at-then-not-visit
-bounds-bars-at-then-not-visit c = let b = (visited (goal.at.bounds-bars-at-then-not-visit c).Then-not-visit) in let z = (bars-now (goal.at.bounds-bars-at-then-not-visit c).Joined-not-has).0 in search rules
-
-pub receive-step-requires : goal.receive-step-requires
-receive-step-requires c =
-    let a = step-asks (finding (goal.at.receive-step-requires c).After-place_at-then-not-visit) no_agent _ _ c.words_before-words.result (alive (goal.at.receive-step-requires c).Then-not-visit).owned (alive (goal.at.receive-step-requires c).Then-not-visit).table c.words_before-words.ensures.0 in
-    record {
-      able = a.0;
-      record_fits = a.1.0;
-      message_fits = a.1.1;
-      barring = (bars-now (goal.at.receive-step-requires c).Joined-not-has).2;
-    }
-
-pub offset_bounds-o-at-then-not-visit : goal.offset_bounds-o-at-then-not-visit
-offset_bounds-o-at-then-not-visit c = let b = (visited (goal.at.offset_bounds-o-at-then-not-visit c).Then-not-visit) in search rules
-
-pub bounds-o-at-then-not-visit : goal.bounds-o-at-then-not-visit
-bounds-o-at-then-not-visit c = let b = (visited (goal.at.bounds-o-at-then-not-visit c).Then-not-visit) in let z = c.loop-to.invariant.0.sized.counts in search rules
-
-pub loop-room-init : goal.loop-room-init
-loop-room-init c =
-    let stepped : Stepped c.loop-to.o c.next_visit-visit.result.from c.next_visit-visit.result.to c.place_at-then-not-visit.result c.receive-step.result =
-    steps (finding (goal.at.loop-room-init c).After-place_at-then-not-visit) no_agent _ _ c.words_before-words.result (alive (goal.at.loop-room-init c).Then-not-visit).owned (alive (goal.at.loop-room-init c).Then-not-visit).table c.words_before-words.ensures.0 c.receive-step.result c.receive-step.ensures in
-    storing-starts _ _ c.receive-step.result _ (storing stepped) c.receive-step.ensures.ready
-
-pub first-p-requires : goal.first-p-requires
-first-p-requires c =
-    record {
-      self_value = sym c.is_empty.ensures.0 ∙ not-true _ (both (not c.is_empty.result) c.loop-room.room c.loop-room-test.true).0;
-      ready = c.loop-room.invariant.ready;
-    }
-
-pub digit-waiting-requires : goal.digit-waiting-requires
-digit-waiting-requires c = let b = turn-ends c.loop-room.invariant c.first-p.result c.first-p.ensures in (b.to_low, omega (arith, b.to_high))
-
-pub channel_at-requires-then-waiting-lt8 : goal.channel_at-requires-then-waiting-lt8
-channel_at-requires-then-waiting-lt8 c = turn-line c.loop-room.invariant c.first-p.result c.first-p.ensures
-
-pub offset_bounds-o-at-then-waiting-lt8 : goal.offset_bounds-o-at-then-waiting-lt8
-offset_bounds-o-at-then-waiting-lt8 c = let b = (visited (goal.at.offset_bounds-o-at-then-waiting-lt8 c).Then-not-visit) in search rules
-
-pub bounds-o-at-then-waiting-lt8 : goal.bounds-o-at-then-waiting-lt8
-bounds-o-at-then-waiting-lt8 c = let b = (visited (goal.at.bounds-o-at-then-waiting-lt8 c).Then-not-visit) in let z = c.loop-room.invariant.posting.sized.heads in search rules
-
-pub digit-requires : goal.digit-requires
-digit-requires c = let b = turn-ends c.loop-room.invariant c.first-p.result c.first-p.ensures in (b.to_low, omega (arith, b.to_high))
-
-pub place_at-end-requires : goal.place_at-end-requires
-place_at-end-requires c = (c.channel_at-then-waiting-lt8.ensures.1, c.digit.ensures.1, c.digit-waiting.ensures.1)
-
-pub bounds-o-end : goal.bounds-o-end
-bounds-o-end c = let z = c.loop-room.invariant.posting.sized.places in search rules
-
-pub one_more-now-requires : goal.one_more-now-requires
-one_more-now-requires c = let b = turn-ends c.loop-room.invariant c.first-p.result c.first-p.ensures in (b.to_low, omega (arith, b.to_high), omega (arith, c.digit-waiting.ensures.0, c.if-waiting-lt8.true))
-
-pub rest-posts-requires : goal.rest-posts-requires
-rest-posts-requires c =
-    record {
-      self_value = sym c.is_empty.ensures.0 ∙ not-true _ (both (not c.is_empty.result) c.loop-room.room c.loop-room-test.true).0;
-      next_le_count = c.loop-room.invariant.ready.next;
-    }
-
-pub loop-room-smaller-then-waiting-lt8 : goal.loop-room-smaller-then-waiting-lt8
-loop-room-smaller-then-waiting-lt8 c = turn-less c.loop-room.invariant c.first-p.result c.first-p.ensures _ (c.rest-posts.ensures c.receive-step.result.backs c.loop-room.invariant.ready)
-
-pub loop-room-preserved-then-waiting-lt8 : goal.loop-room-preserved-then-waiting-lt8
-loop-room-preserved-then-waiting-lt8 c =
-    turn-stores c.loop-room.invariant c.first-p.result c.first-p.ensures
-    (record {
-      channel = c.channel_at-then-waiting-lt8.ensures.0;
-      head = rw c.loop-room.invariant.posting.kept.heads at c.digit.ensures.0;
-      waiting = c.digit-waiting.ensures.0;
-      place = c.place_at-end.ensures.0;
-      next = c.one_more-now.ensures;
-    })
-    c.if-waiting-lt8.true c.rest-posts.result (c.rest-posts.ensures c.receive-step.result.backs c.loop-room.invariant.ready)
-
-pub loop-room-smaller : goal.loop-room-smaller
-loop-room-smaller c = full-less _ _ _ (both (not c.is_empty.result) c.loop-room.room c.loop-room-test.true).1
-
-pub loop-room-preserved : goal.loop-room-preserved
-loop-room-preserved c = turn-full c.loop-room.invariant c.first-p.result c.first-p.ensures _ c.digit-waiting.ensures.0 c.if-waiting-lt8.false
-
-pub offset_bounds-o-at-then-room : goal.offset_bounds-o-at-then-room
-offset_bounds-o-at-then-room c = let b = (visited (goal.at.offset_bounds-o-at-then-room c).Then-not-visit) in search rules
-
-pub bounds-o-at-then-room : goal.bounds-o-at-then-room
-bounds-o-at-then-room c = let b = (visited (goal.at.bounds-o-at-then-room c).Then-not-visit) in let z = c.loop-room.invariant.posting.sized.counts in search rules
-
-pub offset_bounds-o-row-then-room : goal.offset_bounds-o-row-then-room
-offset_bounds-o-row-then-room c = let b = (visited (goal.at.offset_bounds-o-row-then-room c).Then-not-visit) in search rules
-
-pub bounds-o-row-then-room : goal.bounds-o-row-then-room
-bounds-o-row-then-room c = let b = (visited (goal.at.bounds-o-row-then-room c).Then-not-visit) in let z = c.loop-room.invariant.posting.sized.heads in search rules
-
-pub digit-requires-then-room : goal.digit-requires-then-room
-digit-requires-then-room c = let b = (visited (goal.at.digit-requires-then-room c).Then-not-visit) in (b.to_low, omega (arith, b.to_high))
-
-pub overflow_add-digit : goal.overflow_add-digit
-overflow_add-digit c = let d = c.digit-then-room.ensures.1 in search rules
-
-pub with_digit-requires : goal.with_digit-requires
-with_digit-requires c = let b = (visited (goal.at.with_digit-requires c).Then-not-visit) in (b.to_low, omega (arith, b.to_high), omega arith)
-
-pub offset_bounds-o-row-then-room-2 : goal.offset_bounds-o-row-then-room-2
-offset_bounds-o-row-then-room-2 c = let b = (visited (goal.at.offset_bounds-o-row-then-room-2 c).Then-not-visit) in search rules
-
-pub bounds-o-row-then-room-2 : goal.bounds-o-row-then-room-2
-bounds-o-row-then-room-2 c = let b = (visited (goal.at.bounds-o-row-then-room-2 c).Then-not-visit) in let z = c.loop-room.invariant.posting.sized.heads in search rules
-
-pub offset_bounds-o-row-then-room-3 : goal.offset_bounds-o-row-then-room-3
-offset_bounds-o-row-then-room-3 c = let b = (visited (goal.at.offset_bounds-o-row-then-room-3 c).Then-not-visit) in search rules
-
-pub bounds-o-row-then-room-3 : goal.bounds-o-row-then-room-3
-bounds-o-row-then-room-3 c = let b = (visited (goal.at.bounds-o-row-then-room-3 c).Then-not-visit) in let z = c.loop-room.invariant.posting.sized.counts in search rules
-
-pub one_less-requires : goal.one_less-requires
-one_less-requires c = let b = (visited (goal.at.one_less-requires c).Then-not-visit) in (b.to_low, omega (arith, b.to_high), waits-still {all = posts_left c.receive-step.result.posts c.receive-step.result.backs} (finding (goal.at.one_less-requires c).After-place_at-then-not-visit) c.loop-room.invariant.posting)
-
-pub offset_bounds-o-row-then-room-4 : goal.offset_bounds-o-row-then-room-4
-offset_bounds-o-row-then-room-4 c = let b = (visited (goal.at.offset_bounds-o-row-then-room-4 c).Then-not-visit) in search rules
-
-pub bounds-o-row-then-room-4 : goal.bounds-o-row-then-room-4
-bounds-o-row-then-room-4 c = let b = (visited (goal.at.bounds-o-row-then-room-4 c).Then-not-visit) in let z = c.loop-room.invariant.posting.sized.counts in search rules
-
-pub offset_bounds-o-at-then-room-2 : goal.offset_bounds-o-at-then-room-2
-offset_bounds-o-at-then-room-2 c = let b = (visited (goal.at.offset_bounds-o-at-then-room-2 c).Then-not-visit) in search rules
-
-pub bounds-o-at-then-room-2 : goal.bounds-o-at-then-room-2
-bounds-o-at-then-room-2 c = let b = (visited (goal.at.bounds-o-at-then-room-2 c).Then-not-visit) in let z = c.loop-room.invariant.posting.sized.agents in search rules
-
-pub offset_bounds-bars-at-then-room : goal.offset_bounds-bars-at-then-room
-offset_bounds-bars-at-then-room c = let b = (visited (goal.at.offset_bounds-bars-at-then-room c).Then-not-visit) in search rules
-
-pub bounds-bars-at-then-room : goal.bounds-bars-at-then-room
-bounds-bars-at-then-room c = let b = (visited (goal.at.bounds-bars-at-then-room c).Then-not-visit) in let z = (bars-now (goal.at.bounds-bars-at-then-room c).Joined-not-has).0 in search rules
+pub visits-init : goal.visits-init
+visits-init c = c.rounds.invariant
 
 pub next_visit-requires : goal.next_visit-requires
-next_visit-requires c = (c.next_visit-visit.ensures.high, c.loop-to.invariant.0.agents)
+next_visit-requires c = (c.visits.invariant.0.high, c.visits.invariant.0.agents)
 
-pub loop-to-smaller-then-step : goal.loop-to-smaller-then-step
-loop-to-smaller-then-step c = none-less _ _ _ c.next_visit-visit.ensures (not-true _ c.if-not-visit.true)
+pub overflow_sub-at : goal.overflow_sub-at
+overflow_sub-at c = (visited (goal.at.overflow_sub-at c).In-Some-next_visit).to_low
 
-pub loop-to-preserved-then-step : goal.loop-to-preserved-then-step
-loop-to-preserved-then-step c = (passes-all (gone (goal.at.loop-to-preserved-then-step c).After-barred-1) c.next_visit.result c.next_visit.ensures c.if-step.true, λ _. ahead_none c.loop-to.quota c.if-sweep.n c.if-sweep.n 0 refl (omega arith))
+pub overflow_sub-row : goal.overflow_sub-row
+overflow_sub-row c = (visited (goal.at.overflow_sub-row c).In-Some-next_visit).from_low
 
-pub loop-to-smaller-else-step : goal.loop-to-smaller-else-step
-loop-to-smaller-else-step c = visit-less _ _ _ c.next_visit-visit.ensures (not-true _ c.if-not-visit.true)
+pub digit-head-requires : goal.digit-head-requires
+digit-head-requires c = let b = (visited (goal.at.digit-head-requires c).In-Some-next_visit) in (b.to_low, omega (arith, b.to_high))
 
-pub loop-to-preserved-else-step : goal.loop-to-preserved-else-step
-loop-to-preserved-else-step c = ((gone (goal.at.loop-to-preserved-else-step c).After-barred-1), λ t. absurd (false≢true (sym c.if-step.false ∙ t)))
+pub has-requires : goal.has-requires
+has-requires c = let b = (visited (goal.at.has-requires c).In-Some-next_visit) in (b.to_low, omega (arith, b.to_high))
+
+pub add-ready-requires : goal.add-ready-requires
+add-ready-requires c = let b = (visited (goal.at.add-ready-requires c).In-Some-next_visit) in (b.to_low, omega (arith, b.to_high))
+
+pub digit-requires-in-Some-next_visit : goal.digit-requires-in-Some-next_visit
+digit-requires-in-Some-next_visit c = let b = (visited (goal.at.digit-requires-in-Some-next_visit c).In-Some-next_visit) in (b.to_low, omega (arith, b.to_high))
+
+pub channel_at-requires : goal.channel_at-requires
+channel_at-requires c = line-channel c.visits.invariant.0 c.in-Some-next_visit.visit c.in-Some-next_visit.ensures
+
+pub bounds-o-at : goal.bounds-o-at
+bounds-o-at c = let b = (visited (goal.at.bounds-o-at c).In-Some-next_visit) in let z = c.visits.invariant.0.sized.agents in search rules
+
+pub words_before-words-requires : goal.words_before-words-requires
+words_before-words-requires c = let b = (visited (goal.at.words_before-words-requires c).In-Some-next_visit) in (b.to_low, b.to_high)
+
+pub bounds-domains-at : goal.bounds-domains-at
+bounds-domains-at c = let b = (visited (goal.at.bounds-domains-at c).In-Some-next_visit) in search rules
+
+pub slice_bounds-mine-end : goal.slice_bounds-mine-end
+slice_bounds-mine-end c = let b = (visited (goal.at.slice_bounds-mine-end c).In-Some-next_visit) in let w : length c.args.r.bans ≡ 66 = rw c.visits.invariant.0.live.table c.visits.invariant.0.sized.bans in search rules
+
+pub of-requires-clause-able : goal.of-requires-clause-able
+of-requires-clause-able c = (bars-ask (finding (goal.at.of-requires-clause-able c).After-place_at) no_agent _ _ c.words_before-words.result c.visits.invariant.0.live.owned c.visits.invariant.0.live.table c.words_before-words.ensures.0).0
+
+pub of-requires-clause-view_fits : goal.of-requires-clause-view_fits
+unfolding assigned
+of-requires-clause-view_fits c = (bars-ask (finding (goal.at.of-requires-clause-view_fits c).After-place_at) no_agent _ _ c.words_before-words.result c.visits.invariant.0.live.owned c.visits.invariant.0.live.table c.words_before-words.ensures.0).1
+
+pub bounds-bars-at : goal.bounds-bars-at
+bounds-bars-at c = let b = (visited (goal.at.bounds-bars-at c).In-Some-next_visit) in let z = c.visits.invariant.0.live.beside in search rules
+
+pub bounds-bars-at-in-Some-next_visit : goal.bounds-bars-at-in-Some-next_visit
+bounds-bars-at-in-Some-next_visit c = let b = (visited (goal.at.bounds-bars-at-in-Some-next_visit c).In-Some-next_visit) in let z = (bars-now (goal.at.bounds-bars-at-in-Some-next_visit c).Joined-not-has).0 in search rules
+
+pub receive-step-requires-clause-able : goal.receive-step-requires-clause-able
+receive-step-requires-clause-able c = (step-asks (finding (goal.at.receive-step-requires-clause-able c).After-place_at) no_agent _ _ c.words_before-words.result c.visits.invariant.0.live.owned c.visits.invariant.0.live.table c.words_before-words.ensures.0).0
+
+pub receive-step-requires-clause-record_fits : goal.receive-step-requires-clause-record_fits
+receive-step-requires-clause-record_fits c = (step-asks (finding (goal.at.receive-step-requires-clause-record_fits c).After-place_at) no_agent _ _ c.words_before-words.result c.visits.invariant.0.live.owned c.visits.invariant.0.live.table c.words_before-words.ensures.0).1.0
+
+pub receive-step-requires-clause-message_fits : goal.receive-step-requires-clause-message_fits
+receive-step-requires-clause-message_fits c = (step-asks (finding (goal.at.receive-step-requires-clause-message_fits c).After-place_at) no_agent _ _ c.words_before-words.result c.visits.invariant.0.live.owned c.visits.invariant.0.live.table c.words_before-words.ensures.0).1.1
+
+pub receive-step-requires-clause-barring : goal.receive-step-requires-clause-barring
+receive-step-requires-clause-barring c = (bars-now (goal.at.receive-step-requires-clause-barring c).Joined-not-has).2
+
+pub bounds-o-at-in-Some-next_visit : goal.bounds-o-at-in-Some-next_visit
+bounds-o-at-in-Some-next_visit c = let b = (visited (goal.at.bounds-o-at-in-Some-next_visit c).In-Some-next_visit) in let z = c.visits.invariant.0.sized.counts in search rules
+
+pub posts-init : goal.posts-init
+posts-init c =
+    (rw (ap letters_left c.into_iter-post-iterator.ensures.into_iter_gives) (storing (stepped (goal.at.posts-init c).After-receive-step)), refl, refl)
+
+pub digit-waiting-requires : goal.digit-waiting-requires
+digit-waiting-requires c = let b = turn-ends c.posts.invariant.0 c.in-Some-post.post c.in-Some-post.ensures.steps in (b.to_low, omega (arith, b.to_high))
 
 pub with_digit-rest-requires : goal.with_digit-rest-requires
-with_digit-rest-requires c = let b = (visited (goal.at.with_digit-rest-requires c).Then-not-visit) in (b.to_low, omega (arith, b.to_high), omega arith)
+with_digit-rest-requires c = let b = (visited (goal.at.with_digit-rest-requires c).In-Some-next_visit) in (b.to_low, omega (arith, b.to_high), omega arith)
 
-pub loop-to-smaller-else-room : goal.loop-to-smaller-else-room
-loop-to-smaller-else-room c = let b = (visited (goal.at.loop-to-smaller-else-room c).Then-not-visit) in passed-less _ _ _ c.next_visit-visit.ensures (not-true _ c.if-not-visit.true) b.to_low (omega (arith, b.to_high)) _ (passed (goal.at.loop-to-smaller-else-room c).After-with_digit-rest)
+pub visits-smaller-then-waiting-ge8 : goal.visits-smaller-then-waiting-ge8
+visits-smaller-then-waiting-ge8 c = let b = (visited (goal.at.visits-smaller-then-waiting-ge8 c).In-Some-next_visit) in passed-less _ _ c.in-Some-next_visit.ensures b.to_low (omega (arith, b.to_high)) _ (rw c.posts.invariant.1 at c.with_digit-rest.ensures)
 
-pub loop-to-preserved-else-room : goal.loop-to-preserved-else-room
-loop-to-preserved-else-room c =
-    let stepped : Stepped c.loop-to.o c.next_visit-visit.result.from c.next_visit-visit.result.to c.place_at-then-not-visit.result c.receive-step.result =
-    steps (finding (goal.at.loop-to-preserved-else-room c).After-place_at-then-not-visit) no_agent _ _ c.words_before-words.result (alive (goal.at.loop-to-preserved-else-room c).Then-not-visit).owned (alive (goal.at.loop-to-preserved-else-room c).Then-not-visit).table c.words_before-words.ensures.0 c.receive-step.result c.receive-step.ensures in
-    let q = (bars-now (goal.at.loop-to-preserved-else-room c).Joined-not-has) in (
-      stored-jams c.loop-to.invariant.0 c.next_visit-visit.result c.next_visit-visit.ensures (not-true _ c.if-not-visit.true) (going (goal.at.loop-to-preserved-else-room c).Then-not-visit) c.if-not-has.bars c.if-not-has.ready q.0 q.1 stepped c.loop-room.invariant c.if-room.false (passed (goal.at.loop-to-preserved-else-room c).After-with_digit-rest),
-      λ t. absurd (false≢true (sym (going (goal.at.loop-to-preserved-else-room c).Then-not-visit) ∙ sym c.loop-room.invariant.posting.kept.verdict ∙ t)),
+pub visits-preserved-then-waiting-ge8 : goal.visits-preserved-then-waiting-ge8
+visits-preserved-then-waiting-ge8 c =
+    let q = bars-now (goal.at.visits-preserved-then-waiting-ge8 c).Joined-not-has in
+    let none = going (goal.at.visits-preserved-then-waiting-ge8 c).In-Some-next_visit in (
+      stored-jams c.visits.invariant.0 c.in-Some-next_visit.visit c.in-Some-next_visit.ensures none c.if-not-has.bars c.if-not-has.ready q.0 q.1 (stepped (goal.at.visits-preserved-then-waiting-ge8 c).After-receive-step) (rw (ap letters_left c.into_iter-post-iterator.ensures.into_iter_gives) at c.posts.invariant.0)
+          (turn-full (rw (ap letters_left c.into_iter-post-iterator.ensures.into_iter_gives) at c.posts.invariant.0) c.in-Some-post.post c.in-Some-post.ensures.steps _ c.digit-waiting.ensures.0 c.if-waiting-ge8.true) (rw c.posts.invariant.1 at c.with_digit-rest.ensures),
+      λ t. absurd (false≢true (sym none ∙ sym c.posts.invariant.0.kept.verdict ∙ t)),
     )
 
-pub overflow_add-made : goal.overflow_add-made
-overflow_add-made c = let f = c.loop-to.invariant.0.few in search rules
+pub channel_at-requires-in-posts : goal.channel_at-requires-in-posts
+channel_at-requires-in-posts c = turn-line c.posts.invariant.0 c.in-Some-post.post c.in-Some-post.ensures.steps
 
-pub waits-waits-requires : goal.waits-waits-requires
-waits-waits-requires c = c.loop-to.invariant.0.agents
+pub bounds-o-at-in-posts : goal.bounds-o-at-in-posts
+bounds-o-at-in-posts c = let b = (visited (goal.at.bounds-o-at-in-posts c).In-Some-next_visit) in let z = c.posts.invariant.0.sized.heads in search rules
 
-pub returns-then-once-number : goal.returns-then-once-number
-returns-then-once-number c =
-    let clean : Rows c.args.r.counts c.cleaned-rows.result =
-    record { width = c.cleaned-rows.ensures.0; held = c.cleaned-rows.ensures.1 } in
-    let began : Began c.args.once c.args.sender c.args.receiver c.args.r c.if-sweep.o c.if-sweep.n c.if-sweep.number c.if-sweep.from c.if-sweep.rest =
-    let shape = clean-shape c.args.r c.cleaned-rows.result clean _ (c.loop-sweep.invariant.going.ended (not-false _ c.loop-sweep-test.false)) in
-    elim c.if-sweep.branch [
-      | then-sweep+then-once+then-number-eq0 a ↦ found (shape ∙ a.if-sweep.true) a.if-once.true _ clean a.o-is a.n-is _ a.tested-number.ensures a.if-number-eq0.true a.number-is a.from-is (ap assignment a.rest-is ∙ a.one_more-rest.ensures)
-      | then-sweep+then-once+else-number-eq0 a ↦ refused (shape ∙ a.if-sweep.true) a.if-once.true _ clean a.o-is a.n-is (a.number-is ∙ a.tested-number.ensures) (λ z. a.if-number-eq0.false (sym a.number-is ∙ z)) a.from-is a.rest-is
-      | then-sweep+else-once a ↦ running (shape ∙ a.if-sweep.true) a.if-once.false _ clean a.o-is a.n-is a.number-is a.from-is a.rest-is
-      | else-sweep a ↦ broken (shape ∙ a.if-sweep.false) a.o-is a.n-is a.number-is a.from-is a.rest-is
+pub digit-requires : goal.digit-requires
+digit-requires c = let b = turn-ends c.posts.invariant.0 c.in-Some-post.post c.in-Some-post.ensures.steps in (b.to_low, omega (arith, b.to_high))
+
+pub one_more-now-requires : goal.one_more-now-requires
+one_more-now-requires c = let b = turn-ends c.posts.invariant.0 c.in-Some-post.post c.in-Some-post.ensures.steps in (b.to_low, omega (arith, b.to_high), omega (arith, c.digit-waiting.ensures.0, c.if-waiting-ge8.false))
+
+pub posts-preserved : goal.posts-preserved
+posts-preserved c = (
+  turn-stores c.posts.invariant.0 c.in-Some-post.post c.in-Some-post.ensures.steps
+      (record {
+        channel = c.channel_at-in-posts.ensures.0;
+        head = rw c.posts.invariant.0.kept.heads at c.digit.ensures.0;
+        waiting = c.digit-waiting.ensures.0;
+        place = c.place_at-end.ensures.0;
+        next = c.one_more-now.ensures;
+      })
+      c.if-waiting-ge8.false,
+  c.posts.invariant.1,
+  c.posts.invariant.2,
+)
+
+pub bounds-o-at-in-Some-next_visit-2 : goal.bounds-o-at-in-Some-next_visit-2
+bounds-o-at-in-Some-next_visit-2 c = let b = (visited (goal.at.bounds-o-at-in-Some-next_visit-2 c).In-Some-next_visit) in let z = c.posts.invariant.0.sized.counts in search rules
+
+pub with_digit-requires : goal.with_digit-requires
+with_digit-requires c = let b = (visited (goal.at.with_digit-requires c).In-Some-next_visit) in (b.to_low, omega (arith, b.to_high), omega arith)
+
+pub one_less-requires : goal.one_less-requires
+one_less-requires c = let b = (visited (goal.at.one_less-requires c).In-Some-next_visit) in (b.to_low, omega (arith, b.to_high), waits-still (finding (goal.at.one_less-requires c).After-place_at) c.posts.invariant.0)
+
+pub bounds-o-at-in-Some-next_visit-3 : goal.bounds-o-at-in-Some-next_visit-3
+bounds-o-at-in-Some-next_visit-3 c = let b = (visited (goal.at.bounds-o-at-in-Some-next_visit-3 c).In-Some-next_visit) in let z = c.posts.invariant.0.sized.agents in search rules
+
+pub bounds-bars-at-in-Some-next_visit-2 : goal.bounds-bars-at-in-Some-next_visit-2
+bounds-bars-at-in-Some-next_visit-2 c = let b = (visited (goal.at.bounds-bars-at-in-Some-next_visit-2 c).In-Some-next_visit) in let z = (bars-now (goal.at.bounds-bars-at-in-Some-next_visit-2 c).Joined-not-has).0 in search rules
+
+pub visits-smaller-then-step : goal.visits-smaller-then-step
+visits-smaller-then-step c = none-less _ _ c.in-Some-next_visit.ensures
+
+pub visits-preserved-then-step : goal.visits-preserved-then-step
+visits-preserved-then-step c = (passes-all (let at = goal.at.visits-preserved-then-step c in let q = bars-now at.Joined-not-has in gone at.After-one_less (q.0, q.1) (stepped at.After-receive-step)) c.next_visit-then-step.result c.next_visit-then-step.ensures c.is_some.result c.is_some.ensures c.if-step.true, λ _. ahead_none c.rounds.quota c.args.r.count c.args.r.count 0 refl (omega arith))
+
+pub visits-smaller : goal.visits-smaller
+visits-smaller c = rw c.posts.invariant.1 (visit-less _ _ c.in-Some-next_visit.ensures)
+
+pub visits-preserved : goal.visits-preserved
+visits-preserved c = ((let at = goal.at.visits-preserved c in let q = bars-now at.Joined-not-has in gone at.After-one_less (q.0, q.1) (stepped at.After-receive-step)), λ t. absurd (false≢true (sym c.if-step.false ∙ t)))
+
+pub returns-after-not-once : goal.returns-after-not-once
+returns-after-not-once c =
+    let stop : Stop c.visits.o.verdict c.visits.stuck c.waits-waits.result c.rounds.left =
+    elim c.then-o.branch [
+      | then-o-via-then-o a ↦ verdict-stands a.if-o.true
+      | then-o-via-else-o+then-stuck a ↦ round-stuck a.if-stuck.true
+      | then-o-via-else-o+else-stuck+then-not-waits a ↦ nothing-waits a.if-not-waits.true
+      | then-o-via-else-o+else-stuck+else-not-waits+then-left-eq0 a ↦ rounds-used a.if-left-eq0.true
     ] in
-    let counted : c.if-not-missed.made ≡ c.loop-to.made + one_if (not c.loop-to.missed) =
-    elim c.if-not-missed.branch [
-      | then-not-missed a ↦ one_more c.loop-to.made c.if-not-missed.made c.loop-to.missed (ap not a.if-not-missed.true) a.made-is
-      | else-not-missed a ↦ no_more c.loop-to.made c.if-not-missed.made c.loop-to.missed (ap not a.if-not-missed.false) a.made-is
+    let told : refused_number c.if-once-2.refusal ≡ cond (c.args.once && c.visits.stuck) 10 0 =
+    elim c.if-once-2.branch [
+      | then-once-2+then-stuck-2 a ↦ ap refused_number a.refusal-is ∙ told-ten a.if-once-2.true a.if-stuck-2.true
+      | else-once-2 a ↦ ap refused_number a.refusal-is ∙ elim a.else-once-2.branch [
+        | else-once-2-via-then-once-2+else-stuck-2 b ↦ told-goes c.args.once b.if-stuck-2.false
+        | else-once-2-via-else-once-2 b ↦ told-run c.visits.stuck b.if-once-2.false
+      ]
     ] in
-    let w = work-stops c.loop-to.invariant.0 c.next_visit-visit.result c.next_visit-visit.ensures (not-false _ c.if-not-visit.false) _ counted _ c.waits-waits.ensures c.if-o-number.true _ c.ending_at-ending.ensures 0 (inl (c.if-once-number.true, refl)) in
+    let jam : c.if-not-once.ending_at ≡ not c.args.once && c.visits.stuck =
+    elim c.if-not-once.branch [
+      | then-not-once a ↦ a.ending_at-is ∙ jams-run c.visits.stuck a.if-not-once.true
+      | else-not-once a ↦ a.ending_at-is ∙ jams-never c.visits.stuck a.if-not-once.false
+    ] in
     record {
-      works_as = rw (← began-network began) w;
-      network_value = λ e. absurd (omega arith);
+      works_as =
+          work-stops c.visits.invariant.0 c.in_default-next_visit.ensures _ (counted (goal.at.returns-after-not-once c).Joined-not-missed) _ c.waits-waits.ensures stop _ c.if-once-2.refusal
+          (c.ending_at-then-o.ensures ∙ ap (λ (b : Bool). ends_by false c.visits.o.verdict (not c.waits-waits.result) (cond b 10 0)) jam) told;
+      network_value = λ e. absurd (told-not-five (c.args.once && c.visits.stuck) told e);
     }
 
-pub returns-else-once-number : goal.returns-else-once-number
-returns-else-once-number c =
-    let clean : Rows c.args.r.counts c.cleaned-rows.result =
-    record { width = c.cleaned-rows.ensures.0; held = c.cleaned-rows.ensures.1 } in
-    let began : Began c.args.once c.args.sender c.args.receiver c.args.r c.if-sweep.o c.if-sweep.n c.if-sweep.number c.if-sweep.from c.if-sweep.rest =
-    let shape = clean-shape c.args.r c.cleaned-rows.result clean _ (c.loop-sweep.invariant.going.ended (not-false _ c.loop-sweep-test.false)) in
-    elim c.if-sweep.branch [
-      | then-sweep+then-once+then-number-eq0 a ↦ found (shape ∙ a.if-sweep.true) a.if-once.true _ clean a.o-is a.n-is _ a.tested-number.ensures a.if-number-eq0.true a.number-is a.from-is (ap assignment a.rest-is ∙ a.one_more-rest.ensures)
-      | then-sweep+then-once+else-number-eq0 a ↦ refused (shape ∙ a.if-sweep.true) a.if-once.true _ clean a.o-is a.n-is (a.number-is ∙ a.tested-number.ensures) (λ z. a.if-number-eq0.false (sym a.number-is ∙ z)) a.from-is a.rest-is
-      | then-sweep+else-once a ↦ running (shape ∙ a.if-sweep.true) a.if-once.false _ clean a.o-is a.n-is a.number-is a.from-is a.rest-is
-      | else-sweep a ↦ broken (shape ∙ a.if-sweep.false) a.o-is a.n-is a.number-is a.from-is a.rest-is
-    ] in
-    let counted : c.if-not-missed.made ≡ c.loop-to.made + one_if (not c.loop-to.missed) =
-    elim c.if-not-missed.branch [
-      | then-not-missed a ↦ one_more c.loop-to.made c.if-not-missed.made c.loop-to.missed (ap not a.if-not-missed.true) a.made-is
-      | else-not-missed a ↦ no_more c.loop-to.made c.if-not-missed.made c.loop-to.missed (ap not a.if-not-missed.false) a.made-is
-    ] in
-    let w = work-stops c.loop-to.invariant.0 c.next_visit-visit.result c.next_visit-visit.ensures (not-false _ c.if-not-visit.false) _ counted _ c.waits-waits.ensures c.if-o-number.true _ c.ending_at-ending.ensures _ (inr (c.if-once-number.false, refl)) in
-    record {
-      works_as = rw (← began-network began) w;
-      network_value = λ e. let u = stops-untouched c.loop-to.invariant.0 c.next_visit-visit.result c.next_visit-visit.ensures (not-false _ c.if-not-visit.false) _ counted _ c.waits-waits.ensures c.if-o-number.true _ c.ending_at-ending.ensures _ (inr (c.if-once-number.false, refl)) e in u.0 ∙ began-untouched began u.1;
-    }
-
-pub overflow_sub-left : goal.overflow_sub-left
-overflow_sub-left c =
-    let counted : c.if-not-missed.made ≡ c.loop-to.made + one_if (not c.loop-to.missed) =
-    elim c.if-not-missed.branch [
-      | then-not-missed a ↦ one_more c.loop-to.made c.if-not-missed.made c.loop-to.missed (ap not a.if-not-missed.true) a.made-is
-      | else-not-missed a ↦ no_more c.loop-to.made c.if-not-missed.made c.loop-to.missed (ap not a.if-not-missed.false) a.made-is
-    ] in
-    let f = round-left c.loop-to.invariant.0 c.next_visit-visit.result c.next_visit-visit.ensures (not-false _ c.if-not-visit.false) _ counted _ c.waits-waits.ensures c.if-o-number.false in search rules
-
-pub loop-to-smaller : goal.loop-to-smaller
-loop-to-smaller c =
-    let counted : c.if-not-missed.made ≡ c.loop-to.made + one_if (not c.loop-to.missed) =
-    elim c.if-not-missed.branch [
-      | then-not-missed a ↦ one_more c.loop-to.made c.if-not-missed.made c.loop-to.missed (ap not a.if-not-missed.true) a.made-is
-      | else-not-missed a ↦ no_more c.loop-to.made c.if-not-missed.made c.loop-to.missed (ap not a.if-not-missed.false) a.made-is
-    ] in
-    round-less _ _ _ _ _ (round-left c.loop-to.invariant.0 c.next_visit-visit.result c.next_visit-visit.ensures (not-false _ c.if-not-visit.false) _ counted _ c.waits-waits.ensures c.if-o-number.false) c.loop-to.invariant.0.agents
-
-pub loop-to-preserved : goal.loop-to-preserved
-loop-to-preserved c =
-    let counted : c.if-not-missed.made ≡ c.loop-to.made + one_if (not c.loop-to.missed) =
-    elim c.if-not-missed.branch [
-      | then-not-missed a ↦ one_more c.loop-to.made c.if-not-missed.made c.loop-to.missed (ap not a.if-not-missed.true) a.made-is
-      | else-not-missed a ↦ no_more c.loop-to.made c.if-not-missed.made c.loop-to.missed (ap not a.if-not-missed.false) a.made-is
-    ] in (
-      round-begins c.loop-to.invariant.0 c.next_visit-visit.result c.next_visit-visit.ensures (not-false _ c.if-not-visit.false) _ counted _ c.waits-waits.ensures c.if-o-number.false,
-      round-settled c.loop-to.invariant.0 c.next_visit-visit.result c.next_visit-visit.ensures (not-false _ c.if-not-visit.false) _ counted _ c.waits-waits.ensures c.if-o-number.false,
+pub rounds-preserved : goal.rounds-preserved
+rounds-preserved c =
+    let made = counted (goal.at.rounds-preserved c).Joined-not-missed in (
+      round-begins c.visits.invariant.0 c.in_default-next_visit.ensures _ made _ c.waits-waits.ensures c.if-o.false c.if-stuck.false c.if-not-waits.false c.if-left-eq0.false,
+      round-settled c.visits.invariant.0 c.in_default-next_visit.ensures _ made _ c.waits-waits.ensures c.if-o.false c.if-stuck.false c.if-not-waits.false c.if-left-eq0.false,
     )

@@ -3,10 +3,10 @@ use mathlib.Core.Path.{refl}
 use Rattle.image_reader.proofs.Candidates.{near-all, candidate-is}
 use Rattle.image_reader.proofs.candidate.Goals as goal
 
-pub places-filled-requires : goal.places-filled-requires
-places-filled-requires c = near-all c.args.s.now _ c.laid_out-layout.result c.laid_out-layout.ensures
+pub places-requires : goal.places-requires
+places-requires c = near-all c.args.s.now _ c.laid_out-lines.result c.laid_out-lines.ensures
 
 pub returns : goal.returns
 returns c =
-    candidate-is _ c.args.s.now _ c.laid_out-layout.result c.laid_out-layout.ensures refl c.rows.ensures c.places-filled.ensures
-    refl refl c.domains.ensures c.bans.ensures refl refl c.agents-held.ensures
+    candidate-is _ c.args.s.now _ c.laid_out-lines.result c.laid_out-lines.ensures refl c.rows.ensures c.places.ensures
+    refl refl c.domains.ensures c.bans.ensures refl refl c.agents.ensures

@@ -3,21 +3,16 @@ use mathlib.Core.Path.{refl, sym, ap, ap₂, ◌∙◌}
 use mathlib.Core.Bool.{◌&&◌}
 use mathlib.Core.List.{List}
 use Prim.Native.Nat.{ℕ}
-use lib.Seq.{length-take-le}
 use Rattle.base.specs.Same.{same_numbers}
+use Rattle.network.specs.Abstract.{network_of}
+use Rattle.image_reader.proofs.Comparing.{pointwise_same}
 use Rattle.image_reader.proofs.Written.{not_written, is-written}
 use Rattle.image_reader.proofs.is_image.Goals as goal
 
-pub returns-then-w-ne0 : goal.returns-then-w-ne0
-returns-then-w-ne0 c = sym (not_written _ _ _ c.store-w.result refl c.store-w.ensures.out_after c.if-w-ne0.true c.args.s.now)
+pub returns-in-Ok : goal.returns-in-Ok
+returns-in-Ok c =
+    let w = is-written _ _ _ refl c.in-Ok.length c.in-Ok.ensures.out_after in
+    c.eq.ensures ∙ pointwise_same _ _ ∙ sym (ap₂ ◌&&◌ w.0 (ap (λ (l : List ℕ). same_numbers l c.args.s.now) (sym w.2)))
 
-pub slice_bounds-buffer-end : goal.slice_bounds-buffer-end
-slice_bounds-buffer-end c = (is-written _ _ _ c.store-w.result refl c.store-w.ensures.out_after c.if-w-ne0.false).1
-
-pub slice_bounds-same-end : goal.slice_bounds-same-end
-slice_bounds-same-end c = sym (length-take-le _ _ (is-written _ _ _ c.store-w.result refl c.store-w.ensures.out_after c.if-w-ne0.false).1)
-
-pub returns : goal.returns
-returns c =
-    let w = is-written _ _ _ c.store-w.result refl c.store-w.ensures.out_after c.if-w-ne0.false in
-    c.same.ensures ∙ sym (ap₂ ◌&&◌ w.0 (ap (λ (l : List ℕ). same_numbers l c.args.s.now) (sym w.2)))
+pub returns-in-Err : goal.returns-in-Err
+returns-in-Err c = let n = not_written (network_of c.args.r) _ c.store.new.out refl _ c.in-Err.ensures.out_after in rw n refl

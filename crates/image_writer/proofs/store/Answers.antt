@@ -1,81 +1,50 @@
 -- `store` answers and writes as the definition says.
 -- The parts of the image are put one behind the other, where all of them have room.
-use mathlib.Core.Path.{refl, sym, ◌∙◌}
-use Prim.Native.Nat.{◌≤◌}
+use mathlib.Core.Path.{sym, ◌∙◌}
+use Prim.Native.Nat.{◌+◌, ◌*◌}
+use mathlib.Core.Path.{◌≡◌}
 use native.Mathlib.Omega.{arith}
 use lib.ListN.{length}
-use borrow.Author.Rules.{rules}
+use Rattle.std.proofs.Common.{Ok}
 use Rattle.lent.specs.Abstract.{written_of}
 use Rattle.lent.proofs.Within.{counted}
 use Rattle.network.specs.Abstract.{problem_of, network_of}
 use Rattle.network_laws.proofs.Stepping.{few-agents}
 use Rattle.image_format.specs.Image.{image}
 use Rattle.image_forms.specs.Forms.{First, image_in}
-use Rattle.image_writer.proofs.Puts.{puts_then, puts-as}
-use Rattle.image_writer.proofs.Stored.{stores-broken, stores-short, stores, store-within, image-long, header-put}
+use Rattle.image_writer.proofs.Stored.{stores-broken, stores-short, stores, store-within, image_long}
 use Rattle.image_writer.proofs.store.Goals as goal
 
-pub returns-then-not-in_shape : goal.returns-then-not-in_shape
+pub returns-then-not-is_in_shape-clause-out_after : goal.returns-then-not-is_in_shape-clause-out_after
 unfolding written_of
-returns-then-not-in_shape c =
+returns-then-not-is_in_shape-clause-out_after c =
     let a = c.args in
-    let w = network_of a.r in
-    let e = sym (stores-broken First w a.out.now (sym c.in_shape.ensures ∙ c.if-not-in_shape.true)) in
-    record {
-      out_after = e;
-      length_in_bounds = counted _ _ e (store-within First w a.out.now);
-    }
+    sym (stores-broken First (network_of a.r) a.out.now (sym c.is_in_shape.ensures ∙ c.if-not-is_in_shape.true))
 
-pub returns-then-out-length : goal.returns-then-out-length
+pub returns-then-out-length-clause-out_after : goal.returns-then-out-length-clause-out_after
 unfolding written_of image_in network_of problem_of
-returns-then-out-length c =
+returns-then-out-length-clause-out_after c =
     let a = c.args in
     let w = network_of a.r in
-    let shape = sym c.in_shape.ensures ∙ c.if-not-in_shape.false in
-    let held = c.waiting.ensures.0 a.r refl in
-    let e = sym (stores-short First w a.out.now shape (omega (arith, c.if-out-length.true, held, image-long w))) in
-    record {
-      out_after = e;
-      length_in_bounds = counted _ _ e (store-within First w a.out.now);
-    }
+    let shape = sym c.is_in_shape.ensures ∙ c.if-not-is_in_shape.false in
+    sym (stores-short First w a.out.now shape (omega (arith, c.if-out-length.true, c.waiting.ensures.0, image_long w)))
 
-pub put_agents-heads-requires : goal.put_agents-heads-requires
-unfolding problem_of
-put_agents-heads-requires c =
+pub put_image-requires : goal.put_image-requires
+unfolding network_of problem_of
+put_image-requires c =
     let r = c.args.r in
-    let bans = c.put_bans-agents.ensures (problem_of r) refl in
-    let shape = sym c.in_shape.ensures ∙ c.if-not-in_shape.false in
-    (few-agents r shape, omega (arith, bans.behind, c.put_header-bans.ensures.behind, c.if-out-length.false))
-
-pub put_heads-messages-requires : goal.put_heads-messages-requires
-unfolding problem_of
-put_heads-messages-requires c =
-    let r = c.args.r in
-    let bans = c.put_bans-agents.ensures (problem_of r) refl in
-    omega (arith, c.put_agents-heads.ensures.behind, bans.behind, c.put_header-bans.ensures.behind, c.if-out-length.false)
-
-pub put_messages-requires : goal.put_messages-requires
-unfolding problem_of
-put_messages-requires c =
-    let r = c.args.r in
-    let heads = c.put_heads-messages.ensures r refl in
-    let bans = c.put_bans-agents.ensures (problem_of r) refl in
-    let held = c.waiting.ensures.0 r refl in
-    omega (arith, heads.behind, c.put_agents-heads.ensures.behind, bans.behind, c.put_header-bans.ensures.behind, held, c.if-out-length.false)
+    let shape = sym c.is_in_shape.ensures ∙ c.if-not-is_in_shape.false in
+    record { few = few-agents r shape; room = omega (arith, c.waiting.ensures.0, image_long (network_of r), c.if-out-length.false) }
 
 pub returns : goal.returns
-unfolding written_of image image_in network_of problem_of
+unfolding written_of image_in network_of problem_of
 returns c =
     let r = c.args.r in
     let w = network_of r in
-    let header = puts-as refl (header-put r (search rules)) c.put_header-bans.ensures in
-    let bans = c.put_bans-agents.ensures (problem_of r) refl in
-    let heads = c.put_heads-messages.ensures r refl in
-    let shape = sym c.in_shape.ensures ∙ c.if-not-in_shape.false in
-    let held = c.waiting.ensures.0 r refl in
-    let room : length (image w) ≤ length c.args.out.now = omega (arith, held, image-long w, c.if-out-length.false) in
-    let e = sym (stores First w c.args.out.now _ _ _ shape room (puts_then (puts_then (puts_then (puts_then header bans) c.put_agents-heads.ensures) heads) c.put_messages.ensures)) in
+    let shape = sym c.is_in_shape.ensures ∙ c.if-not-is_in_shape.false in
+    let long : length (image w) ≡ 808 + 170 * r.count + 16 * c.waiting.result = omega (arith, c.waiting.ensures.0, image_long w) in
+    let e = rw long at (sym (stores First w c.args.out.now _ shape (omega (arith, long, c.if-out-length.false)) c.put_image.ensures)) in
     record {
       out_after = e;
-      length_in_bounds = counted _ _ e (store-within First w c.args.out.now);
+      length_in_bounds = counted (Ok (808 + 170 * r.count + 16 * c.waiting.result)) c.put_image.new.out _ e (store-within First w c.args.out.now);
     }

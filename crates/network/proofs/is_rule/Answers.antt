@@ -1,9 +1,13 @@
 -- As it is written.
-use mathlib.Core.Path.{refl}
+use borrow.Author.Tests.{lt-ltb, le-ltb}
 use Rattle.base.specs.Finite.{within}
 use Rattle.protocol.specs.Network.{is_rule}
 use Rattle.network.proofs.is_rule.Goals as goal
 
-pub returns : goal.returns
+pub returns-then-rule-gt0 : goal.returns-then-rule-gt0
 unfolding is_rule within
-returns c = refl
+returns-then-rule-gt0 c = rw (lt-ltb 0 c.args.rule c.if-rule-gt0.true)
+
+pub returns-else-rule-gt0 : goal.returns-else-rule-gt0
+unfolding is_rule within
+returns-else-rule-gt0 c = rw (le-ltb 0 c.args.rule c.if-rule-gt0.false)

@@ -13,29 +13,23 @@ use Rattle.network.proofs.Asking.{ask-broken, ask-nobody, ask-agent, shape-count
 use borrow.Author.Rules.{rules}
 use Rattle.network.proofs.value.Goals as goal
 
-pub returns-then-not-in_shape : goal.returns-then-not-in_shape
+pub returns-then-not-is_in_shape : goal.returns-then-not-is_in_shape
 unfolding answer_number rejection_number
-returns-then-not-in_shape c =
-    let w = network_of c.args.r in
-    rw (ask-broken w c.args.i (sym c.in_shape.ensures ∙ c.if-not-in_shape.true)) (refl, refl)
-
-pub returns-then-i-eq0 : goal.returns-then-i-eq0
-unfolding answer_number rejection_number network_of problem_of
-returns-then-i-eq0 c = rw (ask-nobody (network_of c.args.r) c.args.i (sym c.in_shape.ensures ∙ c.if-not-in_shape.false) (not_within c.args.r.count c.args.i (λ l h. omega arith))) (refl, refl)
+returns-then-not-is_in_shape c = rw (ask-broken (network_of c.args.r) c.args.i (sym c.is_in_shape.ensures ∙ c.if-not-is_in_shape.true)) (refl, refl)
 
 pub returns-then-r-i : goal.returns-then-r-i
 unfolding answer_number rejection_number network_of problem_of
-returns-then-r-i c = rw (ask-nobody (network_of c.args.r) c.args.i (sym c.in_shape.ensures ∙ c.if-not-in_shape.false) (not_within c.args.r.count c.args.i (λ l h. omega arith))) (refl, refl)
+returns-then-r-i c = rw (ask-nobody (network_of c.args.r) c.args.i (sym c.is_in_shape.ensures ∙ c.if-not-is_in_shape.false) (not_within c.args.r.count c.args.i (λ l h. omega arith))) (refl, refl)
 
-pub bounds-r-at : goal.bounds-r-at
+pub bounds-r-i : goal.bounds-r-i
 unfolding network_of problem_of
-bounds-r-at c = omega (arith, shape-count (network_of c.args.r) (sym c.in_shape.ensures ∙ c.if-not-in_shape.false))
+bounds-r-i c = omega (arith, shape-count (network_of c.args.r) (sym c.is_in_shape.ensures ∙ c.if-not-is_in_shape.false))
 
-pub returns : goal.returns
+pub returns-else-r-i : goal.returns-else-r-i
 unfolding answer_number network_of problem_of
-returns c =
+returns-else-r-i c =
     let r = c.args.r in
-    let e : in_shape (network_of r) ≡ true = sym c.in_shape.ensures ∙ c.if-not-in_shape.false in
+    let e : in_shape (network_of r) ≡ true = sym c.is_in_shape.ensures ∙ c.if-not-is_in_shape.false in
     let n : length r.agents ≡ 12 = search rules in
     let m : r.count ≤ 12 = shape-count (network_of r) e in
     rw (ask-agent (network_of r) c.args.i e (to-within r.count c.args.i (omega arith) (omega arith)))

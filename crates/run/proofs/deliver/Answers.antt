@@ -1,28 +1,28 @@
--- One delivery is the work once; a rejected one hands back what was given.
-use mathlib.Core.Path.{refl}
+-- One delivery is the work once; a refused one hands back what was given.
+use mathlib.Core.Path.{refl, sym}
 use native.Mathlib.Omega.{arith}
-use Rattle.run.proofs.Delivering.{delivered, rejected, stood}
+use Rattle.run.proofs.Delivering.{delivered, rejected, stood, some-number, none-number}
 use Rattle.run.proofs.deliver.Goals as goal
 
-pub work-a-requires : goal.work-a-requires
-work-a-requires c =
+pub work-answer-requires : goal.work-answer-requires
+work-answer-requires c =
     record {
       allowed_bound = omega arith;
       allowed_value = λ _. refl;
     }
 
-pub returns-then-a-ne0 : goal.returns-then-a-ne0
-returns-then-a-ne0 c =
-    let w = c.work-a.ensures.works_as in
+pub returns-then-is_some : goal.returns-then-is_some
+returns-then-is_some c =
+    let w = c.work-answer.ensures.works_as in
     record {
-      delivers_as = rejected _ _ _ _ c.work-a.result w c.if-a-ne0.true;
-      rounds_value = stood _ _ _ _ c.work-a.result w;
+      delivers_as = rejected _ _ _ _ c.work-answer.result w (some-number _ (sym c.if-is_some.ensures));
+      rounds_value = stood _ _ _ _ c.work-answer.result w;
     }
 
-pub returns : goal.returns
-returns c =
-    let w = c.work-a.ensures.works_as in
+pub returns-else-is_some : goal.returns-else-is_some
+returns-else-is_some c =
+    let w = c.work-answer.ensures.works_as in
     record {
-      delivers_as = delivered _ _ _ _ c.work-a.result w c.if-a-ne0.false;
-      rounds_value = stood _ _ _ _ c.work-a.result w;
+      delivers_as = delivered _ _ _ _ c.work-answer.result w (none-number _ (sym c.if-is_some.ensures));
+      rounds_value = stood _ _ _ _ c.work-answer.result w;
     }

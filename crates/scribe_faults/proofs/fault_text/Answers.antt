@@ -8,7 +8,7 @@ use Rattle.scribe_faults.proofs.fault_text.Goals as goal
 pub returns : goal.returns
 unfolding fault_text line_word colon_word newline
 returns c = (
-  appends-then c.append-a.ensures (appends-then c.append_number-b.ensures.0 (appends-then c.append-c.ensures
-      (appends-then c.append_fault-d.ensures.words c.append.ensures))),
-  omega (arith, c.append-a.ensures.count, c.append_number-b.ensures.1, c.append-c.ensures.count, c.append_fault-d.ensures.few, c.append.ensures.count),
+  appends-then c.append-at.ensures (appends-then c.append_number-at.ensures.0 (appends-then c.append-at-2.ensures
+      (appends-then c.append_fault-at.ensures.words c.append.ensures))),
+  omega (arith, c.append-at.ensures.count, c.append_number-at.ensures.1, c.append-at-2.ensures.count, c.append_fault-at.ensures.few, c.append.ensures.count),
 )

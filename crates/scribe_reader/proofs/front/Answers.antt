@@ -1,9 +1,6 @@
--- The longest text, or all. Assumes nothing.
-use Rattle.scribe_reader.proofs.Answers.{front_long, front-whole}
+-- What is not longer is taken whole. Assumes nothing.
+use Rattle.scribe_reader.proofs.Walked.{front-is}
 use Rattle.scribe_reader.proofs.front.Goals as goal
 
-pub returns-then-n-gt1048576 : goal.returns-then-n-gt1048576
-returns-then-n-gt1048576 c = front_long _ c.if-n-gt1048576.true
-
 pub returns : goal.returns
-returns c = front-whole _ c.if-n-gt1048576.false
+returns c = front-is c.args.text.now _ c.min.ensures

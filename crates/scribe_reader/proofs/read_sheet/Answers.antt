@@ -1,15 +1,31 @@
--- What the lines come to at the end is what the text does. Assumes nothing.
-use mathlib.Core.Path.{sym}
-use lib.Seq.{length-take-le}
-use Rattle.scribe_reader.proofs.Answers.{front-short, answers-text}
-use borrow.Author.Rules.{rules}
+-- What the lines come to is what the text does. Assumes nothing.
+use mathlib.Core.Path.{ap, ◌∙◌}
+use Rattle.std.proofs.lemmas.Result.{err_from_is_err_and}
+use Rattle.scribe_rules.specs.Reading.{Outcome}
+use Rattle.scribe_reader.specs.Walking.{outcome_of, Wrote, due, read_of}
+use Rattle.scribe_reader.proofs.Walked.{text-comes}
 use Rattle.scribe_reader.proofs.read_sheet.Goals as goal
 
-pub slice_bounds-read_lines-end-2 : goal.slice_bounds-read_lines-end-2
-slice_bounds-read_lines-end-2 c = sym (length-take-le _ _ c.front-end.ensures.inside)
+pub returns-in_err-read_lines : goal.returns-in_err-read_lines
+unfolding outcome_of due read_of
+returns-in_err-read_lines c =
+    let p = err_from_is_err_and c.from_residual.result c.from_residual.ensures.1 in
+    rw (p.1, p.2)
+    (ap (λ (o : Outcome). due o c.args.out.now)
+    (text-comes c.args.text.now _ _ _ c.new-draft.ensures c.front.ensures.0 c.in_err-read_lines.ensures))
 
-pub read_lines-w-requires : goal.read_lines-w-requires
-read_lines-w-requires c = (search rules, front-short _ _ c.front-end.ensures)
+pub returns-in_err-length : goal.returns-in_err-length
+unfolding outcome_of due read_of
+returns-in_err-length c =
+    let p = err_from_is_err_and c.from_residual-in_err-length.result c.from_residual-in_err-length.ensures.1 in
+    rw (p.1, p.2)
+    (ap Wrote c.in_err-length.ensures
+    ∙ ap (λ (o : Outcome). due o c.args.out.now)
+    (text-comes c.args.text.now _ _ _ c.new-draft.ensures c.front.ensures.0 c.in_ok-read_lines.ensures))
 
 pub returns : goal.returns
-returns c = answers-text _ _ c.front-end.ensures _ c.is_long-cut.ensures _ _ _ _ _ c.read_lines-w.ensures.0 c.read_lines-w.ensures.1 c.answered.ensures
+unfolding outcome_of due read_of
+returns c =
+    ap Wrote c.in_ok-length.ensures
+    ∙ ap (λ (o : Outcome). due o c.args.out.now)
+    (text-comes c.args.text.now _ _ _ c.new-draft.ensures c.front.ensures.0 c.in_ok-read_lines.ensures)

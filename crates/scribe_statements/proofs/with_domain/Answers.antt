@@ -1,8 +1,30 @@
--- A place past the end changes nothing. Assumes nothing.
-use mathlib.Core.Path.{sym}
-use lib.Seq.{set_out}
-use borrow.Author.Rules.{rules}
+-- As many as there are places, each from 1 to 8. Assumes nothing.
+use mathlib.Core.Path.{sym, ap, ◌∙◌}
+use native.Mathlib.Omega.{arith}
+use Prim.Native.Nat.{ℕ}
+use lib.ListN.{set}
+use Rattle.std.specs.Prelude.{Some}
+use Rattle.base.proofs.Tests.{within-true}
+use Rattle.scribe_statements.proofs.Sayings.{domains-still, domains-many, domains-wrong, domains-one}
 use Rattle.scribe_statements.proofs.with_domain.Goals as goal
+use Rattle.scribe_statements.proofs.with_domain.Goals.{then-at-ge12-via-then-at-ge12, then-at-ge12-via-else-at-ge12+then-not-within}
+
+pub returns-in_err-domains : goal.returns-in_err-domains
+returns-in_err-domains c = λ counts a d. c.from_residual.ensures ∙ domains-still counts _ (sym c.in_err-domains.was ∙ d)
 
 pub returns-then-at-ge12 : goal.returns-then-at-ge12
-returns-then-at-ge12 c = sym (set_out c.args.domains c.args.at c.args.value (search rules))
+returns-then-at-ge12 c =
+    λ counts a d.
+    elim c.then-at-ge12.branch [
+      | then-at-ge12-via-then-at-ge12 w ↦ domains-many counts _ (omega (arith, w.if-at-ge12.true, a))
+      | then-at-ge12-via-else-at-ge12+then-not-within w ↦ domains-wrong counts _ (sym w.within.ensures ∙ w.if-not-within.true)
+    ]
+
+pub overflow_cast-domains : goal.overflow_cast-domains
+overflow_cast-domains c = omega (arith, within-true 8 c.args.value (sym c.within.ensures ∙ c.if-not-within.false))
+
+pub returns : goal.returns
+returns c =
+    λ counts a d.
+    ap (λ (k : ℕ). Some (set c.in_ok-domains.domains k c.args.value)) a
+    ∙ domains-one counts _ _ (sym c.in_ok-domains.was ∙ d) (omega (arith, a)) (sym c.within.ensures ∙ c.if-not-within.false)

@@ -9,11 +9,11 @@ use Rattle.scribe_writer.proofs.append_text.Goals as goal
 
 pub append_slots-at-requires : goal.append_slots-at-requires
 unfolding text_from problem_of
-append_slots-at-requires c = (agents-few _ (problem_of c.args.p) c.requires.0, c.requires.1, room-first _ _ c.requires.2)
+append_slots-at-requires c = (agents-few _ (problem_of c.args.p) c.requires.0, room-first _ _ c.requires.1)
 
 pub append_rows-requires : goal.append_rows-requires
 unfolding text_from
-append_rows-requires c = (record { problem = problem_of c.args.p; valid = c.requires.0 }, room-rest _ _ c.requires.2 c.append_slots-at.ensures)
+append_rows-requires c = (record { problem = problem_of c.args.p; valid = c.requires.0 }, room-rest _ _ c.requires.1 c.append_slots-at.ensures)
 
 pub returns : goal.returns
 unfolding text_from

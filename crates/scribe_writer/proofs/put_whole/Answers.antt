@@ -1,21 +1,21 @@
 -- `put_whole` puts all of s, where there is room.
 -- What is put from the first byte on is all that changes.
-use Prim.Native.Nat.{ℕ, ◌+◌}
-use mathlib.Core.Path.{◌≡◌, sym, ap, ◌∙◌}
-use mathlib.Core.List.{◌++◌}
-use native.Mathlib.Omega.{arith}
+use mathlib.Core.Path.{sym, ap}
+use mathlib.Core.List.{List, ◌++◌}
+use Prim.Native.Nat.{ℕ}
 use lib.ListN.{length, drop}
+use native.Mathlib.Omega.{arith}
+use Rattle.base.specs.Lent.{untouched}
 use Rattle.lent.specs.Abstract.{written_of}
 use Rattle.scribe_writer.proofs.Answers.{put-short, put-fits}
 use Rattle.scribe_writer.proofs.put_whole.Goals as goal
 
 pub returns-then-out-s : goal.returns-then-out-s
-unfolding written_of
+unfolding written_of untouched
 returns-then-out-s c = let a = c.args in sym (put-short a.s.now a.out.now (omega arith))
 
 pub returns : goal.returns
 unfolding written_of
 returns c =
     let a = c.args in
-    let none : 0 + length a.s.now ≡ length a.s.now = omega arith in
-    sym (put-fits a.s.now a.out.now _ c.if-out-s.false (c.put.ensures ∙ ap (λ (k : ℕ). a.s.now ++ drop k a.out.now) none))
+    sym (put-fits a.s.now a.out.now _ c.if-out-s.false (ap (λ (l : List ℕ). l ++ drop (length a.s.now) a.out.now) c.copy_from_slice.ensures.after))

@@ -14,26 +14,25 @@ pub loop-k-init : goal.loop-k-init
 loop-k-init c = (c.requires.1, mask-begins _ _ c.requires.2 (λ k h. none-beyond _ _ _ k h), omega arith)
 
 pub words_before-requires : goal.words_before-requires
-words_before-requires c = (omega arith, c.loop-k.invariant.1.few)
+words_before-requires c = let d : c.loop-k.k - 1 + 1 ≡ c.loop-k.k = omega arith in rw d (omega arith, c.loop-k.invariant.1.few)
 
 pub overflow_mul-mask : goal.overflow_mul-mask
 overflow_mul-mask c = omega (arith, mask_fits _ _ _ false c.loop-k.invariant.1 (omega arith))
 
-pub overflow_cast-mask : goal.overflow_cast-mask
-overflow_cast-mask c = tt
-
 pub overflow_add-mask : goal.overflow_add-mask
 overflow_add-mask c =
     let word = get_or c.args.bans.now (c.words_before.result + c.args.i - 1) 0 in
-    omega (arith, mask_fits _ _ _ (not (eqb word 0)) c.loop-k.invariant.1 (omega arith))
+    rw c.from.ensures (omega (arith, mask_fits _ _ _ (not (eqb word 0)) c.loop-k.invariant.1 (omega arith)))
 
 pub loop-k-preserved : goal.loop-k-preserved
 loop-k-preserved c =
     let h = c.loop-k in
-    let p = word-place c.args.i h.k _ c.words_before.ensures.0 (omega arith) (omega arith) c.words_before.ensures.1 in (
+    let d : h.k - 1 + 1 ≡ h.k = omega arith in
+    let p = word-place c.args.i h.k _ (rw d at c.words_before.ensures.0) (omega arith) (omega arith) (rw d at c.words_before.ensures.1) in (
       omega arith,
-      mask-goes _ _ _ _ h.invariant.1 (omega arith)
-          (is-linked _ _ _ _ (omega arith) (omega arith) h.invariant.1.few p.0 ∙ sym (as-far _ _ _ h.k h.invariant.2)),
+      rw c.from.ensures
+          (mask-goes _ _ _ _ h.invariant.1 (omega arith)
+          (is-linked _ _ _ _ (omega arith) (omega arith) h.invariant.1.few p.0 ∙ sym (as-far _ _ _ h.k h.invariant.2))),
       omega (arith, h.invariant.2),
     )
 

@@ -6,6 +6,3 @@ use Rattle.start.proofs.informs.Given as goal
 
 abbrev pub invariant-loop-k : goal.invariant-loop-k
 invariant-loop-k l = (l.i ≤ l.k) × Masked (linked_to l.bans l.n l.i) l.mask l.k × (l.k ≤ l.n)
-
-abbrev pub decreases-loop-k : goal.decreases-loop-k
-decreases-loop-k l = l.k

@@ -1,4 +1,4 @@
--- The mask of the linked agents above, from the agent next to i down. Assumes nothing.
+-- The mask of the linked agents above, from the agent next to i down.
 use mathlib.Core.Path.{fun_ext, ◌∙◌}
 use mathlib.Core.Bool.{false, not}
 use Prim.Native.Nat.{◌+◌, ◌-◌}
@@ -18,21 +18,19 @@ loop-k-init c = (omega arith, mask-begins _ _ (omega arith) (λ k h. not-linked 
 pub overflow_mul-mask : goal.overflow_mul-mask
 overflow_mul-mask c = omega (arith, mask_fits _ _ _ false c.loop-k.invariant.1 c.loop-k-test.true)
 
-pub overflow_cast-mask : goal.overflow_cast-mask
-overflow_cast-mask c = tt
-
-pub overflow_add-mask-in-loop-k : goal.overflow_add-mask-in-loop-k
-overflow_add-mask-in-loop-k c =
+pub overflow_add-mask : goal.overflow_add-mask
+overflow_add-mask c =
     let h = c.loop-k in
     let word = get_or c.args.bans.now (c.words_before-words.result + (h.k - 1)) 0 in
-    omega (arith, mask_fits _ _ _ (not (eqb word 0)) h.invariant.1 c.loop-k-test.true)
+    rw c.from.ensures (omega (arith, mask_fits _ _ _ (not (eqb word 0)) h.invariant.1 c.loop-k-test.true))
 
 pub loop-k-preserved : goal.loop-k-preserved
 loop-k-preserved c =
     let h = c.loop-k in (
       omega arith,
-      mask-goes _ _ _ _ h.invariant.1 c.loop-k-test.true
-          (is-linked _ _ _ _ (omega arith) (omega arith) (omega arith) (word-from h.k c.args.i _ c.words_before-words.ensures.0)),
+      rw c.from.ensures
+          (mask-goes _ _ _ _ h.invariant.1 c.loop-k-test.true
+          (is-linked _ _ _ _ (omega arith) (omega arith) (omega arith) (word-from h.k c.args.i _ c.words_before-words.ensures.0))),
     )
 
 pub returns : goal.returns

@@ -7,6 +7,3 @@ use Rattle.start.proofs.listens.Given as goal
 
 abbrev pub invariant-loop-k : goal.invariant-loop-k
 invariant-loop-k l = (l.k + 1 ≤ l.i) × Masked (λ j. linked (table l.bans) j l.i) l.mask l.k
-
-abbrev pub decreases-loop-k : goal.decreases-loop-k
-decreases-loop-k l = l.k

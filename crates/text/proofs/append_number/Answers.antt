@@ -5,7 +5,7 @@ use Rattle.text.proofs.Digits.{fewest-decimal, digits-fit}
 use Rattle.text.proofs.append_number.Goals as goal
 
 pub append-requires : goal.append-requires
-append-requires c = omega (arith, c.decimal-k.ensures.in_bounds.1, digits-fit _ _ c.decimal-k.ensures.len (omega arith))
+append-requires c = omega (arith, c.decimal-count.ensures.in_bounds.1, digits-fit _ _ c.decimal-count.ensures.len (omega arith))
 
 pub returns : goal.returns
-returns c = (rw (c.decimal-k.ensures.digits ∙ fewest-decimal _ _ c.decimal-k.ensures.len) at c.append.ensures, omega (arith, c.decimal-k.ensures.in_bounds.1, digits-fit _ _ c.decimal-k.ensures.len (omega arith), c.append.ensures.count))
+returns c = (rw (c.decimal-count.ensures.digits ∙ fewest-decimal _ _ c.decimal-count.ensures.len) at c.append.ensures, omega (arith, c.decimal-count.ensures.in_bounds.1, digits-fit _ _ c.decimal-count.ensures.len (omega arith), c.append.ensures.count))

@@ -1,29 +1,27 @@
 -- `to_bans` answers and writes as the definition says.
 -- The outcome of reading decides; the rows of its problem are the ban sheet's.
-use mathlib.Core.Path.{sym, ◌∙◌}
-use Rattle.base.specs.Lent.{untouched}
-use Rattle.sheet.specs.Abstract.{outcome_of}
+use mathlib.Core.Path.{◌≡◌, sym, ◌∙◌}
+use Rattle.std.proofs.lemmas.Result.{err_from_is_err_and}
 use Rattle.lent.specs.Abstract.{written_of}
-use Rattle.turning.proofs.Answers.{bans-ready, answers-no-bans, answers-bans}
+use Rattle.lent.proofs.Within.{counted}
+use Rattle.sheet.proofs.Outcomes.{accepted}
+use Rattle.turn_rules.specs.Turning.{to_bans}
+use Rattle.turning.proofs.Answers.{bans-within, bans-ready, answers-no-bans, answers-bans}
 use Rattle.turning.proofs.to_bans.Goals as goal
 
-pub returns-then-d-ne0 : goal.returns-then-d-ne0
-unfolding untouched written_of outcome_of
-returns-then-d-ne0 c =
-    let a = c.args in
-    let d = c.decode_as-d in
-    sym (answers-no-bans a.s.now a.out.now (outcome_of d.result) d.ensures.0 c.if-d-ne0.true)
+pub returns-in_err-decode_as : goal.returns-in_err-decode_as
+unfolding written_of
+returns-in_err-decode_as c =
+    let p = err_from_is_err_and c.from_residual.result c.from_residual.ensures.1 in
+    let e : written_of c.from_residual.result c.args.out.now ≡ to_bans c.args.s.now c.args.out.now =
+    rw (p.1, p.2) (sym (answers-no-bans _ _ _ c.in_err-decode_as.ensures)) in
+    record { out_after = e; length_in_bounds = counted _ _ _ e (bans-within c.args.s.now c.args.out.now) }
 
 pub put_turned-requires : goal.put_turned-requires
-unfolding outcome_of
-put_turned-requires c =
-    let d = c.decode_as-d in
-    bans-ready _ (outcome_of d.result) d.ensures.0 c.if-d-ne0.false
+put_turned-requires c = bans-ready _ _ (accepted _ _ c.in_ok-decode_as.ensures)
 
 pub returns : goal.returns
-unfolding outcome_of
 returns c =
-    let a = c.args in
-    let d = c.decode_as-d in
-    c.put_turned.ensures
-    ∙ sym (answers-bans a.s.now a.out.now (outcome_of d.result) d.ensures.0 c.if-d-ne0.false)
+    let e =
+    c.put_turned.ensures ∙ sym (answers-bans _ _ _ (accepted _ _ c.in_ok-decode_as.ensures)) in
+    record { out_after = e; length_in_bounds = counted _ _ _ e (bans-within c.args.s.now c.args.out.now) }

@@ -18,11 +18,10 @@ use Rattle.agent.specs.Entries.{StepsAs}
 use Rattle.agent.specs.Parts.{apart, agent_in, step_with, Handed, Takes}
 use Rattle.agent.specs.declared.Agent.{Agent}
 use Rattle.agent.specs.declared.Message.{Message}
-use Rattle.agent.proofs.Steps.{chooses-step, quiet_step}
 use Rattle.agent.proofs.Uncounted.{fits-recounted, message-recounted}
 use Rattle.agent.proofs.Counted.{steps-counted}
 use Rattle.agent.proofs.Agent.receive.Goals as goal
-use Rattle.agent.proofs.Agent.receive.Goals.{in-Info, in-Back, in-AddLink, else-t, then-t}
+use Rattle.agent.proofs.Agent.receive.Goals.{Joined-m, in-Info, in-Back, in-AddLink, in-Choose, in-Tell}
 
 -- the rule, for the agent taken apart
 abbrev reaction : Own → List ℕ → Agent → Bars → ℕ → Message → Step'
@@ -42,66 +41,59 @@ handed own bans a bars from m places able fits message barring =
       barring = barring;
     }
 
-pub on_info-t-requires : goal.on_info-t-requires
+pub on_info-requires : goal.on_info-requires
 unfolding message_of
-on_info-t-requires c =
+on_info-requires c =
     rw c.apart-s.ensures
     (handed _ _ _ _ _ _ (search rules) c.requires.able c.requires.record_fits (rw c.in-Info.is at c.requires.message_fits) c.requires.barring)
 
-pub on_back-t-requires : goal.on_back-t-requires
+pub on_back-requires : goal.on_back-requires
 unfolding message_of
-on_back-t-requires c =
+on_back-requires c =
     rw (c.apart-s.ensures, c.unpack.ensures)
     (handed _ _ _ _ _ _ (search rules) c.requires.able c.requires.record_fits (rw c.in-Back.is at c.requires.message_fits) c.requires.barring)
 
-pub on_add_link-t-requires : goal.on_add_link-t-requires
+pub on_add_link-requires : goal.on_add_link-requires
 unfolding message_of self_of max_agents
-on_add_link-t-requires c = rw c.in-AddLink.is at c.requires.message_fits
+on_add_link-requires c = rw c.in-AddLink.is at c.requires.message_fits
 
-pub settle-done-requires : goal.settle-done-requires
+-- the message taken in: what is left to do is the rule's step
+taken : (c : Joined-m)
+    → Takes c.args.own (bans_in c.args.bans.now) c.match-m.todo.0 c.match-m.todo.1 c.match-m.nogoods
+    (reaction c.args.own c.args.bans.now c.args.self c.args.bars c.args.from c.args.m)
 unfolding message_of react
-settle-done-requires c =
-    let taken : Takes c.args.own (bans_in c.args.bans.now) c.match-m.t c.match-m.nogoods
-    (reaction c.args.own c.args.bans.now c.args.self c.args.bars c.args.from c.args.m) =
+taken c =
     elim c.match-m.branch [
-      | in-Info u ↦ rw (u.t-is, u.nogoods-is, u.in-Info.is) (rw c.apart-s.ensures at u.on_info-t.ensures)
+      | in-Info u ↦ rw (u.todo-is, u.nogoods-is, u.in-Info.is) (rw c.apart-s.ensures at u.on_info.ensures)
       | in-Back u ↦
-          rw (u.t-is, u.nogoods-is, u.in-Back.is, ← u.unpack.ensures) (rw c.apart-s.ensures at u.on_back-t.ensures)
+          rw (u.todo-is, u.nogoods-is, u.in-Back.is, ← u.unpack.ensures) (rw c.apart-s.ensures at u.on_back.ensures)
       | in-AddLink u ↦
-          rw (u.t-is, u.nogoods-is, u.in-AddLink.is)
-          (rw c.apart-s.ensures at u.on_add_link-t.ensures _ _
+          rw (u.todo-is, u.nogoods-is, u.in-AddLink.is)
+          (rw c.apart-s.ensures at u.on_add_link.ensures _ _
           (handed _ _ _ _ _ _ (search rules) c.requires.able c.requires.record_fits (rw u.in-AddLink.is at c.requires.message_fits) c.requires.barring))
-    ] in
-    record {
-      own_fits = c.requires.able.fits;
-      sound = taken.sound;
-      backs_len = refl;
-      above = taken.links;
-      refuser = taken.refuser;
-    }
+    ]
+
+pub settle-done-requires-clause-sound : goal.settle-done-requires-clause-sound
+settle-done-requires-clause-sound c = (taken (goal.at.settle-done-requires-clause-sound c).Joined-m).sound
+
+pub settle-done-requires-clause-above : goal.settle-done-requires-clause-above
+settle-done-requires-clause-above c =
+    (rw c.in-Choose.is at (taken (goal.at.settle-done-requires-clause-above c).Joined-m).addresses).0
+
+pub settle-done-requires-clause-refuser : goal.settle-done-requires-clause-refuser
+settle-done-requires-clause-refuser c =
+    (rw c.in-Choose.is at (taken (goal.at.settle-done-requires-clause-refuser c).Joined-m).addresses).1
 
 pub returns : goal.returns
-unfolding message_of react
 returns c =
-    let taken : Takes c.args.own (bans_in c.args.bans.now) c.match-m.t c.match-m.nogoods
+    let t = taken (goal.at.returns c).Joined-m in
+    let settled : StepsAs c.args.own (bans_in c.args.bans.now) (step_with c.match-todo.done c.match-todo.nogoods c.match-todo.backs)
     (reaction c.args.own c.args.bans.now c.args.self c.args.bars c.args.from c.args.m) =
-    elim c.match-m.branch [
-      | in-Info u ↦ rw (u.t-is, u.nogoods-is, u.in-Info.is) (rw c.apart-s.ensures at u.on_info-t.ensures)
-      | in-Back u ↦
-          rw (u.t-is, u.nogoods-is, u.in-Back.is, ← u.unpack.ensures) (rw c.apart-s.ensures at u.on_back-t.ensures)
-      | in-AddLink u ↦
-          rw (u.t-is, u.nogoods-is, u.in-AddLink.is)
-          (rw c.apart-s.ensures at u.on_add_link-t.ensures _ _
-          (handed _ _ _ _ _ _ (search rules) c.requires.able c.requires.record_fits (rw u.in-AddLink.is at c.requires.message_fits) c.requires.barring))
+    elim c.match-todo.branch [
+      | in-Choose u ↦
+          rw (u.nogoods-is, u.backs-is, u.done-is, ← t.taken, u.in-Choose.is) (u.settle-done.ensures _ t.barring)
+      | in-Tell u ↦
+          rw (u.nogoods-is, u.backs-is, u.done-is, ← t.taken, u.in-Tell.is)
+          (u.telling-done.ensures _ _ _ _ c.requires.able.fits refl (rw u.in-Tell.is at t.addresses) t.barring)
     ] in
-    let settled : StepsAs c.args.own (bans_in c.args.bans.now) (step_with c.if-t.done c.if-t.nogoods c.if-t.backs)
-    (reaction c.args.own c.args.bans.now c.args.self c.args.bars c.args.from c.args.m) =
-    elim c.if-t.branch [
-      | then-t u ↦
-          rw (u.nogoods-is, u.backs-is, u.done-is, ← taken.taken, chooses-step _ _ c.match-m.t c.match-m.nogoods u.if-t.true)
-          (u.settle-done.ensures _ taken.barring)
-      | else-t u ↦
-          rw (u.nogoods-is, u.backs-is, u.done-is, ← taken.taken, quiet_step _ _ c.match-m.t c.match-m.nogoods u.if-t.false)
-          (c.telling-done.ensures _ _ _ _ c.requires.able.fits refl taken.told taken.barring)
-    ] in
-    steps-counted _ _ _ c.args.bars _ _ c.if-t.done _ _ _ _ (c.posted-sent.ensures _ settled.ready) c.handed-received.ensures settled
+    steps-counted _ _ _ c.args.bars _ _ c.match-todo.done _ _ _ _ (c.posted-sent.ensures _ settled.ready) c.handed-received.ensures settled

@@ -5,6 +5,5 @@ use Rattle.agent.proofs.State.on_add_link.Goals as goal
 pub returns : goal.returns
 returns c =
     λ bans nogoods handed.
-    rw c.done.ensures
-    (takes-link c.args.own bans c.args.self nogoods c.add.result c.add-2.result c.args.from handed c.add.ensures
-    c.add-2.ensures)
+    takes-link c.args.own bans c.args.self nogoods c.add.result c.add-2.result c.args.from handed c.add.ensures
+    c.add-2.ensures

@@ -4,8 +4,8 @@ use Prim.Native.Nat.{◌-◌}
 use Rattle.agent.proofs.Turns.{Turning}
 use Rattle.agent.proofs.State.settle.Given as goal
 
-abbrev pub invariant-loop-bars : goal.invariant-loop-bars
-invariant-loop-bars l = Turning l.own l.refuser l.initial.s l.initial.nogoods l.s l.nogoods l.backs l.count
+abbrev pub invariant-loop-value : goal.invariant-loop-value
+invariant-loop-value l = Turning l.own l.refuser l.initial.s l.initial.nogoods l.s l.nogoods l.backs l.count
 
-abbrev pub decreases-loop-bars : goal.decreases-loop-bars
-decreases-loop-bars l = l.own.number - l.count
+abbrev pub decreases-loop-value : goal.decreases-loop-value
+decreases-loop-value l = l.own.number - l.count

@@ -1,10 +1,6 @@
--- The index stays in the word. Assumes nothing.
-use Prim.Native.Nat.{◌-◌, ◌≤◌}
+-- The digits that are left get fewer.
 use lib.ListN.{length}
 use Rattle.board_text.proofs.calls.significant.Given as goal
 
-abbrev pub invariant-loop-i : goal.invariant-loop-i
-invariant-loop-i l = l.i ≤ length l.word
-
-abbrev pub decreases-loop-i : goal.decreases-loop-i
-decreases-loop-i l = length l.word - l.i
+abbrev pub decreases-loop-digits : goal.decreases-loop-digits
+decreases-loop-digits l = length l.digits

@@ -1,12 +1,13 @@
--- There is room, or not.
+-- There is room, or not. Assumes nothing.
+use mathlib.Core.Path.{refl}
 use borrow.Author.Tests.{lt-ltb, le-ltb}
 use Rattle.cases.specs.Lines.{with_number}
 use Rattle.cases.proofs.lines.with_number.Goals as goal
 
-pub returns-then-k-ge16 : goal.returns-then-k-ge16
+pub returns-then-more-lt16 : goal.returns-then-more-lt16
 unfolding with_number
-returns-then-k-ge16 c = rw (le-ltb _ 16 c.if-k-ge16.true)
+returns-then-more-lt16 c = rw (lt-ltb _ 16 c.if-more-lt16.true) refl
 
-pub returns : goal.returns
+pub returns-else-more-lt16 : goal.returns-else-more-lt16
 unfolding with_number
-returns c = rw (lt-ltb _ 16 c.if-k-ge16.false)
+returns-else-more-lt16 c = rw (le-ltb _ 16 c.if-more-lt16.false) refl

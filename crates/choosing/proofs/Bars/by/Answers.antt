@@ -14,8 +14,8 @@ returns-then-k-le8 c =
     let args = c.args in
     rw (sub-one args.w) (sym (bit-of-low args.self args.k (pred args.w) (omega arith) (omega arith)))
 
-pub returns : goal.returns
+pub returns-else-k-le8 : goal.returns-else-k-le8
 unfolding bit
-returns c =
+returns-else-k-le8 c =
     let args = c.args in
     rw (sub-one args.w) (sym (bit-of-high args.self args.k (pred args.w) (omega arith) (omega arith)))

@@ -40,9 +40,9 @@ returns-then-high-ne0 c =
     rw (sub-one args.w)
     (first-high args.self (pred args.w) (omega arith) (rw (sub-one args.w) at no-low) (rw (sub-one args.w) at some-high))
 
-pub returns : goal.returns
+pub returns-else-high-ne0 : goal.returns-else-high-ne0
 unfolding marks
-returns c =
+returns-else-high-ne0 c =
     let args = c.args in
     let no-low : marks args.self.low (args.w - 1) ≡ 0 = omega arith in
     let no-high : marks args.self.high (args.w - 1) ≡ 0 = omega arith in

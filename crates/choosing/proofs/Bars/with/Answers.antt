@@ -20,17 +20,11 @@ high : (c : Else-k-le8)
 high c =
     exchange _ _ _ _ _ (omega arith) (omega arith) (omega arith) refl
 
-pub overflow_sub-b : goal.overflow_sub-b
-overflow_sub-b c = rw (masked 8 (8 * (c.args.k - 1)) c.args.self.low (omega arith)) (low (goal.at.overflow_sub-b c).Then-k-le8).taken
+pub overflow_add-low : goal.overflow_add-low
+overflow_add-low c = record { fits = rw (masked 8 (8 * (c.args.k - 1)) c.args.self.low (omega arith)) (low (goal.at.overflow_add-low c).Then-k-le8).holds }
 
-pub overflow_add-b : goal.overflow_add-b
-overflow_add-b c = record { fits = rw (masked 8 (8 * (c.args.k - 1)) c.args.self.low (omega arith)) (low (goal.at.overflow_add-b c).Then-k-le8).holds }
-
-pub overflow_sub-b-else-k-le8 : goal.overflow_sub-b-else-k-le8
-overflow_sub-b-else-k-le8 c = rw (masked 8 (8 * (c.args.k - 9)) c.args.self.high (omega arith)) (high (goal.at.overflow_sub-b-else-k-le8 c).Else-k-le8).taken
-
-pub overflow_add-b-else-k-le8 : goal.overflow_add-b-else-k-le8
-overflow_add-b-else-k-le8 c = record { fits = rw (masked 8 (8 * (c.args.k - 9)) c.args.self.high (omega arith)) (high (goal.at.overflow_add-b-else-k-le8 c).Else-k-le8).holds }
+pub overflow_add-high : goal.overflow_add-high
+overflow_add-high c = record { fits = rw (masked 8 (8 * (c.args.k - 9)) c.args.self.high (omega arith)) (high (goal.at.overflow_add-high c).Else-k-le8).holds }
 
 pub returns-then-k-le8 : goal.returns-then-k-le8
 returns-then-k-le8 c =

@@ -1,6 +1,6 @@
 -- `nogoods_fit` is the clause on an agent's nogoods.
 -- From value 8 down. The invariant: what is asked of all values is asked of those left.
-use Prim.Native.Nat.{ℕ, ◌-◌, ◌≤◌}
+use Prim.Native.Nat.{ℕ, ◌-◌}
 use mathlib.Core.Path.{◌≡◌}
 use mathlib.Core.Bool.{Bool}
 use Rattle.base.specs.Finite.{all_to}
@@ -12,7 +12,4 @@ abbrev pub fits_at : ℕ → Agent → ℕ → Bool
 fits_at d a v = stored_fits d a (v - 1)
 
 abbrev pub invariant-loop-v : goal.invariant-loop-v
-invariant-loop-v l = (l.v ≤ 8) × (all_to 8 (fits_at l.d l.a) ≡ all_to l.v (fits_at l.d l.a))
-
-abbrev pub decreases-loop-v : goal.decreases-loop-v
-decreases-loop-v l = l.v
+invariant-loop-v l = all_to 8 (fits_at l.d l.a) ≡ all_to l.v (fits_at l.d l.a)

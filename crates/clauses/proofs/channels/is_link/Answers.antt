@@ -1,17 +1,22 @@
 -- `is_link` tells a link request from the other messages.
 -- Sort by sort.
+use mathlib.Core.Path.{◌≡◌, refl}
+use mathlib.Core.Bool.{false}
 use Rattle.agent.specs.Abstract.{message_of}
+use Rattle.agent.specs.declared.Message.{Message}
+use Rattle.agent.specs.declared.Message.TheVariants.{Info, Back, AddLink}
 use Rattle.clauses.specs.Parts.{is_link}
 use Rattle.clauses.proofs.channels.is_link.Goals as goal
-
-pub returns-in-Info : goal.returns-in-Info
-unfolding is_link message_of
-returns-in-Info c = rw c.in-Info.is
-
-pub returns-in-Back : goal.returns-in-Back
-unfolding is_link message_of
-returns-in-Back c = rw c.in-Back.is
 
 pub returns-in-AddLink : goal.returns-in-AddLink
 unfolding is_link message_of
 returns-in-AddLink c = rw c.in-AddLink.is
+
+other : (m : Message) → (m ≡ AddLink → ⊥) → false ≡ is_link (message_of m)
+unfolding is_link message_of
+other (Info v) n = refl
+other (Back v lhs) n = refl
+other AddLink n = absurd (n refl)
+
+pub returns-in_default : goal.returns-in_default
+returns-in_default c = other c.args.m c.in_default.not-AddLink

@@ -5,20 +5,11 @@ use native.Mathlib.Omega.{arith}
 use native.Mathlib.Numerals.{sub-one}
 use borrow.Author.Rules.{rules}
 use Rattle.problem.specs.Problem.{pairs_before}
-use Rattle.clauses.proofs.Pairs.{words_are, words-fit, square-fits}
+use Rattle.clauses.proofs.Pairs.{words_are, words-fit}
 use Rattle.clauses.proofs.places.words_before.Goals as goal
-
-pub overflow_mul-result : goal.overflow_mul-result
-overflow_mul-result c = omega (arith, (square-fits (c.args.agent - 1) (search rules)).1)
-
-pub overflow_sub-result : goal.overflow_sub-result
-overflow_sub-result c = (square-fits (c.args.agent - 1) (search rules)).0
 
 pub returns : goal.returns
 returns c =
     let k = c.args.agent - 1 in
     let e = words_are k in
     let f = words-fit k (search rules) in (e ∙ ap pairs_before (sub-one c.args.agent), omega arith)
-
-pub overflow_cast-result : goal.overflow_cast-result
-overflow_cast-result c = record { fits = omega (arith, (square-fits (c.args.agent - 1) (search rules)).1) }

@@ -2,28 +2,23 @@
 -- From the first agent up. The invariant: those before the k-th have theirs.
 use borrow.Author.Rules.{rules}
 use native.Mathlib.Omega.{arith}
-use lib.Dec.{eqb}
 use lib.ListN.{length-set}
 use lib.Seq.{get_or-set_same, get_or-set_other}
-use borrow.Author.Tests.{eqb-true, eqb-false}
-use Rattle.base.proofs.Tests.{test}
+use Rattle.base.proofs.Tests.{eq_test}
 use Rattle.clauses.proofs.range.all_beyond.Goals as goal
 
 pub loop-k-init : goal.loop-k-init
-loop-k-init c = (search rules, omega arith, λ i h. absurd (omega arith))
+loop-k-init c = (search rules, λ i h. absurd (omega arith))
 
 pub loop-k-preserved : goal.loop-k-preserved
 loop-k-preserved c =
     let l = c.loop-k in (
       simp length-set l.invariant.0,
-      omega arith,
       λ i h.
-          test (eqb i l.k)
-          (λ t.
-          rw (eqb-true i l.k t, get_or-set_same l.rows l.k c.beyond.result 0 (omega (arith, l.invariant.0)))
-          c.beyond.ensures)
-          (λ t. rw (get_or-set_other l.rows l.k i c.beyond.result 0 (eqb-false i l.k t)) (l.invariant.2 i (omega (arith, eqb-false i l.k t)))),
+          eq_test i l.k
+          (λ e. rw (e, get_or-set_same l.rows l.k c.beyond.result 0 (omega (arith, l.invariant.0))) c.beyond.ensures)
+          (λ n. rw (get_or-set_other l.rows l.k i c.beyond.result 0 n) (l.invariant.1 i (omega (arith, n)))),
     )
 
 pub returns : goal.returns
-returns c = let l = c.loop-k in (l.invariant.0, λ i h. l.invariant.2 i (omega arith))
+returns c = let l = c.loop-k in (l.invariant.0, λ i h. l.invariant.1 i (omega arith))

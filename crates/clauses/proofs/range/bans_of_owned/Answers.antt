@@ -16,27 +16,22 @@ use Rattle.clauses.proofs.range.bans_of_owned.Invariants.{word}
 use Rattle.clauses.proofs.range.bans_of_owned.Goals as goal
 
 pub loop-k-init : goal.loop-k-init
-loop-k-init c = (omega arith, λ p e o b. ap (λ (m : ℕ). all_to m (word p c.args.j)) (sym (sub-one c.args.j)))
-
-pub bounds-bans-words : goal.bounds-bans-words
-bounds-bans-words c = omega (arith, c.words_before-words.ensures.1)
+loop-k-init c = λ p e o b. ap (λ (m : ℕ). all_to m (word p c.args.j)) (sym (sub-one c.args.j))
 
 pub loop-k-preserved : goal.loop-k-preserved
 unfolding word_at
 loop-k-preserved c =
-    let l = c.loop-k in (
-      omega arith,
-      λ p e o b.
-          let lower : suc (l.k - 1) ≡ l.k = omega arith in
-          let place : c.words_before-words.result + (l.k - 1) ≡ word_at l.k c.args.j = omega (arith, c.words_before-words.ensures.0) in
-          let here = ap (λ (t : List ℕ). get_or t (word_at l.k c.args.j) 0) e ∙ ap (λ (n : ℕ). get_or c.args.bans.now n 0) (sym place) in
-          l.invariant.1 p e o b
-          ∙ overlaid l.over c.unowned-over.result l.k (word p c.args.j) c.loop-k-test.true
-          (ap (λ (x : ℕ). word_owned (domain p l.k) (domain p c.args.j) x) here
-          ∙ c.unowned-over.ensures (domain p l.k) (domain p c.args.j) (rw lower at (b (l.k - 1) (omega arith))) o),
-    )
+    let l = c.loop-k in
+    λ p e o b.
+    let lower : suc (l.k - 1) ≡ l.k = omega arith in
+    let place : c.words_before-words.result + (l.k - 1) ≡ word_at l.k c.args.j = omega (arith, c.words_before-words.ensures.0) in
+    let here = ap (λ (t : List ℕ). get_or t (word_at l.k c.args.j) 0) e ∙ ap (λ (n : ℕ). get_or c.args.bans.now n 0) (sym place) in
+    l.invariant p e o b
+    ∙ overlaid l.over c.unowned-over.result l.k (word p c.args.j) c.loop-k-test.true
+    (ap (λ (x : ℕ). word_owned (domain p l.k) (domain p c.args.j) x) here
+    ∙ c.unowned-over.ensures (domain p l.k) (domain p c.args.j) (rw lower at (b (l.k - 1) (omega arith))) o)
 
 pub returns : goal.returns
 returns c =
     let l = c.loop-k in
-    λ p e o b. sym (l.invariant.1 p e o b ∙ rw (all_to-over l.k (word p c.args.j) (omega arith)) (and-true (eqb l.over 0)))
+    λ p e o b. sym (l.invariant p e o b ∙ rw (all_to-over l.k (word p c.args.j) (omega arith)) (and-true (eqb l.over 0)))

@@ -15,9 +15,5 @@ word p j i = word_owned (domain p i) (domain p j) (get_or p.bans (word_at i j) 0
 
 abbrev pub invariant-loop-k : goal.invariant-loop-k
 invariant-loop-k l =
-    (l.k < l.j)
-    × ((p : Problem) → p.bans ≡ l.bans → Columns (domain p l.j) l.columns → ((i : ℕ) → i < 12 → Beyond (domain p (suc i)) (get_or l.rows i 0))
-    → all_to (pred l.j) (word p l.j) ≡ eqb l.over 0 && all_to l.k (word p l.j))
-
-abbrev pub decreases-loop-k : goal.decreases-loop-k
-decreases-loop-k l = l.k
+    (p : Problem) → p.bans ≡ l.bans → Columns (domain p l.j) l.columns → ((i : ℕ) → i < 12 → Beyond (domain p (suc i)) (get_or l.rows i 0))
+    → all_to (pred l.j) (word p l.j) ≡ eqb l.over 0 && all_to l.k (word p l.j)

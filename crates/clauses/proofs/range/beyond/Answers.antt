@@ -6,5 +6,5 @@ use Rattle.clauses.proofs.range.beyond.Goals as goal
 pub returns-then-d-ge8 : goal.returns-then-d-ge8
 returns-then-d-ge8 c = none-beyond c.args.d c.if-d-ge8.true
 
-pub returns : goal.returns
-returns c = bytes-beyond c.args.d (omega arith)
+pub returns-else-d-ge8 : goal.returns-else-d-ge8
+returns-else-d-ge8 c = bytes-beyond c.args.d (omega arith)

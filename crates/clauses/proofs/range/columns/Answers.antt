@@ -7,11 +7,5 @@ use Rattle.clauses.proofs.range.columns.Goals as goal
 pub returns-then-e-ge8 : goal.returns-then-e-ge8
 returns-then-e-ge8 c = wide c.args.e c.if-e-ge8.true
 
-pub overflow_sub-result : goal.overflow_sub-result
-overflow_sub-result c = (narrowed c.args.e (omega arith)).0
-
-pub overflow_mul-result : goal.overflow_mul-result
-overflow_mul-result c = record { fits = (narrowed c.args.e (omega arith)).1 }
-
-pub returns : goal.returns
-returns c = (narrowed c.args.e (omega arith)).2
+pub returns-else-e-ge8 : goal.returns-else-e-ge8
+returns-else-e-ge8 c = (narrowed c.args.e (omega arith)).2

@@ -1,35 +1,29 @@
--- From agent 12 down. The invariant: what is asked of all is asked of those left.
-use mathlib.Core.Path.{refl, sym, ◌∙◌}
+-- From the first agent up. The invariant: those before the k-th pass.
+use mathlib.Core.Path.{◌≡◌, refl, sym, ◌∙◌}
 use native.Mathlib.Omega.{arith}
-use Rattle.base.proofs.Loops.{all_to-goes, all_to-fails}
-use Rattle.base.proofs.Peeling.{all_to-over}
+use Rattle.base.specs.Finite.{all_to}
 use Rattle.problem.specs.Problem.{max_agents, domain_in_range}
-use Rattle.clauses.proofs.Ranges.{domain-at}
+use Rattle.clauses.proofs.Each.{all_to-more, all_to-misses}
+use Rattle.clauses.proofs.Ranges.{domain-next}
 use Rattle.clauses.proofs.range.domains_in_range.Goals as goal
 
-pub loop-i-init : goal.loop-i-init
-unfolding max_agents
-loop-i-init c = (omega arith, λ p e f. refl)
+pub loop-k-init : goal.loop-k-init
+unfolding all_to
+loop-k-init c = λ p e f. refl
 
 pub returns-then-not-domain_in_range : goal.returns-then-not-domain_in_range
+unfolding max_agents
 returns-then-not-domain_in_range c =
-    let loop = c.loop-i in
     λ p e f.
-    sym (loop.invariant.1 p e f
-    ∙ all_to-fails loop.i (domain_in_range p) c.loop-i-test.true
-    (sym (c.domain_in_range.ensures p e (domain-at p c.args.domains.now loop.i f c.loop-i-test.true)) ∙ c.if-not-domain_in_range.true))
+    sym (all_to-misses 12 (domain_in_range p) c.loop-k.k (omega arith)
+    (sym (c.domain_in_range.ensures p e (domain-next p c.args.domains.now c.loop-k.k f)) ∙ c.if-not-domain_in_range.true))
 
-pub loop-i-preserved : goal.loop-i-preserved
-loop-i-preserved c =
-    let loop = c.loop-i in (
-      omega arith,
-      λ p e f.
-          loop.invariant.1 p e f
-          ∙ all_to-goes loop.i (domain_in_range p) c.loop-i-test.true
-          (sym (c.domain_in_range.ensures p e (domain-at p c.args.domains.now loop.i f c.loop-i-test.true)) ∙ c.if-not-domain_in_range.false),
-    )
+pub loop-k-preserved : goal.loop-k-preserved
+loop-k-preserved c =
+    λ p e f.
+    all_to-more c.loop-k.k (domain_in_range p) (c.loop-k.invariant p e f)
+    (sym (c.domain_in_range.ensures p e (domain-next p c.args.domains.now c.loop-k.k f)) ∙ c.if-not-domain_in_range.false)
 
 pub returns : goal.returns
-returns c =
-    let loop = c.loop-i in
-    λ p e f. sym (loop.invariant.1 p e f ∙ all_to-over loop.i (domain_in_range p) (omega arith))
+unfolding max_agents
+returns c = λ p e f. let all : c.loop-k.k ≡ 12 = omega arith in sym (rw all at (c.loop-k.invariant p e f))

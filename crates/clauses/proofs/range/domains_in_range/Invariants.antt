@@ -1,14 +1,9 @@
--- From agent 12 down. The invariant: what is asked of all is asked of those left.
-use Prim.Native.Nat.{◌≤◌}
+-- From the first agent up. The invariant: those before the k-th pass.
 use mathlib.Core.Path.{◌≡◌}
+use mathlib.Core.Bool.{true}
 use Rattle.base.specs.Finite.{all_to}
-use Rattle.problem.specs.Problem.{Problem, max_agents, domain_in_range}
+use Rattle.problem.specs.Problem.{Problem, domain_in_range}
 use Rattle.clauses.proofs.range.domains_in_range.Given as goal
 
-abbrev pub invariant-loop-i : goal.invariant-loop-i
-invariant-loop-i l =
-    (l.i ≤ 12)
-    × ((p : Problem) → p.count ≡ l.count → p.domains ≡ l.domains → all_to max_agents (domain_in_range p) ≡ all_to l.i (domain_in_range p))
-
-abbrev pub decreases-loop-i : goal.decreases-loop-i
-decreases-loop-i l = l.i
+abbrev pub invariant-loop-k : goal.invariant-loop-k
+invariant-loop-k l = (p : Problem) → p.count ≡ l.count → p.domains ≡ l.domains → all_to l.k (domain_in_range p) ≡ true

@@ -1,15 +1,12 @@
 -- No agent above 16 has a bit; else a shift.
 use borrow.Author.Rules.{rules}
-use mathlib.Core.Path.{sym}
+use borrow.Author.Tests.{le-leb}
+use mathlib.Core.Path.{sym, ◌∙◌}
 use Rattle.clauses.proofs.Words.{in-to, in_all}
 use Rattle.clauses.proofs.sets.all_to.Goals as goal
 
 pub returns-then-m-ge16 : goal.returns-then-m-ge16
-returns-then-m-ge16 c =
-    let args = c.args in
-    sym (in_all args.set args.m c.if-m-ge16.true)
+returns-then-m-ge16 c = le-leb 16 c.args.m c.if-m-ge16.true ∙ sym (in_all c.args.set c.args.m c.if-m-ge16.true)
 
-pub returns : goal.returns
-returns c =
-    let args = c.args in
-    sym (in-to args.set args.m (search rules))
+pub returns-else-m-ge16 : goal.returns-else-m-ge16
+returns-else-m-ge16 c = sym (in-to c.args.set c.args.m (search rules))

@@ -1,17 +1,25 @@
 -- The search from where the walk stands finds what the search from its beginning on finds.
-use Prim.Native.Nat.{◌+◌, ◌*◌, ◌-◌}
+use Prim.Native.Nat.{ℕ, ◌-◌}
 use mathlib.Core.Path.{◌≡◌}
+use Rattle.std.specs.Prelude.{Option, Some, None, IfSome}
 use Rattle.dispatch_rules.specs.Dispatch.{up_to, first_of}
 use Rattle.network.specs.Abstract.{network_of}
-use Rattle.dispatch.specs.Abstract.{line}
-use Rattle.dispatch.specs.Walking.{ahead, Stands}
+use Rattle.dispatch.specs.declared.Line.{Line}
+use Rattle.dispatch.specs.Walking.{ahead_of, last_line, Stands, order}
 use Rattle.dispatch.proofs.turns.first_from.Given as goal
 
-abbrev pub invariant-loop-to : goal.invariant-loop-to
-invariant-loop-to l =
-    Stands l.n l.from l.to
-    × (first_of (network_of l.r) (up_to (line l.last.from l.last.to) (ahead l.n l.initial.from l.initial.to))
-    ≡ first_of (network_of l.r) (up_to (line l.last.from l.last.to) (ahead l.n l.from l.to)))
+-- how far the walk has to go; nothing is left where it is over
+abbrev pub left : Option Line → ℕ
+left None = 0
+left (Some l) = 200 - order l
 
-abbrev pub decreases-loop-to : goal.decreases-loop-to
-decreases-loop-to l = 200 - (13 * l.from + l.to)
+abbrev pub invariant-loop-next : goal.invariant-loop-next
+invariant-loop-next l =
+    record {
+      stands : IfSome l.next (Stands l.r.count);
+      same : first_of (network_of l.r) (up_to (last_line l.last) (ahead_of l.r.count l.initial.next))
+          ≡ first_of (network_of l.r) (up_to (last_line l.last) (ahead_of l.r.count l.next));
+    }
+
+abbrev pub decreases-loop-next : goal.decreases-loop-next
+decreases-loop-next l = left l.next

@@ -1,48 +1,22 @@
 -- The turn is what stands behind the place, and then what stands up to it.
-use mathlib.Core.Path.{refl, sym, ◌∙◌}
+use mathlib.Core.Path.{sym, ◌∙◌}
 use Rattle.engine.proofs.Testing.{Good, good}
-use Rattle.dispatch.proofs.Turning.{at_first, from_start, found-behind, found_before}
+use Rattle.dispatch.proofs.Turning.{from_start, behind, before}
 use Rattle.dispatch.proofs.turns.in_turn.Goals as goal
-
-pub first_from-requires : goal.first_from-requires
-first_from-requires c =
-    record {
-      stands = at_first _ c.requires.0;
-      count_bound = (c.requires.1, λ e. refl);
-    }
-
-pub returns-then-not-is_line : goal.returns-then-not-is_line
-returns-then-not-is_line c = from_start _ _ _ _ c.requires.0 (sym c.is_line.ensures ∙ c.if-not-is_line.true) c.first_from.ensures
 
 pub next-requires : goal.next-requires
 next-requires c =
-    let is-good : Good c.args.r.count c.args.from c.args.to =
-    good _ _ _ (sym c.is_line.ensures ∙ c.if-not-is_line.false) in
-    let g = is-good in (g.from_low, g.from-high, g.to_low, g.to_high, c.requires.1)
+    let g : Good c.args.r.count c.args.place.from c.args.place.to = good _ _ _ (sym c.is_line.ensures ∙ c.if-is_line.true) in
+    (record { low = g.from_low; high = g.from-high; first = g.to_low; last = g.to_high }, c.requires.1)
 
-pub first_from-s-requires : goal.first_from-s-requires
-first_from-s-requires c =
-    record {
-      stands = c.next.ensures.stands;
-      count_bound = (c.requires.1, λ e. refl);
-    }
+pub returns-then-is_some : goal.returns-then-is_some
+returns-then-is_some c =
+    behind _ _ _ (sym c.is_line.ensures ∙ c.if-is_line.true) _ c.next.ensures.same _ (sym c.is_some.ensures ∙ c.if-is_some.true) c.first_from-behind.ensures
 
-pub returns-then-s : goal.returns-then-s
-returns-then-s c =
-    found-behind _ _ _ (sym c.is_line.ensures ∙ c.if-not-is_line.false) _ _
-    c.next.ensures.same _ c.if-s.true c.first_from-s.ensures
+pub returns-else-is_some : goal.returns-else-is_some
+returns-else-is_some c =
+    before _ _ _ (sym c.is_line.ensures ∙ c.if-is_line.true) _ c.next.ensures.same _ (sym c.is_some.ensures ∙ c.if-is_some.false)
+    c.first_from-behind.ensures _ c.first_from.ensures
 
-pub first_from-requires-2 : goal.first_from-requires-2
-first_from-requires-2 c =
-    let is-good : Good c.args.r.count c.args.from c.args.to =
-    good _ _ _ (sym c.is_line.ensures ∙ c.if-not-is_line.false) in
-    let g = is-good in
-    record {
-      stands = at_first _ c.requires.0;
-      count_bound = (c.requires.1, λ e. absurd (g.apart e));
-    }
-
-pub returns : goal.returns
-returns c =
-    found_before _ _ _ (sym c.is_line.ensures ∙ c.if-not-is_line.false) _ _
-    c.next.ensures.same _ _ c.if-s.false c.first_from-s.ensures c.first_from-2.ensures
+pub returns-else-is_line : goal.returns-else-is_line
+returns-else-is_line c = from_start _ _ _ _ c.requires.0 (sym c.is_line.ensures ∙ c.if-is_line.false) c.first_from-else-is_line.ensures

@@ -38,5 +38,5 @@ digit-requires c =
 pub returns-then-digit-eq0 : goal.returns-then-digit-eq0
 returns-then-digit-eq0 c = empty _ _ _ _ _ (sym c.numbers_good.ensures ∙ c.if-not-numbers_good.false) c.if-verdict.false _ c.digit.ensures.0 c.if-digit-eq0.true
 
-pub returns : goal.returns
-returns c = passes _ _ _ _ _ (sym c.numbers_good.ensures ∙ c.if-not-numbers_good.false) c.if-verdict.false _ c.digit.ensures.0 c.if-digit-eq0.false
+pub returns-else-digit-eq0 : goal.returns-else-digit-eq0
+returns-else-digit-eq0 c = passes _ _ _ _ _ (sym c.numbers_good.ensures ∙ c.if-not-numbers_good.false) c.if-verdict.false _ c.digit.ensures.0 c.if-digit-eq0.false

@@ -1,5 +1,4 @@
--- From the last row down. The invariant: all rows are idle if those left are.
-use Prim.Native.Nat.{◌≤◌}
+-- From the last row down: all rows are idle if those left are.
 use mathlib.Core.Path.{◌≡◌}
 use Rattle.base.specs.Finite.{all_to}
 use Rattle.network_laws.specs.Held.{Clean}
@@ -7,7 +6,4 @@ use Rattle.engine.proofs.Held.{idle_row}
 use Rattle.engine.proofs.tests.waits.Given as goal
 
 abbrev pub invariant-loop-i : goal.invariant-loop-i
-invariant-loop-i l = (l.i ≤ l.n) × (Clean l.counts → all_to l.n (idle_row l.counts) ≡ all_to l.i (idle_row l.counts))
-
-abbrev pub decreases-loop-i : goal.decreases-loop-i
-decreases-loop-i l = l.i
+invariant-loop-i l = Clean l.counts → all_to l.n (idle_row l.counts) ≡ all_to l.i (idle_row l.counts)

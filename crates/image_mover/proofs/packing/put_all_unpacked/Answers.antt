@@ -1,27 +1,24 @@
--- `put_all_unpacked` puts the messages one by one, each unpacked.
-use Prim.Native.Nat.{◌+◌, ◌*◌, ◌≤◌}
-use mathlib.Core.Path.{refl, ap}
-use native.Mathlib.Omega.{arith}
-use lib.ListN.{length}
+-- `put_all_unpacked` puts the messages one by one, each unpacked: so many of them are put.
+use Rattle.std.proofs.Common.{◌+◌, ◌*◌, ◌≤◌, refl, ap, arith, length}
+use native.Mathlib.Nat.{zero-add}
 use Rattle.image_forms.specs.Places.{each_record}
 use Rattle.image_forms.specs.Packing.{unpacked}
-use Rattle.image_writer.proofs.Puts.{puts-as}
-use Rattle.image_mover.proofs.Gathered.{begun, going, gone}
+use Rattle.image_writer.proofs.Puts.{none_gathered, one_more, all-gathered}
 use Rattle.image_mover.proofs.Parts.{part-is, part_length}
-use borrow.Author.Rules.{rules}
 use Rattle.image_mover.proofs.packing.put_all_unpacked.Goals as goal
 
 pub loop-r-init : goal.loop-r-init
-loop-r-init c = begun (omega arith)
+loop-r-init c = none_gathered _ _ 0 0 0 (omega arith) refl refl
 
-pub put_unpacked-next-requires : goal.put_unpacked-next-requires
-put_unpacked-next-requires c =
+pub put_unpacked-requires : goal.put_unpacked-requires
+put_unpacked-requires c =
     let h : 10 * c.loop-r.r + 10 ≤ length c.args.s.now = omega arith in
-    (part_length (10 * c.loop-r.r) 10 c.args.s.now h, omega (arith, c.loop-r.invariant.place))
+    let p = c.loop-r.invariant.put in
+    record { message = part_length (10 * c.loop-r.r) 10 c.args.s.now h; room = omega (arith, p.behind, p.kept) }
 
 pub loop-r-preserved : goal.loop-r-preserved
-loop-r-preserved c = going c.loop-r.invariant (omega arith) (puts-as refl (ap unpacked (part-is (10 * c.loop-r.r) 10 c.args.s.now)) c.put_unpacked-next.ensures) (search rules)
+loop-r-preserved c = one_more c.loop-r.invariant _ _ c.put_unpacked.ensures (rw zero-add (ap unpacked (part-is (10 * c.loop-r.r) 10 c.args.s.now))) refl (omega arith)
 
 pub returns : goal.returns
 unfolding each_record
-returns c = gone c.loop-r.invariant (omega arith) (omega arith)
+returns c = let last = c.loop-r.r in all-gathered c.loop-r.invariant _ _ (omega arith) (omega arith)

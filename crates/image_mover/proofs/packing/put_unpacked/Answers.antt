@@ -1,27 +1,30 @@
 -- `put_unpacked` puts the bytes before the left side, and both halves of each of the six bytes.
-use mathlib.Core.Path.{sym}
-use native.Mathlib.Omega.{arith}
-use lib.Seq.{length-take-le}
+use Rattle.std.proofs.Common.{ℕ, ◌≡◌, ◌+◌, ◌-◌, ◌/◌, ◌%◌, [], ◌∷◌, refl, ap, arith, length, get_or, take, drop}
+use native.Mathlib.Nat.{zero-add}
+use lib.ListN.{length-drop}
+use lib.Seq.{length-take-le, get_or-drop}
 use Rattle.image_forms.specs.Packing.{front_length, unpacked}
-use Rattle.image_writer.proofs.Puts.{puts_then, puts-copied}
-use Rattle.image_mover.proofs.Gathered.{begun, going, gone}
-use borrow.Author.Rules.{rules}
+use Rattle.image_writer.proofs.Puts.{puts-as, puts_then, none_gathered, one_more, all-gathered}
+use Rattle.image_mover.proofs.Parts.{rest-is}
 use Rattle.image_mover.proofs.packing.put_unpacked.Goals as goal
 
-pub slice_bounds-put-end : goal.slice_bounds-put-end
-slice_bounds-put-end c = sym (length-take-le 4 c.args.m.now (omega arith))
+pub loop-slots-init : goal.loop-slots-init
+loop-slots-init c = none_gathered _ _ 0 0 0 (omega arith) refl refl
 
-pub put-requires : goal.put-requires
-put-requires c = omega (arith, length-take-le 4 c.args.m.now (omega arith))
-
-pub loop-i-init : goal.loop-i-init
-loop-i-init c = begun (search rules)
-
-pub loop-i-preserved : goal.loop-i-preserved
-loop-i-preserved c = going c.loop-i.invariant (omega arith) (puts_then c.put_byte-high.ensures c.put_byte-next.ensures) (search rules)
+pub loop-slots-preserved : goal.loop-slots-preserved
+loop-slots-preserved c =
+    let m = c.args.m.now in
+    let i = c.loop-slots.slots-index in
+    let here : get_or (take (length m - 4) (drop 4 m)) i 0 ≡ get_or m (4 + i) 0 = rw (rest-is 4 m) (get_or-drop 4 m i 0) in
+    one_more c.loop-slots.invariant _ _ (puts_then c.put.ensures c.put-in-loop-slots.ensures)
+    (rw zero-add (ap (λ (b : ℕ). b % 16 ∷ b / 16 ∷ []) here))
+    refl
+    (omega arith)
 
 pub returns : goal.returns
 unfolding unpacked front_length
 returns c =
-    puts_then (puts-copied c.args.at 4 _ (omega arith) (length-take-le 4 c.args.m.now (omega arith)) c.put.ensures)
-    (gone c.loop-i.invariant (omega arith) (search rules))
+    let m = c.args.m.now in
+    let long : length (take (length m - 4) (drop 4 m)) ≡ 6 = rw (rest-is 4 m) (omega (arith, length-drop 4 m)) in
+    let four = puts-as (length-take-le 4 m (omega arith)) refl c.put_all.ensures in
+    puts_then four (all-gathered c.loop-slots.invariant 12 6 (omega (arith, long)) (omega (arith, long)))

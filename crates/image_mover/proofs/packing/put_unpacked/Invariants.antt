@@ -1,13 +1,8 @@
 -- `put_unpacked` puts the bytes before the left side, and both halves of each of the six bytes.
-use Prim.Native.Nat.{◌+◌, ◌-◌, ◌/◌, ◌%◌}
-use mathlib.Core.List.{[], ◌∷◌}
-use lib.ListN.{get_or}
-use Rattle.image_mover.proofs.Gathered.{Going}
+use Rattle.std.proofs.Common.{◌+◌, ◌*◌, ◌/◌, ◌%◌, [], ◌∷◌, get_or}
+use Rattle.image_writer.proofs.Puts.{Gathered}
 use Rattle.image_mover.proofs.packing.put_unpacked.Given as goal
 
-abbrev pub invariant-loop-i : goal.invariant-loop-i
-invariant-loop-i l =
-    Going l.initial.out l.initial.next 6 2 (λ i. get_or l.m (4 + i) 0 % 16 ∷ get_or l.m (4 + i) 0 / 16 ∷ []) l.out l.next l.i
-
-abbrev pub decreases-loop-i : goal.decreases-loop-i
-decreases-loop-i l = 6 - l.i
+abbrev pub invariant-loop-slots : goal.invariant-loop-slots
+invariant-loop-slots l =
+    Gathered l.initial.out (2 * l.slots-index) (λ i. get_or l.m (4 + i) 0 % 16 ∷ get_or l.m (4 + i) 0 / 16 ∷ []) 0 l.slots-index l.out

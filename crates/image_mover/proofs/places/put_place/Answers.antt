@@ -1,14 +1,12 @@
 -- `put_place` puts the bytes at one place, record by record.
-use mathlib.Core.Path.{refl}
-use native.Mathlib.Nat.{one-mul}
-use native.Mathlib.Omega.{arith}
-use Rattle.image_writer.proofs.Puts.{puts-as}
-use Rattle.image_mover.proofs.Gathered.{begun, going, gone, in-record}
-use borrow.Author.Rules.{rules}
+use Rattle.std.proofs.Common.{refl, arith, rules}
+use native.Mathlib.Nat.{zero-add}
+use Rattle.image_writer.proofs.Puts.{none_gathered, one_more, all-gathered}
+use Rattle.image_mover.proofs.Parts.{in-record}
 use Rattle.image_mover.proofs.places.put_place.Goals as goal
 
 pub loop-r-init : goal.loop-r-init
-loop-r-init c = begun (omega arith)
+loop-r-init c = none_gathered _ _ 0 0 0 (omega arith) refl refl
 
 pub overflow_mul-width : goal.overflow_mul-width
 overflow_mul-width c =
@@ -26,7 +24,7 @@ bounds-s-width c =
     search rules
 
 pub loop-r-preserved : goal.loop-r-preserved
-loop-r-preserved c = going c.loop-r.invariant (omega arith) c.put_byte-next.ensures (search rules)
+loop-r-preserved c = one_more c.loop-r.invariant _ _ c.put.ensures (rw zero-add refl) refl refl
 
 pub returns : goal.returns
-returns c = puts-as (one-mul _) refl (gone c.loop-r.invariant (omega arith) (omega arith))
+returns c = all-gathered c.loop-r.invariant _ _ (omega arith) (omega arith)

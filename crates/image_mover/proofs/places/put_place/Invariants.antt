@@ -1,12 +1,7 @@
 -- `put_place` puts the bytes at one place, record by record.
-use Prim.Native.Nat.{◌+◌, ◌-◌, ◌*◌}
-use mathlib.Core.List.{[], ◌∷◌}
-use lib.ListN.{get_or}
-use Rattle.image_mover.proofs.Gathered.{Going}
+use Rattle.std.proofs.Common.{◌+◌, ◌*◌, [], ◌∷◌, get_or}
+use Rattle.image_writer.proofs.Puts.{Gathered}
 use Rattle.image_mover.proofs.places.put_place.Given as goal
 
 abbrev pub invariant-loop-r : goal.invariant-loop-r
-invariant-loop-r l = Going l.initial.out l.at l.count 1 (λ r. get_or l.s (l.width * r + l.place) 0 ∷ []) l.out l.next l.r
-
-abbrev pub decreases-loop-r : goal.decreases-loop-r
-decreases-loop-r l = l.count - l.r
+invariant-loop-r l = Gathered l.initial.out l.r (λ r. get_or l.s (l.width * r + l.place) 0 ∷ []) 0 l.r l.out

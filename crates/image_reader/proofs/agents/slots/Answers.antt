@@ -1,5 +1,4 @@
--- `slots` packs twelve slots, from the last down.
--- The invariant: what was packed so far.
+-- `slots` packs twelve slots, from the last down: what was packed so far.
 use native.Mathlib.Omega.{arith}
 use Rattle.image_reader.proofs.Digits.{none-packed, room, one-packed, all-packed}
 use Rattle.image_reader.proofs.agents.slots.Goals as goal
@@ -10,14 +9,11 @@ loop-i-init c = none-packed _ _
 pub overflow_mul-word : goal.overflow_mul-word
 overflow_mul-word c = omega (arith, room _ _ c.loop-i.i c.loop-i.word c.loop-i-test.true c.loop-i.invariant)
 
-pub overflow_add-at : goal.overflow_add-at
-overflow_add-at c = omega (arith, c.loop-i.invariant.few)
-
 pub overflow_add-word : goal.overflow_add-word
 overflow_add-word c = omega (arith, room _ _ c.loop-i.i c.loop-i.word c.loop-i-test.true c.loop-i.invariant)
 
 pub loop-i-preserved : goal.loop-i-preserved
-loop-i-preserved c = one-packed _ _ c.loop-i.i c.loop-i.word _ c.loop-i-test.true c.loop-i.invariant c.byte.ensures
+loop-i-preserved c = rw c.from.ensures (one-packed _ _ c.loop-i.i c.loop-i.word _ c.loop-i-test.true c.loop-i.invariant c.byte.ensures)
 
 pub returns : goal.returns
 returns c = all-packed _ _ c.loop-i.i c.loop-i.word c.loop-i.invariant (omega arith)

@@ -1,10 +1,6 @@
--- `slots` packs twelve slots, from the last down.
--- The invariant: what was packed so far.
+-- `slots` packs twelve slots, from the last down: what was packed so far.
 use Rattle.image_reader.proofs.Digits.{Packing}
 use Rattle.image_reader.proofs.agents.slots.Given as goal
 
 abbrev pub invariant-loop-i : goal.invariant-loop-i
 invariant-loop-i l = Packing l.s l.at l.i l.word
-
-abbrev pub decreases-loop-i : goal.decreases-loop-i
-decreases-loop-i l = l.i

@@ -1,5 +1,4 @@
--- `stored` is the mask of the stored reasons, from the last down.
--- The invariant: the mask of the own values above v.
+-- `stored` is the mask of the stored reasons, from the last down: the mask of the own values above v.
 use Prim.Native.Nat.{◌<◌}
 use mathlib.Core.Path.{◌≡◌, refl}
 use native.Mathlib.Omega.{arith}
@@ -11,22 +10,22 @@ use Rattle.image_reader.proofs.agents.stored.Goals as goal
 
 pub loop-v-init : goal.loop-v-init
 unfolding mask_from
-loop-v-init c = (omega arith, refl)
+loop-v-init c = refl
 
 pub overflow_mul-mask : goal.overflow_mul-mask
 overflow_mul-mask c =
     let room : c.loop-v.mask < 128 =
-    next_fits c.args.s.now c.args.at c.loop-v.mask c.loop-v.v c.loop-v-test.true c.loop-v.invariant.1 in
+    next_fits c.args.s.now c.args.at c.loop-v.mask c.loop-v.v c.loop-v-test.true c.loop-v.invariant in
     record { fits = omega (arith, room) }
 
 pub overflow_add-mask : goal.overflow_add-mask
 overflow_add-mask c =
     let room : c.loop-v.mask < 128 =
-    next_fits c.args.s.now c.args.at c.loop-v.mask c.loop-v.v c.loop-v-test.true c.loop-v.invariant.1 in
-    record { fits = omega (arith, room, byte-lt (eqb c.byte.result 1)) }
+    next_fits c.args.s.now c.args.at c.loop-v.mask c.loop-v.v c.loop-v-test.true c.loop-v.invariant in
+    record { fits = omega (arith, room, c.from.ensures, byte-lt (eqb c.byte.result 1)) }
 
 pub loop-v-preserved : goal.loop-v-preserved
-loop-v-preserved c = (omega arith, next-mask c.args.s.now c.args.at _ c.loop-v.v _ c.loop-v-test.true c.loop-v.invariant.0 c.loop-v.invariant.1 c.byte.ensures)
+loop-v-preserved c = rw c.from.ensures (next-mask c.args.s.now c.args.at _ c.loop-v.v _ c.loop-v-test.true (omega arith) c.loop-v.invariant c.byte.ensures)
 
 pub returns : goal.returns
-returns c = let e : c.loop-v.v ≡ 0 = omega arith in rw e at c.loop-v.invariant.1
+returns c = let e : c.loop-v.v ≡ 0 = omega arith in rw e at c.loop-v.invariant

@@ -1,5 +1,4 @@
--- `row` has as digit j how many messages wait for receiver j.
--- The invariant: the digits of the receivers before j are there.
+-- `row` has as digit j how many messages wait for receiver j: the digits of the receivers before j are there.
 use mathlib.Core.Path.{sym}
 use native.Mathlib.Omega.{arith}
 use Rattle.clauses.proofs.Numbering.{ends, to-channel}
@@ -8,23 +7,18 @@ use Rattle.image_reader.proofs.lines.row.Goals as goal
 use Rattle.image_reader.proofs.lines.row.Goals.{else-j-i, then-j-i}
 
 pub loop-j-init : goal.loop-j-init
-loop-j-init c = (omega arith, omega arith, none-rowed c.args.lengths.now c.args.i _)
+loop-j-init c = none-rowed c.args.lines.now c.args.i _
 
 pub channel_at-requires : goal.channel_at-requires
-channel_at-requires c = to-channel _ _ c.requires.0 c.requires.1 c.loop-j.invariant.0 c.loop-j-test.true (λ e. c.if-j-i.true (sym e))
-
-pub bounds-lengths-channel_at : goal.bounds-lengths-channel_at
-bounds-lengths-channel_at c = c.channel_at.ensures.1
+channel_at-requires c = to-channel _ _ c.requires.0 c.requires.1 c.loop-j.auto.j c.loop-j-test.true (λ e. c.if-j-i.true (sym e))
 
 pub loop-j-preserved : goal.loop-j-preserved
-loop-j-preserved c = (
-  omega arith,
-  omega arith,
-  elim c.if-j-i.branch [
-    | then-j-i u ↦ one-rowed c.args.lengths.now c.args.i c.loop-j.word c.loop-j.j _ c.loop-j.invariant.2 _ _ u.channel_at.ensures.0 u.with_digit-word.ensures u.word-is
-    | else-j-i u ↦ none_more c.args.lengths.now c.args.i c.loop-j.word c.loop-j.j _ c.loop-j.invariant.2 u.if-j-i.false u.word-is
-  ],
-)
+loop-j-preserved c =
+    let l = c.loop-j in
+    elim c.if-j-i.branch [
+      | then-j-i u ↦ one-rowed c.args.lines.now c.args.i l.word l.j _ l.invariant _ _ u.channel_at.ensures.0 u.with_digit-word.ensures u.word-is
+      | else-j-i u ↦ none_more c.args.lines.now c.args.i l.word l.j _ l.invariant u.if-j-i.false u.word-is
+    ]
 
 pub returns : goal.returns
-returns c = λ j e. c.loop-j.invariant.2 j e (omega (arith, (ends _ j e).to_high))
+returns c = λ j e. c.loop-j.invariant j e (omega (arith, (ends _ j e).to_high))

@@ -1,6 +1,6 @@
--- `rows` are the rows of all senders.
--- After i turns those of the first i are there.
-use mathlib.Core.Path.{refl, ◌∙◌}
+-- `rows` are the rows of all senders: those of the senders below i are there.
+use mathlib.Core.Path.{◌≡◌, refl, ◌∙◌}
+use Prim.Native.Nat.{◌+◌, ◌-◌}
 use native.Mathlib.Omega.{arith}
 use lib.ListN.{length-set}
 use Rattle.clauses.proofs.Numbering.{ends}
@@ -8,14 +8,17 @@ use Rattle.image_reader.proofs.Rows.{none-sent, one-sent}
 use Rattle.image_reader.proofs.lines.rows.Goals as goal
 
 pub loop-i-init : goal.loop-i-init
-loop-i-init c = (omega arith, refl, none-sent c.args.lengths.now _)
+loop-i-init c = record { long = refl; rowed = none-sent c.args.lines.now _ }
 
 pub loop-i-preserved : goal.loop-i-preserved
-loop-i-preserved c = (
-  omega arith,
-  length-set c.loop-i.rows _ _ ∙ c.loop-i.invariant.1,
-  one-sent c.args.lengths.now c.loop-i.rows c.loop-i.i _ (omega arith) c.loop-i.invariant.2 c.row.ensures,
-)
+loop-i-preserved c =
+    let l = c.loop-i in
+    let here : l.i - 1 + 1 ≡ l.i = omega arith in
+    let more : l.i + 1 - 1 ≡ l.i = omega arith in
+    record {
+      long = length-set l.rows _ _ ∙ l.invariant.long;
+      rowed = rw (more, ← here) (one-sent c.args.lines.now l.rows (l.i - 1) _ (omega arith) l.invariant.rowed (rw here c.row.ensures));
+    }
 
 pub returns : goal.returns
-returns c = λ i j e. c.loop-i.invariant.2 i j e (omega (arith, (ends i j e).from-high))
+returns c = λ i j e. c.loop-i.invariant.rowed i j e (omega (arith, (ends i j e).from-high))

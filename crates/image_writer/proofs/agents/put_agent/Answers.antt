@@ -6,9 +6,4 @@ use Rattle.image_writer.proofs.agents.put_agent.Goals as goal
 
 pub returns : goal.returns
 unfolding agent_bytes agent_of counts_of
-returns c =
-    puts_then
-    (puts_then
-    (puts_then c.put_front-reasons.ensures c.put_reasons-sent.ensures)
-    c.put_counts-received.ensures)
-    c.put_counts.ensures
+returns c = puts_then (puts_then (puts_then c.put_front.ensures c.put_reasons.ensures) c.put_counts.ensures) c.put_counts-2.ensures

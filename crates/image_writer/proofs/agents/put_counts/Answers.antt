@@ -2,11 +2,12 @@
 use Rattle.agent.specs.Abstract.{count_of}
 use Rattle.image_format.specs.Image.{count_bytes}
 use Rattle.image_writer.proofs.Puts.{puts_then}
+use Rattle.image_writer.proofs.Words.{puts-eight}
 use Rattle.image_writer.proofs.agents.put_counts.Goals as goal
 
 pub returns : goal.returns
 unfolding count_bytes count_of
 returns c =
     puts_then
-    (puts_then c.put_number-backs.ensures c.put_number-links.ensures)
-    c.put_number.ensures
+    (puts_then (puts-eight _ c.put_all.ensures c.to_le_bytes.ensures) (puts-eight _ c.put_all-2.ensures c.to_le_bytes-2.ensures))
+    (puts-eight _ c.put_all-3.ensures c.to_le_bytes-3.ensures)

@@ -5,11 +5,4 @@ use Rattle.image_writer.proofs.agents.put_front.Goals as goal
 
 pub returns : goal.returns
 unfolding assigned
-returns c =
-    puts_then
-    (puts_then
-    (puts_then
-    (puts_then c.put_byte-last.ensures c.put_byte-listens.ensures)
-    c.put_mask-informs.ensures)
-    c.put_mask-slots.ensures)
-    c.put_slots.ensures
+returns c = puts_then (puts_then (puts_then (puts_then c.put.ensures c.put-2.ensures) c.put_mask.ensures) c.put_mask-2.ensures) c.put_slots.ensures

@@ -1,9 +1,10 @@
 -- `put_mask` puts the mask of agents 1 to 12 of a set.
 -- The number below 4096 that has these bits is that mask.
-use mathlib.Core.Path.{refl}
+use Rattle.std.proofs.Common.{refl}
 use Rattle.image_writer.proofs.Puts.{puts-as}
+use Rattle.image_writer.proofs.Words.{puts-two}
 use Rattle.image_writer.proofs.Records.{mask-is-put}
 use Rattle.image_writer.proofs.agents.put_mask.Goals as goal
 
 pub returns : goal.returns
-returns c = puts-as refl (mask-is-put c.args.set) c.put_number.ensures
+returns c = puts-as refl (mask-is-put c.args.set) (puts-two _ c.put_all.ensures c.to_le_bytes.ensures)

@@ -1,33 +1,34 @@
--- `put_bans` puts the words of all pairs, by lower, then higher agent.
--- Those of the lower agents above `lower` are left to put.
-use mathlib.Core.Path.{refl}
-use native.Mathlib.Omega.{arith}
-use borrow.Author.Rules.{rules}
-use Rattle.image_writer.proofs.Puts.{all_left, left_as, less-left, none_left, puts-as}
-use Rattle.image_writer.proofs.BanTable.{rows_left, all-rows, first-row, no_rows, row_room, rows-length}
+-- `put_bans` puts the words of all pairs, by lower, then higher agent: those of the agents below `lower` are put.
+use Rattle.std.proofs.Common.{◌≡◌, ◌+◌, ◌-◌, arith, refl}
+use Rattle.base.specs.Finite.{gather}
+use Rattle.problem.specs.Problem.{max_agents}
+use Rattle.network.specs.Abstract.{problem_of}
+use Rattle.image_format.specs.Image.{ban_bytes}
+use Rattle.image_writer.proofs.Puts.{none_gathered, one_more, all-gathered}
+use Rattle.image_writer.proofs.BanTable.{row_room, more-rows, rows-length}
 use Rattle.image_writer.proofs.bans.put_bans.Goals as goal
 
 pub loop-lower-init : goal.loop-lower-init
-loop-lower-init c =
-    let a = c.args in
-    (omega arith, refl, all_left a.out.now a.at (rows_left a.bans.now 0) (omega arith))
+unfolding gather
+loop-lower-init c = none_gathered _ _ _ _ _ (omega arith) refl refl
 
-pub put_bans_of-next-requires : goal.put_bans_of-next-requires
-put_bans_of-next-requires c =
+pub put_bans_of-requires : goal.put_bans_of-requires
+put_bans_of-requires c =
     let l = c.loop-lower in
-    let bans = c.args.bans.now in
-    (omega arith, omega arith, omega (arith, l.invariant.2.end, rows-length bans, row_room bans l.lower (omega arith)))
+    let p = l.invariant.put in
+    let here : 1 + (l.lower - 1) ≡ l.lower = omega arith in
+    record { inside = (omega arith, omega arith); room = omega (arith, p.behind, p.kept, row_room c.args.r.now.bans (l.lower - 1) (omega arith), here) }
 
 pub loop-lower-preserved : goal.loop-lower-preserved
 loop-lower-preserved c =
     let l = c.loop-lower in
-    let bans = c.args.bans.now in
-    (omega arith, search rules, less-left (left_as (first-row bans l.lower (omega arith)) l.invariant.2) c.put_bans_of-next.ensures)
+    let bans = c.args.r.now.bans in
+    let here : 1 + (l.lower - 1) ≡ l.lower = omega arith in
+    one_more l.invariant _ _ c.put_bans_of.ensures (rw here refl) (omega arith) (more-rows bans l.lower _ (omega arith) (omega arith))
 
 pub returns : goal.returns
+unfolding ban_bytes max_agents problem_of
 returns c =
     let l = c.loop-lower in
-    let a = c.args in
-    λ p e.
-    puts-as refl (all-rows p a.bans.now e)
-    (none_left (left_as (no_rows a.bans.now l.lower (omega arith)) l.invariant.2) (omega arith) 528 (rows-length a.bans.now))
+    let last : l.lower - 1 ≡ 12 = omega arith in
+    all-gathered l.invariant 528 12 last (rw last (rows-length c.args.r.now.bans))

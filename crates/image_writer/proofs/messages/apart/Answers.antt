@@ -9,7 +9,7 @@ returns-in-Info c = λ next. rw c.in-Info.is (info-bytes _ next)
 
 pub returns-in-Back : goal.returns-in-Back
 unfolding message_of
-returns-in-Back c = λ next. rw (c.in-Back.is, c.unpack-l.ensures) (back-bytes _ _ next)
+returns-in-Back c = λ next. rw (c.in-Back.is, c.unpack.ensures) (back-bytes _ _ next)
 
 pub returns-in-AddLink : goal.returns-in-AddLink
 unfolding message_of

@@ -6,5 +6,5 @@ use Rattle.image_writer.proofs.messages.first_of.Goals as goal
 pub returns-then-count-eq0 : goal.returns-then-count-eq0
 returns-then-count-eq0 c = λ l e. none_after c.args.before l (e ∙ c.if-count-eq0.true)
 
-pub returns : goal.returns
-returns c = λ l e. some_after c.args.before l (λ z. c.if-count-eq0.false (sym e ∙ z))
+pub returns-else-count-eq0 : goal.returns-else-count-eq0
+returns-else-count-eq0 c = λ l e. some_after c.args.before l (λ z. c.if-count-eq0.false (sym e ∙ z))

@@ -10,5 +10,5 @@ returns-then-k-lt2 c = one-agent _ (omega arith)
 pub returns-then-k-lt6 : goal.returns-then-k-lt6
 returns-then-k-lt6 c = of_two _ (omega arith) (omega arith)
 
-pub returns : goal.returns
-returns c = of_three _ (omega arith) (omega arith)
+pub returns-else-k-lt6 : goal.returns-else-k-lt6
+returns-else-k-lt6 c = of_three _ (omega arith) (omega arith)

@@ -1,6 +1,6 @@
 -- `bans_of` puts down the pairs of a set of bans.
 -- Those put down, and behind them what the bits left choose from the pair at hand on.
-use mathlib.Core.Path.{refl, sym, ◌∙◌}
+use mathlib.Core.Path.{sym, ◌∙◌}
 use native.Mathlib.Numerals.{add-one}
 use native.Mathlib.Omega.{arith}
 use Rattle.little_sheet.proofs.Pairs.{going-begins, going-skipped, going-owned, going-ends}
@@ -8,7 +8,7 @@ use Rattle.little_sheet.proofs.rows.bans_of.Goals as goal
 use Rattle.little_sheet.proofs.rows.bans_of.Goals.{else-owned, then-owned}
 
 pub loop-k-init : goal.loop-k-init
-loop-k-init c = let a = c.args in (omega arith, omega arith, refl, going-begins a.c a.bans a.rows.now)
+loop-k-init c = let a = c.args in (omega arith, going-begins a.c a.bans a.rows.now)
 
 pub loop-k-preserved : goal.loop-k-preserved
 loop-k-preserved c =
@@ -17,20 +17,14 @@ loop-k-preserved c =
     elim c.if-owned.branch [
       | then-owned u ↦ let f = u.with_ban-count.ensures.0 in
           rw (add-one l.k, u.rows-is, u.count-is, u.left-is) (
-            omega arith,
-            omega (arith, u.with_ban-count.ensures.1, l.invariant.1),
-            f.long ∙ l.invariant.2,
-            going-owned _ _ _ l.count l.k l.left (omega arith) l.invariant.3 (own ∙ u.if-owned.true) _ _ f,
+            omega (arith, u.with_ban-count.ensures.1, l.invariant.0),
+            going-owned _ _ _ l.count l.k l.left (omega arith) l.invariant.1 (own ∙ u.if-owned.true) _ _ f,
           )
       | else-owned u ↦ rw (add-one l.k, u.rows-is, u.count-is, u.left-is) (
-        omega arith,
-        omega (arith, l.invariant.1),
-        l.invariant.2,
-        going-skipped _ _ _ l.count l.k l.left (omega arith) l.invariant.3 (own ∙ u.if-owned.false),
+        omega (arith, l.invariant.0),
+        going-skipped _ _ _ l.count l.k l.left (omega arith) l.invariant.1 (own ∙ u.if-owned.false),
       )
     ]
 
 pub returns : goal.returns
-returns c =
-    let l = c.loop-k in
-    (going-ends _ _ _ l.count l.k l.left (omega arith) l.invariant.3, omega arith)
+returns c = let l = c.loop-k in (going-ends _ _ _ l.count l.k l.left (omega arith) l.invariant.1, omega arith)

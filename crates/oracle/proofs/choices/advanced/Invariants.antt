@@ -1,11 +1,9 @@
--- The scanners are gone through one by one: what is left are those from scanner i on.
-use Prim.Native.Nat.{◌-◌, ◌≤◌}
+-- The scanners are gone through one by one: what is left are those from scanner k + 1 on.
+use Prim.Native.Nat.{◌+◌, ◌-◌}
 use mathlib.Core.Path.{◌≡◌}
-use Rattle.oracle.specs.Choices.{carried_from}
+use lib.ListN.{length}
+use Rattle.oracle.specs.Choices.{next_from, next_choice}
 use Rattle.oracle.proofs.choices.advanced.Given as goal
 
-abbrev pub invariant-loop-i : goal.invariant-loop-i
-invariant-loop-i l = (1 ≤ l.i) × (l.i ≤ 13) × (carried_from 12 l.s 1 l.initial.o ≡ carried_from (13 - l.i) l.s l.i l.o)
-
-abbrev pub decreases-loop-i : goal.decreases-loop-i
-decreases-loop-i l = 13 - l.i
+abbrev pub invariant-loop-k : goal.invariant-loop-k
+invariant-loop-k l = (length l.of ≡ 12) × (next_choice l.s l.fn.c ≡ next_from (12 - l.k) l.s (l.k + 1) l.of)

@@ -1,7 +1,6 @@
--- The scanners are asked one by one: the first i of them have been.
-use Prim.Native.Nat.{ℕ, ◌-◌, ◌≤◌}
+-- The scanners are asked one by one: the first k of them have been.
+use Prim.Native.Nat.{ℕ}
 use mathlib.Core.Path.{◌≡◌}
-use mathlib.Core.Bool.{false}
 use lib.ListN.{length}
 use Rattle.protocol.specs.Delivery.{ask_value}
 use Rattle.network.specs.Abstract.{network_of}
@@ -13,8 +12,5 @@ use Rattle.oracle.proofs.taken.taken.Given as goal
 abbrev pub asked : Network → ℕ → ℕ
 asked rail k = (ask_value (network_of rail) k).value
 
-abbrev pub invariant-loop-i : goal.invariant-loop-i
-invariant-loop-i l = (l.i ≤ 12) × (length l.c.of ≡ 12) × (l.c.over ≡ false) × Asked (asked l.rail) l.c.of l.i
-
-abbrev pub decreases-loop-i : goal.decreases-loop-i
-decreases-loop-i l = 12 - l.i
+abbrev pub invariant-loop-k : goal.invariant-loop-k
+invariant-loop-k l = (length l.slot-items ≡ 12) × Asked (asked l.rail) l.slot-items l.k

@@ -3,4 +3,4 @@ use Rattle.random_rails.proofs.Lines.{at_rest}
 use Rattle.random_rails.proofs.rails.at_rest.Goals as goal
 
 pub returns : goal.returns
-returns c = at_rest _ _ c.waiting_line.ensures
+returns c = at_rest _ _ _ c.waiting_line.ensures c.is_none.ensures

@@ -1,19 +1,18 @@
--- The delivery goes on from the rail, and its number says what it is counted as.
+-- The delivery goes on from the rail, and whether it was refused says what it is counted as.
 use mathlib.Core.Bool.{not}
-use Rattle.random_rails.proofs.Lists.{goes}
+use mir.Val.{bool_byte}
+use Prim.Native.Nat.{◌+◌}
+use mathlib.Core.Path.{ap, ◌∙◌}
+use Rattle.engine.specs.Refused.{refused_number}
+use Rattle.random_rails.proofs.Lists.{goes, accepts}
 use Rattle.random_rails.proofs.rails.delivered.Goals as goal
 
 pub returns : goal.returns
 returns c =
+    let l = c.args.l in
     let ends = c.chosen-ends.result in
-    goes
-    c.args.l
-    _
-    ends.from
-    ends.to
-    c.deliver-out.result.number
-    (not c.number_right.result)
-    c.deliver-out.ensures.delivers_as
-    c.more.ensures
-    c.more-2.ensures
-    c.more-3.ensures
+    let accepted = accepts c.deliver-out.result.refusal c.is_none-accepted.result c.is_none-accepted.ensures in
+    goes l _ ends.from ends.to (refused_number c.deliver-out.result.refusal) (not c.refusal_right-wrong.result) c.deliver-out.ensures.delivers_as
+    (ap (λ n. l.accepted + n) (c.from.ensures ∙ ap bool_byte accepted))
+    (ap (λ n. l.refused + n) (c.from-2.ensures ∙ ap (λ b. bool_byte (not b)) accepted))
+    (ap (λ n. l.wrong + n) c.from-3.ensures)

@@ -1,25 +1,32 @@
--- Not judged, faulty, or read on behind it. Assumes nothing.
-use mathlib.Core.Path.{refl, sym, ◌∙◌}
-use native.Mathlib.Omega.{arith}
+-- Up to the newline, or to the end where there is none. Assumes nothing.
+use Prim.Native.Nat.{◌+◌}
+use mathlib.Core.Path.{sym, ◌∙◌}
+use borrow.Author.Tests.{eqb-true, eqb-false}
 use Rattle.scribe_rules.specs.Words.{is_newline}
-use Rattle.scribe_reader.proofs.Walked.{advance-broken, advance-wrong, advance-next}
+use Rattle.scribe_statements.proofs.Searching.{position-some, position-none}
+use Rattle.scribe_statements.proofs.Pieces.{rest-is}
+use Rattle.scribe_reader.proofs.Walked.{empty_none, next-ended, next-cut, next-last}
 use Rattle.scribe_reader.proofs.lines.next_line.Goals as goal
+use Rattle.scribe_reader.proofs.lines.next_line.Goals.{then-cut, else-cut}
 
-pub returns-then-broken : goal.returns-then-broken
+pub returns-in-Some : goal.returns-in-Some
 unfolding is_newline
-returns-then-broken c = advance-broken _ _ _ _ c.requires c.find.result _ c.find.ensures.0 refl (sym c.broken.ensures ∙ c.if-broken.true) _ refl c.fault_with.ensures refl refl
+returns-in-Some c = next-ended _ _ _ _ (position-some is_newline _ _ c.in-Some.ensures) (rest-is c.args.text.now (c.in-Some.end + 1))
 
-pub returns-then-f-ne0 : goal.returns-then-f-ne0
+pub returns-in-None : goal.returns-in-None
 unfolding is_newline
-returns-then-f-ne0 c =
-    advance-wrong _ _ _ _ c.requires c.find.result _ c.find.ensures.0 refl (sym c.broken.ensures ∙ c.if-broken.false) _ _ c.with_line-step.ensures
-    c.if-f-ne0.true _ refl refl refl refl
+returns-in-None c =
+    elim c.if-cut.branch [
+      | then-cut w ↦ next-cut _ _ w.if-cut.true (position-none is_newline _ c.in-None.ensures)
+      | else-cut w ↦ empty_none _ _ (eqb-true _ 0 (sym w.is_empty.ensures ∙ sym w.value-is ∙ c.if-is_empty.true))
+    ]
 
-pub overflow_add-result : goal.overflow_add-result
-overflow_add-result c = omega (arith, c.requires.numbered, c.requires.left, c.requires.short)
-
-pub returns : goal.returns
+pub returns-in-None-2 : goal.returns-in-None-2
 unfolding is_newline
-returns c =
-    advance-next _ _ _ _ c.requires c.find.result _ c.find.ensures.0 refl (sym c.broken.ensures ∙ c.if-broken.false) _ _ c.with_line-step.ensures
-    c.if-f-ne0.false _ refl refl c.behind.ensures refl
+returns-in-None-2 c =
+    elim c.if-cut.branch [
+      | then-cut w ↦ (let z : ⊥ = cc in absurd z)
+      | else-cut w ↦
+          next-last _ _ _ _ w.if-cut.false (eqb-false _ 0 (sym w.is_empty.ensures ∙ sym w.value-is ∙ c.if-is_empty.false))
+          (position-none is_newline _ c.in-None.ensures) c.split_at.ensures.front c.split_at.ensures.back
+    ]

@@ -1,20 +1,24 @@
 -- Line by line, what is read with what is left comes to the same. Assumes nothing.
-use mathlib.Core.Path.{refl}
-use native.Mathlib.Omega.{arith}
-use Rattle.scribe_reader.proofs.Walked.{walks-none, walks-ready, walks-one}
+use mathlib.Core.Path.{sym, ◌∙◌}
+use Rattle.scribe_reader.proofs.Walked.{walks-none, walks-one, walks-wrong, ends-cut, ends-early, ends-made}
 use Rattle.scribe_reader.proofs.lines.read_lines.Goals as goal
 
-pub loop-w-init : goal.loop-w-init
-loop-w-init c = walks-none _ _ _ _ c.requires.0 c.no_draft.ensures.0 c.no_draft.ensures.1 c.fault_with.ensures refl refl
+pub loop-this-init : goal.loop-this-init
+loop-this-init c = walks-none _ _ _
 
-pub next_line-w-requires : goal.next_line-w-requires
-next_line-w-requires c = walks-ready _ _ _ _ _ c.loop-w.invariant c.loop-w-test.true c.requires.1
+pub returns-in-Err : goal.returns-in-Err
+returns-in-Err c = walks-wrong _ _ _ _ _ _ c.loop-this.invariant _ _ c.in-Some.ensures.0 _ _ c.in-Err.ensures
 
-pub loop-w-smaller : goal.loop-w-smaller
-loop-w-smaller c = omega (arith, c.next_line-w.ensures.further, c.next_line-w.ensures.walks.inside)
+pub loop-this-preserved : goal.loop-this-preserved
+loop-this-preserved c = walks-one _ _ _ _ _ _ c.loop-this.invariant _ _ c.in-Some.ensures.0 _ c.in-Some.ensures.1 c.in_default-with_line.ensures
 
-pub loop-w-preserved : goal.loop-w-preserved
-loop-w-preserved c = walks-one _ _ _ _ _ c.loop-w.invariant c.loop-w-test.true _ _ c.next_line-w.ensures
+pub returns-then-cut : goal.returns-then-cut
+returns-then-cut c = ends-cut _ _ _ _ _ _ c.loop-this.invariant c.in_default.ensures c.if-cut.true
 
-pub returns : goal.returns
-returns c = (c.loop-w.invariant, omega (arith, c.loop-w.invariant.inside, c.loop-w-test.false))
+pub returns-then-begun : goal.returns-then-begun
+returns-then-begun c =
+    ends-made _ _ _ _ _ _ c.loop-this.invariant c.in_default.ensures c.if-cut.false (sym c.begun.ensures ∙ c.if-begun.true)
+
+pub returns-else-begun : goal.returns-else-begun
+returns-else-begun c =
+    ends-early _ _ _ _ _ _ c.loop-this.invariant c.in_default.ensures c.if-cut.false (sym c.begun.ensures ∙ c.if-begun.false)

@@ -1,11 +1,29 @@
--- By the words of what is left of the line. Assumes nothing.
-use mathlib.Core.Path.{sym}
-use lib.Seq.{length-take-le}
-use Rattle.scribe_reader.proofs.Walked.{takes-as, line-says}
+-- By its first word, if there is one. Assumes nothing.
+use Prim.Native.Nat.{ℕ}
+use mathlib.Core.Path.{sym, ap, ◌∙◌}
+use mathlib.Core.List.{List}
+use lib.Pointwise.{pointwise}
+use Rattle.std.specs.Prelude.{nat_eq}
+use Rattle.scribe_rules.specs.Statements.{slots_word, ban_word, gap_word}
+use Rattle.scribe_drafts.specs.Drafting.{draft_in, judged, taken_of}
+use Rattle.scribe_reader.proofs.Walked.{says_nothing, says-slots, says-ban, says-gap, says-none}
 use Rattle.scribe_reader.proofs.lines.with_line.Goals as goal
 
-pub slice_bounds-with_words-end : goal.slice_bounds-with_words-end
-slice_bounds-with_words-end c = sym (length-take-le _ _ c.bare_length-n.ensures.1)
+pub returns-in_default : goal.returns-in_default
+returns-in_default c = says_nothing _ _ c.bare.ensures c.args.draft.now c.in_default.ensures
 
-pub returns : goal.returns
-returns c = takes-as _ _ _ _ _ _ (line-says c.args.line.now c.bare_length-n.result c.bare_length-n.ensures.0) c.with_words.ensures
+pub returns-then-eq : goal.returns-then-eq
+unfolding slots_word
+returns-then-eq c = c.with_slots.ensures ∙ says-slots _ _ c.bare.ensures (draft_in c.args.draft.now) _ _ c.in-Some.ensures.0 (sym (ap (λ (l : List ℕ). pointwise nat_eq c.in-Some.word.now l) c.as_slice.ensures) ∙ (sym c.eq.ensures ∙ c.if-eq.true))
+
+pub returns-then-eq-2 : goal.returns-then-eq-2
+unfolding slots_word ban_word
+returns-then-eq-2 c = c.with_ban.ensures ∙ says-ban _ _ c.bare.ensures (draft_in c.args.draft.now) _ _ c.in-Some.ensures.0 (sym (ap (λ (l : List ℕ). pointwise nat_eq c.in-Some.word.now l) c.as_slice.ensures) ∙ (sym c.eq.ensures ∙ c.if-eq.false)) (sym (ap (λ (l : List ℕ). pointwise nat_eq c.in-Some.word.now l) c.as_slice-else-eq.ensures) ∙ (sym c.eq-else-eq.ensures ∙ c.if-eq-2.true))
+
+pub returns-then-eq-3 : goal.returns-then-eq-3
+unfolding slots_word ban_word gap_word
+returns-then-eq-3 c = c.with_gap.ensures ∙ says-gap _ _ c.bare.ensures (draft_in c.args.draft.now) _ _ c.in-Some.ensures.0 (sym (ap (λ (l : List ℕ). pointwise nat_eq c.in-Some.word.now l) c.as_slice.ensures) ∙ (sym c.eq.ensures ∙ c.if-eq.false)) (sym (ap (λ (l : List ℕ). pointwise nat_eq c.in-Some.word.now l) c.as_slice-else-eq.ensures) ∙ (sym c.eq-else-eq.ensures ∙ c.if-eq-2.false)) (sym (ap (λ (l : List ℕ). pointwise nat_eq c.in-Some.word.now l) c.as_slice-else-eq-2.ensures) ∙ (sym c.eq-else-eq-2.ensures ∙ c.if-eq-3.true))
+
+pub returns-else-eq-3 : goal.returns-else-eq-3
+unfolding slots_word ban_word gap_word taken_of judged
+returns-else-eq-3 c = says-none _ _ c.bare.ensures (draft_in c.args.draft.now) _ _ c.in-Some.ensures.0 (sym (ap (λ (l : List ℕ). pointwise nat_eq c.in-Some.word.now l) c.as_slice.ensures) ∙ (sym c.eq.ensures ∙ c.if-eq.false)) (sym (ap (λ (l : List ℕ). pointwise nat_eq c.in-Some.word.now l) c.as_slice-else-eq.ensures) ∙ (sym c.eq-else-eq.ensures ∙ c.if-eq-2.false)) (sym (ap (λ (l : List ℕ). pointwise nat_eq c.in-Some.word.now l) c.as_slice-else-eq-2.ensures) ∙ (sym c.eq-else-eq-2.ensures ∙ c.if-eq-3.false))

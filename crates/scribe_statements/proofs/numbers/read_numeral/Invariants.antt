@@ -1,11 +1,6 @@
 -- Digit by digit, what is read so far says the same number with the digits left. Assumes nothing.
-use Prim.Native.Nat.{◌-◌}
-use lib.ListN.{length}
 use Rattle.scribe_statements.proofs.Numerals.{Counted}
 use Rattle.scribe_statements.proofs.numbers.read_numeral.Given as goal
 
-abbrev pub invariant-loop-i : goal.invariant-loop-i
-invariant-loop-i l = Counted l.s l.value l.i
-
-abbrev pub decreases-loop-i : goal.decreases-loop-i
-decreases-loop-i l = length l.s - l.i
+abbrev pub invariant-loop-b : goal.invariant-loop-b
+invariant-loop-b l = Counted l.s l.value l.b-index

@@ -1,7 +1,20 @@
 -- Past the blanks, and to the next one. Assumes nothing.
-use mathlib.Core.Path.{refl}
-use Rattle.scribe_statements.proofs.Pieces.{next-cut}
+use mathlib.Core.Path.{refl, sym, ◌∙◌}
+use mathlib.Core.Bool.{not}
+use Rattle.scribe_rules.specs.Words.{is_blank}
+use Rattle.scribe_statements.proofs.Searching.{position-some, position-none, length-first}
+use Rattle.scribe_statements.proofs.Pieces.{no_words, rest-is, next-is}
 use Rattle.scribe_statements.proofs.parts.next_word.Goals as goal
 
+pub returns-in_err-start : goal.returns-in_err-start
+returns-in_err-start c =
+    rw c.from_residual.ensures
+    (no_words c.args.s.now (position-none (λ b. not (is_blank b)) _ (sym c.in_err-start.was ∙ c.word_start.ensures)))
+
 pub returns : goal.returns
-returns c = next-cut _ _ c.blank_length.result c.word_length.result _ c.requires c.blank_length.ensures.0 refl c.word_length.ensures.0 refl
+returns c =
+    let s = c.args.s.now in
+    let p = position-some (λ b. not (is_blank b)) s _ (sym c.in_ok-start.was ∙ c.word_start.ensures) in
+    let n = length-first is_blank _ _ c.word_length.ensures.0 in
+    next-is s _ _ _ _ p.0 p.1 (rest-is s c.in_ok-start.start)
+    (c.split_at.ensures.front ∙ rw n refl) (c.split_at.ensures.back ∙ rw n refl)

@@ -6,14 +6,14 @@ use Rattle.scribe_rules.specs.Telling.{blank, figure}
 use Rattle.scribe_writer.proofs.Rooms.{room-first, room-rest, room-put, room-digits}
 use Rattle.scribe_writer.proofs.lines.append_figure.Goals as goal
 
-pub append-a-requires : goal.append-a-requires
+pub append-at-requires : goal.append-at-requires
 unfolding figure blank
-append-a-requires c = room-put _ (room-first blank (decimal c.args.k) c.requires)
+append-at-requires c = room-put _ (room-first blank (decimal c.args.k) c.requires)
 
 pub append_number-requires : goal.append_number-requires
 unfolding figure blank
-append_number-requires c = room-digits _ (room-rest blank (decimal c.args.k) c.requires c.append-a.ensures)
+append_number-requires c = room-digits _ (room-rest blank (decimal c.args.k) c.requires c.append-at.ensures)
 
 pub returns : goal.returns
 unfolding figure blank
-returns c = appends-then c.append-a.ensures c.append_number.ensures.0
+returns c = appends-then c.append-at.ensures (rw c.from.ensures at c.append_number.ensures.0)

@@ -7,20 +7,20 @@ use Rattle.scribe_rules.specs.Telling.{colon, figure, place}
 use Rattle.scribe_writer.proofs.Rooms.{room-first, room-rest, room-put, room-digits}
 use Rattle.scribe_writer.proofs.lines.append_place.Goals as goal
 
-pub append_figure-a-requires : goal.append_figure-a-requires
+pub append_figure-at-requires : goal.append_figure-at-requires
 unfolding place
-append_figure-a-requires c = room-first (figure c.args.i) (colon ++ decimal c.args.v) c.requires
+append_figure-at-requires c = room-first (figure c.args.i) (colon ++ decimal c.args.v) c.requires
 
-pub append-b-requires : goal.append-b-requires
+pub append-at-requires : goal.append-at-requires
 unfolding place colon
-append-b-requires c = room-put _ (room-first colon (decimal c.args.v) (room-rest (figure c.args.i) (colon ++ decimal c.args.v) c.requires c.append_figure-a.ensures))
+append-at-requires c = room-put _ (room-first colon (decimal c.args.v) (room-rest (figure c.args.i) (colon ++ decimal c.args.v) c.requires c.append_figure-at.ensures))
 
 pub append_number-requires : goal.append_number-requires
 unfolding place colon
 append_number-requires c =
-    let rest = room-rest (figure c.args.i) (colon ++ decimal c.args.v) c.requires c.append_figure-a.ensures in
-    room-digits _ (room-rest colon (decimal c.args.v) rest c.append-b.ensures)
+    let rest = room-rest (figure c.args.i) (colon ++ decimal c.args.v) c.requires c.append_figure-at.ensures in
+    room-digits _ (room-rest colon (decimal c.args.v) rest c.append-at.ensures)
 
 pub returns : goal.returns
 unfolding place colon
-returns c = appends-then c.append_figure-a.ensures (appends-then c.append-b.ensures c.append_number.ensures.0)
+returns c = appends-then c.append_figure-at.ensures (appends-then c.append-at.ensures (rw c.from.ensures at c.append_number.ensures.0))

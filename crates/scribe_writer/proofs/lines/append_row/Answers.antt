@@ -17,6 +17,6 @@ pub append_ban-requires : goal.append_ban-requires
 unfolding byte_at edition_in row_line
 append_ban-requires c = (c.requires.1, rw (ne_eqb _ 2 c.if-s-eq2.false) at c.requires.2)
 
-pub returns : goal.returns
+pub returns-else-s-eq2 : goal.returns-else-s-eq2
 unfolding byte_at edition_in row_line
-returns c = rw (ne_eqb _ 2 c.if-s-eq2.false) c.append_ban.ensures
+returns-else-s-eq2 c = rw (ne_eqb _ 2 c.if-s-eq2.false) c.append_ban.ensures

@@ -16,16 +16,16 @@ pub returns-then-b-lt128 : goal.returns-then-b-lt128
 unfolding signed_figure
 returns-then-b-lt128 c = rw (sign-none _ c.if-b-lt128.true) c.append_figure.ensures
 
-pub append-a-requires : goal.append-a-requires
+pub append-at-requires : goal.append-at-requires
 unfolding signed_figure blank dash
-append-a-requires c = room-put _ (room-first (blank ++ dash) _ (rw (sign-some _ c.if-b-lt128.false (omega arith)) at c.requires))
+append-at-requires c = room-put _ (room-first (blank ++ dash) _ (rw (sign-some _ c.if-b-lt128.false (omega arith)) at c.requires))
 
 pub append_number-requires : goal.append_number-requires
 unfolding signed_figure blank dash
-append_number-requires c = room-digits _ (room-rest (blank ++ dash) _ (rw (sign-some _ c.if-b-lt128.false (omega arith)) at c.requires) c.append-a.ensures)
+append_number-requires c = room-digits _ (room-rest (blank ++ dash) _ (rw (sign-some _ c.if-b-lt128.false (omega arith)) at c.requires) c.append-at.ensures)
 
-pub returns : goal.returns
+pub returns-else-b-lt128 : goal.returns-else-b-lt128
 unfolding signed_figure blank dash
-returns c =
+returns-else-b-lt128 c =
     let b = c.args.b in
-    rw (sign-some b c.if-b-lt128.false (omega arith)) (appends-then c.append-a.ensures (number_is (omega arith) c.append_number.ensures.0))
+    rw (sign-some b c.if-b-lt128.false (omega arith)) (appends-then c.append-at.ensures (number_is (omega arith) c.append_number.ensures.0))

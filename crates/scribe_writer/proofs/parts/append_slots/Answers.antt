@@ -1,10 +1,12 @@
 -- `append_slots` puts the word and the slot count of each agent.
 -- The loop keeps what is still to be told: the counts from the next agent on, and the newline.
-use Prim.Native.Nat.{ℕ, suc, ◌-◌, ◌≤◌}
-use mathlib.Core.Path.{◌≡◌, subst, ◌∙◌}
+use Prim.Native.Nat.{ℕ, suc, ◌-◌, ◌≤◌, ◌<◌}
+use mathlib.Core.Path.{◌≡◌, sym, ap, subst, ◌∙◌}
 use mathlib.Core.List.{◌++◌}
+use lib.ListN.{length, get_or, take, length-take}
 use native.Mathlib.Numerals.{add-one}
 use native.Mathlib.Omega.{arith}
+use Rattle.std.proofs.lemmas.List.{get_or-take}
 use Rattle.problem.specs.Problem.{domain}
 use Rattle.sheet.specs.Abstract.{problem_of}
 use Rattle.sheet.specs.declared.Problem.{Problem}
@@ -24,52 +26,51 @@ counts-first p i h =
     let less : p.count - i - 1 ≡ p.count - suc i = omega arith in
     gather-first (p.count - i) (suc i) _ newline (omega arith) ∙ rw less
 
-pub append-end-requires : goal.append-end-requires
-unfolding slots_line slots_word
-append-end-requires c = room-put _ (room-first slots_word _ c.requires.2)
+-- the next count, as it stands among those that are gone over
+next-count : (p : Problem) (n i : ℕ) → n ≡ p.count → i < length (take n p.domains)
+    → counts p (p.count - i) (suc i) ≡ figure (get_or (take n p.domains) i 0) ++ counts p (p.count - suc i) (suc (suc i))
+unfolding problem_of domain
+next-count p n i e h =
+    counts-first p i (omega (arith, e, h, length-take n p.domains))
+    ∙ ap (λ (k : ℕ). figure k ++ counts p (p.count - suc i) (suc (suc i))) (sym (get_or-take n p.domains i 0 (omega (arith, h, length-take n p.domains))))
 
-pub loop-i-init : goal.loop-i-init
-loop-i-init c =
+pub append-at-requires : goal.append-at-requires
+unfolding slots_line slots_word
+append-at-requires c = room-put _ (room-first slots_word _ c.requires.1)
+
+pub loop-domain-init : goal.loop-domain-init
+loop-domain-init c =
     let p = c.args.p in
     let all : p.count - 0 ≡ p.count = omega arith in
-    (omega arith, rw all (partly_none _ _ _))
+    rw all (partly_none _ _ _)
 
-pub bounds-p-i : goal.bounds-p-i
-bounds-p-i c = omega (arith, c.loop-i-test.true, c.requires.0)
-
-pub append_figure-end-requires : goal.append_figure-end-requires
+pub append_figure-at-requires : goal.append_figure-at-requires
 unfolding slots_line slots_word problem_of domain
-append_figure-end-requires c =
-    let l = c.loop-i in
-    let all = room-rest slots_word _ c.requires.2 c.append-end.ensures in
-    room-first _ _ (subst (Room l.out l.end) (counts-first c.args.p l.i c.loop-i-test.true) (partly-room all l.invariant.1))
+append_figure-at-requires c =
+    let l = c.loop-domain in
+    let all = room-rest slots_word _ c.requires.1 c.append-at.ensures in
+    room-first _ _ (subst (Room l.out l.at) (next-count c.args.p _ l.domain-index c.from.ensures c.loop-domain-test.true) (partly-room all l.invariant))
 
-pub overflow_add-i : goal.overflow_add-i
-overflow_add-i c = omega (arith, c.loop-i-test.true, c.requires.0)
-
-pub loop-i-smaller : goal.loop-i-smaller
-loop-i-smaller c = omega (arith, c.loop-i-test.true)
-
-pub loop-i-preserved : goal.loop-i-preserved
+pub loop-domain-preserved : goal.loop-domain-preserved
 unfolding problem_of domain
-loop-i-preserved c =
+loop-domain-preserved c =
     let p = c.args.p in
-    let l = c.loop-i in
-    rw (add-one l.i) (c.loop-i-test.true, partly_more _ _ l.invariant.1 (counts-first p l.i c.loop-i-test.true) c.append_figure-end.ensures)
+    let l = c.loop-domain in
+    rw (add-one l.domain-index) (partly_more _ _ l.invariant (next-count p _ l.domain-index c.from.ensures c.loop-domain-test.true) c.append_figure-at.ensures)
 
 pub append-requires : goal.append-requires
 unfolding slots_line slots_word newline problem_of
 append-requires c =
-    let l = c.loop-i in
-    let all = room-rest slots_word _ c.requires.2 c.append-end.ensures in
-    room-put newline (subst (Room l.out l.end) (gather-over _ _ _ newline (omega (arith, c.loop-i-test.false))) (partly-room all l.invariant.1))
+    let l = c.loop-domain in
+    let all = room-rest slots_word _ c.requires.1 c.append-at.ensures in
+    room-put newline (subst (Room l.out l.at) (gather-over _ _ _ newline (omega (arith, c.loop-domain-test.false, c.from.ensures, length-take c.args.p.count c.args.p.domains, c.requires.0))) (partly-room all l.invariant))
 
 pub shape_of-out : goal.shape_of-out
-shape_of-out c = c.append.ensures.room ∙ c.loop-i.invariant.1.stands.room ∙ c.append-end.ensures.room
+shape_of-out c = c.append.ensures.room ∙ c.loop-domain.invariant.stands.room ∙ c.append-at.ensures.room
 
 pub returns : goal.returns
 unfolding slots_line slots_word newline problem_of
 returns c =
-    let l = c.loop-i in
-    let none = gather-over (c.args.p.count - l.i) (suc l.i) _ newline (omega (arith, c.loop-i-test.false)) in
-    appends-then c.append-end.ensures (partly-last newline l.invariant.1 none c.append.ensures)
+    let l = c.loop-domain in
+    let none = gather-over (c.args.p.count - l.domain-index) (suc l.domain-index) _ newline (omega (arith, c.loop-domain-test.false, c.from.ensures, length-take c.args.p.count c.args.p.domains, c.requires.0)) in
+    appends-then c.append-at.ensures (partly-last newline l.invariant none c.append.ensures)

@@ -1,6 +1,6 @@
 -- `append_slots` puts the word and the slot count of each agent.
 -- The loop keeps what is still to be told: the counts from the next agent on, and the newline.
-use Prim.Native.Nat.{ℕ, suc, ◌-◌, ◌≤◌}
+use Prim.Native.Nat.{ℕ, suc, ◌-◌}
 use mathlib.Core.List.{List, ◌++◌}
 use Rattle.base.specs.Finite.{gather}
 use Rattle.problem.specs.Problem.{domain}
@@ -15,9 +15,6 @@ use Rattle.scribe_writer.proofs.parts.append_slots.Given as goal
 abbrev pub counts : Problem → ℕ → ℕ → List ℕ
 counts p m i = gather m i (λ k. figure (domain (problem_of p) k)) ++ newline
 
-abbrev pub invariant-loop-i : goal.invariant-loop-i
-invariant-loop-i l =
-    (l.i ≤ l.p.count) × Partly l.initial.out l.initial.end (counts l.p l.p.count 1) l.out l.end (counts l.p (l.p.count - l.i) (suc l.i))
-
-abbrev pub decreases-loop-i : goal.decreases-loop-i
-decreases-loop-i l = l.p.count - l.i
+abbrev pub invariant-loop-domain : goal.invariant-loop-domain
+invariant-loop-domain l =
+    Partly l.initial.out l.initial.at (counts l.fn.p l.fn.p.count 1) l.out l.at (counts l.fn.p (l.fn.p.count - l.domain-index) (suc l.domain-index))

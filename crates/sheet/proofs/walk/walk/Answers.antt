@@ -1,6 +1,7 @@
 -- `walk` is the definition's walk along the chain, from the first record on.
 -- The loop keeps `Walking`, and each way out is the definition's step at the record where it stops.
-use mathlib.Core.Path.{sym, ◌∙◌}
+use mathlib.Core.Path.{◌≡◌, sym, ◌∙◌}
+use Prim.Native.Nat.{◌+◌, ◌-◌, ◌≤◌, ◌<◌}
 use native.Mathlib.Omega.{arith}
 use Rattle.problem.specs.Problem.{with_table}
 use Rattle.problem.specs.Sheet.{fault_number, byte_at, agents_in, without_bans}
@@ -12,35 +13,42 @@ use Rattle.sheet.proofs.walk.walk.Goals as goal
 pub two_bytes-r-requires : goal.two_bytes-r-requires
 two_bytes-r-requires c = omega (arith, starts _ c.requires)
 
-pub two_bytes-left-requires : goal.two_bytes-left-requires
-two_bytes-left-requires c = omega (arith, starts _ c.requires)
+pub two_bytes-records-requires : goal.two_bytes-records-requires
+two_bytes-records-requires c = omega (arith, starts _ c.requires)
 
-pub loop-left-init : goal.loop-left-init
-loop-left-init c = rw (c.two_bytes-r.ensures.0, c.two_bytes-left.ensures.0) (starts _ c.requires)
+pub loop-init : goal.loop-init
+loop-init c =
+    let left : c.two_bytes-records.result + 1 - 0 ≡ c.two_bytes-records.result + 1 = omega arith in
+    rw (left, c.two_bytes-r.ensures.0, c.two_bytes-records.ensures.0) (starts _ c.requires)
 
 pub returns-then-r-eq0 : goal.returns-then-r-eq0
 unfolding with_table byte_at agents_in without_bans problem_of outcome outcome_of
-returns-then-r-eq0 c = (
-  rw (c.domains_in-domains.ensures.0, c.loop-left.invariant.rest, free-ends _ _ _ _ c.loop-left-test.true c.if-r-eq0.true),
-  record { domains = c.domains_in-domains.ensures.1; bans = c.loop-left.invariant.words },
-)
+returns-then-r-eq0 c =
+    let more : 0 < c.two_bytes-records.result + 1 - c.loop.counter = omega arith in
+    rw (c.domains_in.ensures.0, c.loop.invariant.rest, free-ends _ _ _ _ more c.if-r-eq0.true)
 
 pub returns-then-not-record_good : goal.returns-then-not-record_good
-unfolding fault_number outcome
+unfolding fault_number outcome outcome_of
 returns-then-not-record_good c =
     let bad = sym c.record_good.ensures ∙ c.if-not-record_good.true in
-    (rw (fails _ _ _ _ c.loop-left.invariant c.loop-left-test.true c.if-r-eq0.false bad) c.rejected.ensures.0, c.rejected.ensures.1)
+    rw (fails _ _ _ _ c.loop.invariant (omega arith) c.if-r-eq0.false bad)
 
 pub add_record-requires : goal.add_record-requires
 add_record-requires c =
-    let l = c.loop-left in
+    let l = c.loop in
     (good _ _ _ _ l.invariant c.if-r-eq0.false (sym c.record_good.ensures ∙ c.if-not-record_good.false), l.invariant.short)
 
-pub loop-left-preserved : goal.loop-left-preserved
-loop-left-preserved c =
-    rw (c.add_record.ensures, c.two_bytes-r-in-loop-left.ensures.0)
-    (goes _ _ _ _ c.loop-left.invariant c.loop-left-test.true c.if-r-eq0.false (sym c.record_good.ensures ∙ c.if-not-record_good.false))
+pub loop-preserved : goal.loop-preserved
+loop-preserved c =
+    let l = c.loop in
+    let left : c.two_bytes-records.result + 1 - l.counter - 1 ≡ c.two_bytes-records.result + 1 - (l.counter + 1) = omega arith in
+    rw (← left, c.add_record.ensures, c.two_bytes-r-in-loop.ensures.0)
+    (goes _ _ _ _ l.invariant (omega arith) c.if-r-eq0.false (sym c.record_good.ensures ∙ c.if-not-record_good.false))
 
-pub returns : goal.returns
-unfolding fault_number outcome
-returns c = (rw (c.loop-left.invariant.rest, free-none _ _ _ _ c.loop-left-test.false) c.rejected-2.ensures.0, c.rejected-2.ensures.1)
+pub returns-else-not-record_good : goal.returns-else-not-record_good
+unfolding fault_number outcome outcome_of
+returns-else-not-record_good c =
+    let l = c.loop in
+    let on = goes _ _ _ _ l.invariant (omega arith) c.if-r-eq0.false (sym c.record_good.ensures ∙ c.if-not-record_good.false) in
+    let none : c.two_bytes-records.result + 1 - l.counter - 1 ≤ 0 = omega arith in
+    rw (on.rest, free-none _ _ _ _ none)

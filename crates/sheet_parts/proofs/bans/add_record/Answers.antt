@@ -1,16 +1,9 @@
 -- `add_record` is the table with what a record bans.
 -- Its pairs joined to the word of its two agents.
-use Prim.Native.Nat.{◌+◌, ◌*◌}
 use native.Mathlib.Omega.{arith}
 use Rattle.problem.specs.Sheet.{byte_at}
 use Rattle.sheet_parts.proofs.Records.{good-record, table-there}
 use Rattle.sheet_parts.proofs.bans.add_record.Goals as goal
-
-pub overflow_cast-s : goal.overflow_cast-s
-overflow_cast-s c = omega (arith, c.shared_slice_known-2-1.given (16 + 8 * c.args.r))
-
-pub overflow_cast-s-2 : goal.overflow_cast-s-2
-overflow_cast-s-2 c = omega (arith, c.shared_slice_known-3-1.given (16 + 8 * c.args.r + 1))
 
 pub word_at-word-requires : goal.word_at-word-requires
 unfolding byte_at
@@ -18,4 +11,4 @@ word_at-word-requires c = omega (arith, good-record _ _ c.requires.0)
 
 pub returns : goal.returns
 unfolding byte_at
-returns c = rw c.word_at-word.ensures.0 (table-there _ c.args.r c.row_pairs-pairs.result _ c.requires.0 c.requires.1 c.row_pairs-pairs.ensures)
+returns c = rw c.word_at-word.ensures.0 (table-there _ c.args.r c.row_pairs.result _ c.requires.0 c.requires.1 c.row_pairs.ensures)

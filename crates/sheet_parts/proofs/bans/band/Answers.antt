@@ -16,16 +16,13 @@ abbrev inside : ℤ → ℤ → ℤ → Bool
 inside least greatest = between (to_z w8 (of_z w8 least)) (to_z w8 (of_z w8 greatest))
 
 pub loop-k-init : goal.loop-k-init
-loop-k-init c = (omega arith, upto-none (inside c.args.least c.args.greatest))
+loop-k-init c = upto-none (inside c.args.least c.args.greatest)
 
 pub loop-k-preserved : goal.loop-k-preserved
-loop-k-preserved c =
-    let l = c.loop-k in
-    let a = c.args in
-    (omega arith, upto-more (inside a.least a.greatest) l.k l.word c.hit-word.result l.invariant.1 c.hit-word.ensures)
+loop-k-preserved c = let l = c.loop-k in upto-more (inside c.args.least c.args.greatest) l.k l.word _ l.invariant c.hit-word.ensures
 
 pub returns : goal.returns
 returns c =
     let l = c.loop-k in
     let done : l.k ≡ 15 = omega arith in
-    upto_all (between c.args.least c.args.greatest) _ (rw (done, to_z-of_z c.ranges.least, to_z-of_z c.ranges.greatest) at l.invariant.1)
+    upto_all (between c.args.least c.args.greatest) _ (rw (done, to_z-of_z c.ranges.least, to_z-of_z c.ranges.greatest) at l.invariant)

@@ -1,21 +1,14 @@
 -- `row_pairs` is the set of the pairs that a record bans.
 -- Byte 1 decides which of the two sets it is.
-use Prim.Native.Nat.{◌+◌, ◌*◌}
 use native.Mathlib.Omega.{arith}
 use Rattle.base.proofs.Tests.{within-true}
 use Rattle.problem.specs.Sheet.{byte_at, edition_in}
 use Rattle.sheet_parts.proofs.Records.{good-record, values-owned, gap_row, value_row}
 use Rattle.sheet_parts.proofs.bans.row_pairs.Goals as goal
 
-pub overflow_cast-s : goal.overflow_cast-s
-overflow_cast-s c = omega (arith, c.shared_slice_known-then-s-eq2-1.given (16 + 8 * c.args.r))
-
 pub domain-d-requires : goal.domain-d-requires
 unfolding byte_at
 domain-d-requires c = omega (arith, c.requires.inside, good-record _ _ c.requires)
-
-pub overflow_cast-s-then-s-eq2 : goal.overflow_cast-s-then-s-eq2
-overflow_cast-s-then-s-eq2 c = omega (arith, c.shared_slice_known-then-s-eq2-2-1.given (16 + 8 * c.args.r + 1))
 
 pub domain-e-requires : goal.domain-e-requires
 unfolding byte_at
@@ -31,12 +24,6 @@ pub returns-then-s-eq2 : goal.returns-then-s-eq2
 unfolding byte_at edition_in
 returns-then-s-eq2 c = gap_row _ c.args.r _ c.requires.index c.if-s-eq2.true (rw (c.domain-d.ensures, c.domain-e.ensures) at c.gap_pairs.ensures)
 
-pub overflow_cast-s-2 : goal.overflow_cast-s-2
-overflow_cast-s-2 c = omega (arith, c.shared_slice_known-3-1.given (16 + 8 * c.args.r + 2))
-
-pub overflow_cast-s-3 : goal.overflow_cast-s-3
-overflow_cast-s-3 c = omega (arith, c.shared_slice_known-4-1.given (16 + 8 * c.args.r + 3))
-
 pub one_pair-requires : goal.one_pair-requires
 unfolding byte_at edition_in
 one_pair-requires c =
@@ -46,6 +33,6 @@ one_pair-requires c =
     let w = within-true _ _ o.1 in
     (v.0, omega (arith, f.lowers), w.0, omega (arith, f.highers))
 
-pub returns : goal.returns
+pub returns-else-s-eq2 : goal.returns-else-s-eq2
 unfolding byte_at edition_in
-returns c = value_row _ c.args.r _ c.requires c.if-s-eq2.false c.one_pair.ensures
+returns-else-s-eq2 c = value_row _ c.args.r _ c.requires c.if-s-eq2.false c.one_pair.ensures

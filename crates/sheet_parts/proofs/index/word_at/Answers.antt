@@ -4,11 +4,5 @@ use native.Mathlib.Omega.{arith}
 use Rattle.sheet_parts.proofs.Table.{word-index, products}
 use Rattle.sheet_parts.proofs.index.word_at.Goals as goal
 
-pub overflow_mul-result : goal.overflow_mul-result
-overflow_mul-result c = omega (arith, products c.args.j c.requires.2)
-
-pub overflow_add-result : goal.overflow_add-result
-overflow_add-result c = omega (arith, products c.args.j c.requires.2)
-
 pub returns : goal.returns
 returns c = (word-index c.args.i c.args.j c.requires.0 c.requires.1, omega (arith, products c.args.j c.requires.2))

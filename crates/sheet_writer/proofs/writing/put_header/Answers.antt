@@ -1,22 +1,17 @@
 -- `put_header` writes the header.
 -- Its front, the slot counts and the zeros, one behind the other.
-use mathlib.Core.Path.{◌≡◌, sym, ap, ◌∙◌}
-use mathlib.Core.Bool.{Bool, cond}
+use mathlib.Core.Path.{◌≡◌, ◌∙◌}
+use Prim.Native.Nat.{◌/◌, ◌%◌}
 use native.Mathlib.Omega.{arith}
 use lib.Dec.{ltb}
-use borrow.Author.Tests.{lt-ltb, le-ltb}
-use Rattle.sheet_writer.proofs.Sheets.{header-put}
+use lib.ListN.{length}
+use Rattle.sheet_writer.proofs.Sheets.{one_or_none, header-put}
 use Rattle.sheet_writer.proofs.writing.put_header.Goals as goal
-use Rattle.sheet_writer.proofs.writing.put_header.Goals.{else-records-gt0, then-records-gt0}
 
 pub returns : goal.returns
 returns c =
     let a = c.args in
-    let has = ltb 0 a.records in
-    let first : c.if-records-gt0.first ≡ cond has 1 0 =
-    elim c.if-records-gt0.branch [
-      | then-records-gt0 u ↦ u.first-is ∙ ap (λ (b : Bool). cond b 1 0) (sym (lt-ltb 0 a.records u.if-records-gt0.true))
-      | else-records-gt0 u ↦ u.first-is ∙ ap (λ (b : Bool). cond b 1 0) (sym (le-ltb 0 a.records (omega (arith, u.if-records-gt0.false))))
-    ] in
-    header-put a.edition a.p.count has a.records a.p.domains c.requires.2 a.out.now _ _ _ (omega arith)
-    (c.put.ensures ∙ rw first) c.put-2.ensures c.put-3.ensures
+    let long : length a.p.domains ≡ 12 = omega arith in
+    let high : a.records / 256 % 256 ≡ a.records / 256 = omega arith in
+    header-put a.edition a.p.count (ltb 0 a.records) a.records a.p.domains long a.out.now _ _ _ (omega arith)
+    (c.put.ensures ∙ rw (c.from-first.ensures, one_or_none, c.to_le_bytes.ensures, high)) c.put-2.ensures c.put-3.ensures

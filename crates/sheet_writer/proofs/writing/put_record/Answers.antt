@@ -1,12 +1,9 @@
 -- `put_record` writes one record.
 -- The row's four bytes and the index that leads on.
-use Prim.Native.Nat.{ℕ, suc, ◌+◌, ◌*◌}
-use mathlib.Core.Path.{◌≡◌, sym, ap, ◌∙◌}
-use mathlib.Core.List.{List, ◌++◌}
+use mathlib.Core.Path.{◌≡◌, sym, ◌∙◌}
 use native.Mathlib.Omega.{arith}
-use lib.ListN.{take, drop}
 use Rattle.sheet_writer.specs.Rows.{next_index}
-use Rattle.sheet_writer.proofs.Sheets.{next-on, next-none, next_small, row-bytes}
+use Rattle.sheet_writer.proofs.Sheets.{next-on, next-none, record-put}
 use Rattle.sheet_writer.proofs.writing.put_record.Goals as goal
 use Rattle.sheet_writer.proofs.writing.put_record.Goals.{else-r-records, then-r-records}
 
@@ -18,8 +15,5 @@ returns c =
       | then-r-records u ↦ u.next-is ∙ sym (next-on a.r a.records (omega (arith, u.if-r-records.true)))
       | else-r-records u ↦ u.next-is ∙ sym (next-none a.r a.records (omega (arith, u.if-r-records.false)))
     ] in
-    let far : 24 + 8 * a.r + 8 ≡ 24 + 8 * suc a.r = omega arith in
-    c.put.ensures
-    ∙ rw (far, next)
-    (ap (λ (l : List ℕ). take (24 + 8 * a.r) a.out.now ++ l ++ drop (24 + 8 * suc a.r) a.out.now)
-    (row-bytes a.x (next_index a.r a.records) (next_small a.r a.records (omega arith))))
+    record-put a.r a.records a.x (omega arith) a.out.now _ _ (omega arith) (c.put.ensures ∙ rw c.to_le_bytes.ensures)
+    (c.put-2.ensures ∙ rw (c.to_le_bytes-2.ensures, next))

@@ -3,23 +3,21 @@
 use mathlib.Core.Path.{sym, ap, ◌∙◌}
 use mathlib.Core.Bool.{not}
 use native.Mathlib.Omega.{arith}
+use borrow.Author.Tests.{eq-eqb}
 use Rattle.base.specs.Bits.{bit}
 use Rattle.turning.proofs.Runs.{not-begun, begun_first, begun-above}
 use Rattle.turning.proofs.gaps.begins.Goals as goal
 
-pub returns-then-not-has : goal.returns-then-not-has
-returns-then-not-has c =
-    let a = c.args in
-    sym (not-begun (bit a.gaps) a.k (sym c.has.ensures ∙ c.if-not-has.true))
+pub returns-else-has : goal.returns-else-has
+returns-else-has c = let a = c.args in c.if-has.false ∙ sym (not-begun (bit a.gaps) a.k (sym c.has.ensures ∙ c.if-has.false))
 
 pub returns-then-k-eq0 : goal.returns-then-k-eq0
 returns-then-k-eq0 c =
     let a = c.args in
-    sym (begun_first (bit a.gaps) a.k c.if-k-eq0.true (sym c.has.ensures ∙ c.if-not-has.false))
+    eq-eqb a.k 0 c.if-k-eq0.true ∙ sym (begun_first (bit a.gaps) a.k c.if-k-eq0.true (sym c.has.ensures ∙ c.if-has.true))
 
-pub returns : goal.returns
-returns c =
+pub returns-else-k-eq0 : goal.returns-else-k-eq0
+returns-else-k-eq0 c =
     let a = c.args in
     let n = c.if-k-eq0.false in
-    sym (begun-above (bit a.gaps) a.k (omega (arith, n)) (sym c.has.ensures ∙ c.if-not-has.false)
-    ∙ ap not (sym c.has-2.ensures))
+    sym (begun-above (bit a.gaps) a.k (omega (arith, n)) (sym c.has.ensures ∙ c.if-has.true) ∙ ap not (sym c.has-else-k-eq0.ensures))

@@ -1,7 +1,7 @@
 -- `gaps_with` marks the gaps of one value of the lower.
--- After w turns those with 1 to w of the higher.
-use Prim.Native.Nat.{◌+◌}
-use mathlib.Core.Path.{◌≡◌, refl}
+-- Before turn w those with 1 to w - 1 of the higher.
+use Prim.Native.Nat.{◌+◌, ◌-◌}
+use mathlib.Core.Path.{◌≡◌}
 use native.Mathlib.Omega.{arith}
 use Rattle.turning.specs.Rows.{gap_with}
 use Rattle.turning.proofs.Marks.{some-none-yet, some_more}
@@ -13,11 +13,17 @@ loop-w-init c = (omega arith, some-none-yet _ _ c.requires.0)
 pub loop-w-preserved : goal.loop-w-preserved
 loop-w-preserved c =
     let l = c.loop-w in
-    (omega arith, some_more _ _ l.w (l.w + 1) _ _ refl l.invariant.1 c.with_gap-marked.ensures)
+    (omega arith, some_more _ _ (l.w - 1) l.w (l.w + 1 - 1) _ _ (omega arith) (omega arith) l.invariant.1 c.with_gap-gaps.ensures)
 
 pub returns : goal.returns
 unfolding gap_with
 returns c =
     let l = c.loop-w in
-    let all : l.w ≡ c.args.e = omega arith in
+    let all : l.w - 1 ≡ c.args.e = omega arith in
     rw all at l.invariant.1
+
+pub returns-2 : goal.returns-2
+unfolding gap_with
+returns-2 c =
+    let l = c.loop-w in
+    some_more _ _ (l.w - 1) l.w c.args.e _ _ (omega arith) (omega arith) l.invariant.1 c.with_gap-gaps.ensures

@@ -1,13 +1,9 @@
 -- `last_of` goes up along the run.
 -- The last place of the whole run is that of the run from where it has come to.
-use Prim.Native.Nat.{◌-◌, ◌<◌}
 use mathlib.Core.Path.{◌≡◌}
 use Rattle.base.specs.Bits.{bit}
 use Rattle.turn_rules.specs.Gaps.{last_of}
 use Rattle.turning.proofs.gaps.last_of.Given as goal
 
 abbrev pub invariant-loop-last : goal.invariant-loop-last
-invariant-loop-last l = (l.last < 15) × (last_of (bit l.gaps) l.k ≡ last_of (bit l.gaps) l.last)
-
-abbrev pub decreases-loop-last : goal.decreases-loop-last
-decreases-loop-last l = 14 - l.last
+invariant-loop-last l = last_of (bit l.gaps) l.k ≡ last_of (bit l.gaps) l.last

@@ -8,17 +8,17 @@ use Rattle.turn_rules.specs.Gaps.{place_of}
 use Rattle.turning.proofs.Marks.{renamed, marked-none, marked-one}
 use Rattle.turning.proofs.gaps.with_gap.Goals as goal
 
-pub returns-then-not-bans : goal.returns-then-not-bans
-returns-then-not-bans c =
-    let a = c.args in
-    let no = sym c.bans.ensures ∙ c.if-not-bans.true in
-    renamed a.gaps a.gaps _ _ (marked-none a.gaps c.requires.0)
-    (λ k. rw no (sym (and-false (eqb (place_of a.v a.w) k))))
-
-pub returns : goal.returns
+pub returns-then-bans : goal.returns-then-bans
 unfolding place_of
-returns c =
+returns-then-bans c =
     let a = c.args in
-    let yes = sym c.bans.ensures ∙ c.if-not-bans.false in
+    let yes = sym c.bans.ensures ∙ c.if-bans.true in
     renamed a.gaps _ _ _ (marked-one a.gaps (place_of a.v a.w) c.requires.0 (omega arith))
     (λ k. rw yes (sym (and-true (eqb (place_of a.v a.w) k))))
+
+pub returns-else-bans : goal.returns-else-bans
+returns-else-bans c =
+    let a = c.args in
+    let no = sym c.bans.ensures ∙ c.if-bans.false in
+    renamed a.gaps a.gaps _ _ (marked-none a.gaps c.requires.0)
+    (λ k. rw no (sym (and-false (eqb (place_of a.v a.w) k))))

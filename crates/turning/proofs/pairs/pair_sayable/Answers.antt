@@ -12,4 +12,4 @@ returns c =
     let q = c.args.q in
     none-common _ _ _ _ c.gaps_of-banned.ensures
     (renamed 0 _ _ _ c.gaps_of-free.ensures
-    (λ k. has_same q.slots q.others _ _ k (λ v w a b d e. not-in-word q.word v w (omega arith) a (omega arith) d (omega arith))))
+    (λ k. has_same q.slots q.others _ _ k (λ v w a b d e. not-in-word q.word v w (omega arith) a (omega (arith, q.small)) d (omega (arith, q.small)))))

@@ -5,17 +5,15 @@ use Rattle.turning.proofs.Words.{rows-of-bans, rows-of-gaps}
 use Rattle.turning.proofs.records.pair_records.Goals as goal
 
 pub pairs_of-requires : goal.pairs_of-requires
-pairs_of-requires c = (c.requires.0, c.requires.1, rw (rows-of-bans _ _ _ _ _ _ c.if-edition-eq1.true) at c.requires.2)
+pairs_of-requires c = rw (rows-of-bans _ _ _ _ _ _ c.if-edition-eq1.true) at c.requires
 
 pub returns-then-edition-eq1 : goal.returns-then-edition-eq1
 returns-then-edition-eq1 c = rw (rows-of-bans _ _ _ _ _ _ c.if-edition-eq1.true) c.pairs_of.ensures
 
 pub runs_of-requires : goal.runs_of-requires
 unfolding in_word
-runs_of-requires c = rw (rows-of-gaps _ _ _ _ _ _ c.if-edition-eq1.false _ c.gaps_of-gaps.ensures) at c.requires.2
+runs_of-requires c = rw (rows-of-gaps _ _ _ _ _ _ c.if-edition-eq1.false _ c.gaps_of.ensures) at c.requires
 
-pub returns : goal.returns
+pub returns-else-edition-eq1 : goal.returns-else-edition-eq1
 unfolding in_word
-returns c =
-    rw (rows-of-gaps _ _ _ _ _ _ c.if-edition-eq1.false _ c.gaps_of-gaps.ensures)
-    c.runs_of.ensures
+returns-else-edition-eq1 c = rw (rows-of-gaps _ _ _ _ _ _ c.if-edition-eq1.false _ c.gaps_of.ensures) c.runs_of.ensures

@@ -1,6 +1,6 @@
 -- `records` puts down the records of all agents.
--- After i turns those of agents 1 to i with the agents below them.
-use Prim.Native.Nat.{ℕ, suc, ◌-◌, ◌≤◌}
+-- Before turn i those of agents 1 to i - 1 with the agents below them.
+use Prim.Native.Nat.{ℕ, suc, ◌+◌, ◌-◌, ◌≤◌}
 use mathlib.Core.List.{List}
 use Rattle.base.specs.Finite.{gather}
 use Rattle.problem.specs.Problem.{Problem}
@@ -16,7 +16,4 @@ below edition p i = gather (p.count - i) (suc i) (rows_of edition p i)
 
 abbrev pub invariant-loop-i : goal.invariant-loop-i
 invariant-loop-i l =
-    (l.i ≤ l.p.count) × Filled l.initial.rows 0 l.rows l.count (gather l.i 1 (below l.edition (problem_of l.p)))
-
-abbrev pub decreases-loop-i : goal.decreases-loop-i
-decreases-loop-i l = l.p.count - l.i
+    (l.i ≤ l.p.count + 1) × Filled l.initial.rows 0 l.rows l.count (gather (l.i - 1) 1 (below l.edition (problem_of l.p)))

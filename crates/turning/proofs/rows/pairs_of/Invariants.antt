@@ -1,6 +1,6 @@
 -- `pairs_of` puts down all pairs that the word has.
--- After v turns those of 1 to v of the lower.
-use Prim.Native.Nat.{◌-◌, ◌≤◌}
+-- Before turn v those of 1 to v - 1 of the lower.
+use Prim.Native.Nat.{◌+◌, ◌-◌, ◌≤◌}
 use Rattle.base.specs.Finite.{gather}
 use Rattle.sheet_writer.specs.Rows.{Filled}
 use Rattle.turning.specs.Rows.{pairs_with}
@@ -8,7 +8,4 @@ use Rattle.turning.proofs.rows.pairs_of.Given as goal
 
 abbrev pub invariant-loop-v : goal.invariant-loop-v
 invariant-loop-v l =
-    (l.v ≤ l.d) × Filled l.initial.rows l.at l.rows l.count (gather l.v 1 (pairs_with l.i l.j l.e l.word))
-
-abbrev pub decreases-loop-v : goal.decreases-loop-v
-decreases-loop-v l = l.d - l.v
+    (l.v ≤ l.q.slots + 1) × Filled l.initial.rows l.at l.rows l.count (gather (l.v - 1) 1 (pairs_with l.q.lower l.q.higher l.q.others l.q.word))

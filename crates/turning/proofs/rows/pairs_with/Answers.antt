@@ -1,6 +1,6 @@
 -- `pairs_with` puts down the pairs of one value of the lower.
--- After w turns those with 1 to w of the higher.
-use Prim.Native.Nat.{◌+◌}
+-- Before turn w those with 1 to w - 1 of the higher.
+use Prim.Native.Nat.{◌+◌, ◌-◌}
 use mathlib.Core.Path.{◌≡◌}
 use native.Mathlib.Omega.{arith}
 use Rattle.turning.specs.Rows.{pair_in, pairs_with}
@@ -14,25 +14,29 @@ pub with_pair-count-requires : goal.with_pair-count-requires
 unfolding pairs_with
 with_pair-count-requires c =
     let l = c.loop-w in
-    let a = c.args in (
+    let a = c.args in
+    let q = a.q in (
       omega arith,
       omega arith,
       omega arith,
-      omega arith,
-      gather-room (pair_in a.i a.j a.word a.v) 1 a.rows.now a.at l.w a.e (l.w + 1) _ _ (omega arith) (omega arith) c.requires.3 l.invariant.1,
+      omega (arith, q.small),
+      gather-room (pair_in q.lower q.higher q.word a.v) 1 a.rows.now a.at (l.w - 1) q.others l.w _ _ (omega arith) (omega arith) c.requires.2 l.invariant.1,
     )
 
 pub loop-w-preserved : goal.loop-w-preserved
 loop-w-preserved c =
     let l = c.loop-w in
-    (omega arith, gather-more _ 1 _ _ l.w (l.w + 1) _ _ _ _ (omega arith) l.invariant.1 c.with_pair-count.ensures)
-
-pub shape_of-rows : goal.shape_of-rows
-shape_of-rows c = c.loop-w.invariant.1.long
+    (omega arith, gather-more _ 1 _ _ (l.w - 1) l.w (l.w + 1 - 1) _ _ _ _ (omega arith) (omega arith) l.invariant.1 c.with_pair-count.ensures)
 
 pub returns : goal.returns
 unfolding pairs_with
 returns c =
     let l = c.loop-w in
-    let all : l.w ≡ c.args.e = omega arith in
+    let all : l.w - 1 ≡ c.args.q.others = omega arith in
     rw all at l.invariant.1
+
+pub returns-2 : goal.returns-2
+unfolding pairs_with
+returns-2 c =
+    let l = c.loop-w in
+    gather-more _ 1 _ _ (l.w - 1) l.w c.args.q.others _ _ _ _ (omega arith) (omega arith) l.invariant.1 c.with_pair-count.ensures

@@ -1,6 +1,5 @@
 -- `runs_of` puts down the runs.
 -- After k turns those that begin before place k.
-use Prim.Native.Nat.{◌-◌, ◌≤◌}
 use Rattle.base.specs.Bits.{bit}
 use Rattle.base.specs.Finite.{gather}
 use Rattle.sheet_writer.specs.Rows.{Filled}
@@ -8,7 +7,4 @@ use Rattle.turning.specs.Rows.{run_in}
 use Rattle.turning.proofs.rows.runs_of.Given as goal
 
 abbrev pub invariant-loop-k : goal.invariant-loop-k
-invariant-loop-k l = (l.k ≤ 15) × Filled l.initial.rows l.at l.rows l.count (gather l.k 0 (run_in l.i l.j (bit l.gaps)))
-
-abbrev pub decreases-loop-k : goal.decreases-loop-k
-decreases-loop-k l = 15 - l.k
+invariant-loop-k l = Filled l.initial.rows l.at l.rows l.count (gather l.k 0 (run_in l.i l.j (bit l.gaps)))

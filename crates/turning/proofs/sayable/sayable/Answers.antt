@@ -1,26 +1,28 @@
 -- `sayable` tests all pairs.
--- From agent n down, as the definition does: what is left is the test of agents 1 to j.
-use mathlib.Core.Path.{refl, sym, ◌∙◌}
+-- One agent that fails decides it.
+use mathlib.Core.Path.{sym, ◌∙◌}
 use native.Mathlib.Omega.{arith}
-use Rattle.base.proofs.Loops.{all_to-none, all_to-fails, all_to-goes}
 use Rattle.sheet.specs.Abstract.{problem_of}
 use Rattle.turn_rules.specs.Gaps.{sayable}
+use Rattle.sheet_parts.proofs.Tests.{one_passed, all_passed, one_fails}
+use Rattle.turning.proofs.Words.{unmixed_above}
 use Rattle.turning.proofs.sayable.sayable.Goals as goal
-
-pub loop-j-init : goal.loop-j-init
-loop-j-init c = (omega arith, refl)
 
 pub returns-then-not-sayable_with : goal.returns-then-not-sayable_with
 unfolding sayable problem_of
 returns-then-not-sayable_with c =
     let l = c.loop-j in
-    sym (l.invariant.1 ∙ all_to-fails l.j _ c.loop-j-test.true (sym c.sayable_with.ensures ∙ c.if-not-sayable_with.true))
-
-pub loop-j-preserved : goal.loop-j-preserved
-loop-j-preserved c =
-    let l = c.loop-j in
-    (omega arith, l.invariant.1 ∙ all_to-goes l.j _ c.loop-j-test.true (sym c.sayable_with.ensures ∙ c.if-not-sayable_with.false))
+    sym (one_fails _ (unmixed_above (problem_of c.args.p.now)) l.j (omega arith) (omega arith) (sym c.sayable_with.ensures ∙ c.if-not-sayable_with.true))
 
 pub returns : goal.returns
 unfolding sayable problem_of
-returns c = sym (c.loop-j.invariant.1 ∙ all_to-none c.loop-j.j _ c.loop-j-test.false)
+returns c =
+    let l = c.loop-j in
+    sym (all_passed _ (unmixed_above (problem_of c.args.p.now)) (λ k h. l.invariant k (omega arith)))
+
+pub returns-else-not-sayable_with : goal.returns-else-not-sayable_with
+unfolding sayable problem_of
+returns-else-not-sayable_with c =
+    let l = c.loop-j in
+    let on = one_passed (unmixed_above (problem_of c.args.p.now)) l.j l.invariant (sym c.sayable_with.ensures ∙ c.if-not-sayable_with.false) in
+    sym (all_passed _ _ (λ k h. on k (omega arith)))

@@ -1,9 +1,0 @@
--- The delivery's contract, and the dispatcher's count and place stay. Assumes nothing.
-use Rattle.board_text.proofs.Above.{above_same}
-use Rattle.board_text.proofs.deliver.Goals as goal
-
-pub returns-then-answer-ne0 : goal.returns-then-answer-ne0
-returns-then-answer-ne0 c = above_same _ _ _ _ c.with_network-left.ensures c.deliver-answer.ensures.delivers_as.network
-
-pub returns : goal.returns
-returns c = above_same _ _ _ _ c.with_network-left.ensures c.deliver-answer.ensures.delivers_as.network

@@ -1,6 +1,0 @@
--- The loop over the words in front of the calls ends.
-use Rattle.std.proofs.Common.{◌-◌}
-use Rattle.image.proofs.write.Given as goal
-
-abbrev pub decreases-loop-i : goal.decreases-loop-i
-decreases-loop-i g l = l.initial.end - l.i

@@ -1,0 +1,43 @@
+// Bytes put into a lent buffer one behind the other.
+ghost use Rattle.std.specs.Prelude.{[], ◌∷◌, length};
+ghost use Rattle.image_format.specs.Image.{slots};
+ghost use Rattle.packed.specs.Packed.{assignment};
+ghost use Rattle.image_writer.specs.Puts.{Room, Puts};
+
+use lent::put;
+use packed::digit;
+
+// A buffer that a caller lends, and the place where the next byte goes.
+#[derive(Drop)]
+pub struct Cursor<'a> {
+    pub buffer: &'a mut [u8],
+    pub at: usize,
+}
+
+impl Cursor<'_> {
+    pub fn put(&mut self, byte: u8)
+        requires { Room self.old 1 }
+        ensures { Puts self.old 1 (byte ∷ []) self.new }
+    {
+        self.buffer[self.at] = byte;
+        self.at += 1;
+    }
+
+    pub fn put_all(&mut self, bytes: &[u8])
+        requires { Room self.old (length bytes.now) }
+        ensures { Puts self.old (length bytes.now) bytes.now self.new }
+    {
+        put(self.buffer, self.at, bytes);
+        self.at += bytes.len();
+    }
+
+    // The twelve digits of a packed word.
+    pub fn put_slots(&mut self, word: u64)
+        requires { Room self.old 12 }
+        ensures { Puts self.old 12 (slots (assignment word)) self.new }
+    {
+        for k in 1..=12 {
+            self.put(digit(word, k));
+        }
+    }
+}

@@ -1,8 +1,0 @@
--- The buffer that is lent is the first bytes of another.
-use mathlib.Core.Path.{sym}
-use native.Mathlib.Omega.{arith}
-use lib.Seq.{length-take-le}
-use Rattle.images.proofs.unmoved_in.Goals as goal
-
-pub slice_bounds-move_image-end-2 : goal.slice_bounds-move_image-end-2
-slice_bounds-move_image-end-2 c = sym (length-take-le _ _ (omega arith))
