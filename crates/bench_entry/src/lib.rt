@@ -100,8 +100,8 @@ fn mixed(sum: u64, n: u32) -> u64
 
 // ---- deliveries
 
-// Deliveries, each through the public entry: sender and receiver stand in `calls`, two bytes for each. They come to the network that is left, and a sum that each
-// number answered is mixed into. One answer is handed on from call to call.
+// Deliveries, each through the public entry: sender and receiver stand in `calls`, two bytes for each. They come to the network that is left, and a sum
+// that each number answered is mixed into. One answer is handed on from call to call.
 fn play(network: Network, number: u8, calls: &[u8]) -> (Network, u64)
     ensures { (s : Started') → network_of network ≡ s.network → number ≡ s.number → Playing s calls.now (length calls.now / 2) result.0 result.1 }
 {
@@ -168,8 +168,7 @@ fn all_mixed(sent: Counts, received: Counts) -> u64
 pub extern "C" fn bench_entry_counts(rule: u8, sheet: &[u8], rounds: u64, agent: usize) -> u64
     ensures { result ≡ counts_for (start_sheet rule sheet.now) rounds agent }
 {
-    let (network, _) = answered(start::start(rule, sheet));
-    let ran = run::run(network, rounds);
+    let ran = run::run(start::rail_of(start::start(rule, sheet)), rounds);
     if agent < 12 {
         let a = ran.network.agents[agent];
         all_mixed(a.sent, a.received)

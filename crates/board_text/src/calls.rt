@@ -1,5 +1,5 @@
 // Reading a call off the command line.
-ghost use Rattle.std.specs.Prelude.{◌≡◌, ◌<◌, length, IfSome};
+ghost use Rattle.std.specs.Prelude.{◌≡◌, ◌++◌, ◌<◌, List, ℕ, length, IfSome};
 ghost use Rattle.board_text.specs.Reading.{byte_in, dash_in, ends_in, call_in};
 
 use dispatch::Line;
@@ -54,7 +54,9 @@ pub fn read_call(word: &[u8]) -> Option<Call>
 }
 
 // The digits of `rN`, leading zeros left out; the last digit stays.
-pub fn significant(word: &[u8]) -> &[u8] {
+pub fn significant(word: &[u8]) -> &[u8]
+    ensures { (front : List ℕ) × (word.now ≡ front ++ result.now) }
+{
     let mut digits = word;
     while let [b'r' | b'0', rest @ ..] = digits {
         if rest.is_empty() {

@@ -1,11 +1,10 @@
 -- Text that stands in a buffer from its first byte on is what is printed; and it is that of the whole input.
 use mathlib.Core.Path.{◌≡◌, sym, ap, subst, ◌∙◌}
 use mathlib.Core.List.{List}
-use Prim.Native.Nat.{ℕ, ◌≤◌, min}
+use Prim.Native.Nat.{ℕ, ◌≤◌}
 use native.Mathlib.Omega.{arith}
-use lib.ListN.{length, take, length-take}
+use lib.ListN.{length}
 use borrow.Author.Tests.{ne_eqb}
-use Rattle.io.specs.Counts.{IsPrefixLen}
 use Rattle.protocol.specs.Network.{Network, start_sheet}
 use Rattle.protocol.specs.Run.{Plan, Ran}
 use Rattle.engine.specs.Answers.{ending_of}
@@ -24,13 +23,6 @@ prints rounds sheet s old new n A e =
       text = A.text ∙ e;
       whole = λ input h. A.text ∙ e ∙ ap (dock_text rounds) (sym h) ∙ text-cut rounds input;
     }
-
--- so many bytes stand in the buffer
-pub prints-counts : (rounds : ℕ) (sheet buffer : List ℕ) (n : ℕ) → Prints rounds sheet buffer n → IsPrefixLen n buffer
-prints-counts rounds sheet buffer n P =
-    let e : n ≡ length (take n buffer) = P.count ∙ sym (ap length P.text) in
-    let m : n ≡ min n (length buffer) = simp length-take at e in
-    (omega arith, e)
 
 text-refused : (n : ℕ) (r : Ran) → (n ≡ 0 → ⊥) → settled_text n r ≡ line_of sheet_refused n
 unfolding settled_text

@@ -1,19 +1,20 @@
 // What `dock` does with a sheet: the scanners settle it, and what they come to is made a text.
 #![tactic(auto)]
 
-ghost use Rattle.std.specs.Prelude.{◌≡◌, ◌+◌, ◌≤◌, length};
+ghost use Rattle.std.specs.Prelude.{◌≡◌, ◌≤◌, length};
 ghost use Rattle.protocol.specs.Run.{Plan};
 ghost use Rattle.io.specs.Counts.{IsPrefixLen};
 ghost use Rattle.network.specs.Abstract.{network_of};
 ghost use Rattle.engine.specs.Answers.{ending_of};
-ghost use Rattle.text.specs.Text.{Appends};
+ghost use Rattle.lent.specs.Puts.{Room, Adds};
 ghost use Rattle.dock_text.specs.Settling.{program_rounds, Settles};
 ghost use Rattle.dock_text.specs.Text.{slot_line, slot_lines, plan_lines, answer_text, Prints};
 
 use engine::{Answer, Ending};
+use lent::cursor::Cursor;
 use network::Network;
 use refusals::Refusal;
-use text::{append, append_line, append_number};
+use text::{append_line, append_number};
 use words::append_ending;
 
 // What a sheet comes to: the start by rule 1 and the run on it with so many rounds, or the refusal of the sheet. A match, since `?` moves the network twice,
@@ -30,48 +31,49 @@ pub fn settle(sheet: &[u8], rounds: u64) -> Result<Answer, Refusal>
 // ---- the text
 
 // A line for scanner i.
-fn append_slot(out: &mut [u8], at: usize, i: u8, v: u8) -> usize
-    requires { at + 55 ≤ length out.old }
-    ensures { Appends out.old at (slot_line i v) out.new result × (result ≤ at + 55) }
+fn append_slot(out: &mut Cursor<'_>, i: u8, v: u8)
+    requires { Room out.old 55 }
+    ensures text { Adds out.old (slot_line i v) out.new }
+    ensures short { length (slot_line i v) ≤ 55 }
 {
-    let a = append(out, at, b"scanner ");
-    let b = append_number(out, a, u64::from(i));
-    append_line(out, b, b" slot ", u64::from(v))
+    out.put_all(b"scanner ");
+    append_number(out, u64::from(i));
+    append_line(out, b" slot ", u64::from(v));
 }
 
 // A line for each scanner.
-fn append_slots(out: &mut [u8], at: usize, r: Network) -> usize
-    requires { (at + 660 ≤ length out.old) × (r.count ≤ 12) }
-    ensures { Appends out.old at (slot_lines (network_of r)) out.new result }
+fn append_slots(out: &mut Cursor<'_>, r: Network)
+    requires few { r.count ≤ 12 }
+    requires room { Room out.old 660 }
+    ensures { Adds out.old (slot_lines (network_of r)) out.new }
 {
-    let mut n = at;
     for i in 1..=r.count {
-        n = append_slot(out, n, i, network::value(r, i).unwrap_or(0));
+        append_slot(out, i, network::value(r, i).unwrap_or(0));
     }
-    n
 }
 
 // For a plan a line for each scanner, else nothing.
-fn append_plan(out: &mut [u8], at: usize, e: Ending, r: Network) -> usize
-    requires { (at + 660 ≤ length out.old) × (ending_of e ≡ Plan → r.count ≤ 12) }
-    ensures { Appends out.old at (plan_lines (ending_of e) (network_of r)) out.new result }
+fn append_plan(out: &mut Cursor<'_>, e: Ending, r: Network)
+    requires few { ending_of e ≡ Plan → r.count ≤ 12 }
+    requires room { Room out.old 660 }
+    ensures { Adds out.old (plan_lines (ending_of e) (network_of r)) out.new }
 {
-    match e {
-        Ending::Plan => append_slots(out, at, r),
-        _ => at,
+    if let Ending::Plan = e {
+        append_slots(out, r);
     }
 }
 
 // How the run ended, its full rounds, and for a plan the slots.
-fn append_ran(out: &mut [u8], ran: Answer) -> usize
-    requires { (1024 ≤ length out.old) × (ending_of ran.ending ≡ Plan → ran.network.count ≤ 12) }
-    ensures { Appends out.old 0 (answer_text ran) out.new result }
+fn append_ran(out: &mut Cursor<'_>, ran: Answer)
+    requires few { ending_of ran.ending ≡ Plan → ran.network.count ≤ 12 }
+    requires room { Room out.old 1024 }
+    ensures { Adds out.old (answer_text ran) out.new }
 {
-    let a = append(out, 0, b"verdict ");
-    let b = append_ending(out, a, ran.ending);
-    let c = append(out, b, b"\n");
-    let d = append_line(out, c, b"rounds ", ran.rounds);
-    append_plan(out, d, ran.ending, ran.network)
+    out.put_all(b"verdict ");
+    append_ending(out, ran.ending);
+    out.put_all(b"\n");
+    append_line(out, b"rounds ", ran.rounds);
+    append_plan(out, ran.ending, ran.network);
 }
 
 // The text for a sheet, with so many rounds allowed, and how many bytes it has.
@@ -79,10 +81,12 @@ pub fn text(sheet: &[u8], rounds: u64, out: &mut [u8; 1024]) -> usize
     ensures prints { Prints rounds sheet.now out.new result }
     ensures prefix_len { IsPrefixLen result out.new }
 {
+    let mut next = Cursor { buffer: out, at: 0 };
     match settle(sheet, rounds) {
-        Ok(ran) => append_ran(out, ran),
-        Err(refusal) => append_line(out, 0, b"sheet refused ", u64::from(refusal.number())),
+        Ok(ran) => append_ran(&mut next, ran),
+        Err(refusal) => append_line(&mut next, b"sheet refused ", u64::from(refusal.number())),
     }
+    next.at
 }
 
 // The text of the program, which runs with 100,000 rounds.

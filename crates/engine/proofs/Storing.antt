@@ -13,10 +13,7 @@ use Rattle.base.proofs.Tests.{test, eq_test}
 use Rattle.agent_rules.specs.Message.{Post as Post'}
 use Rattle.packed.specs.Packed.{assignment}
 use Rattle.agent.specs.declared.Post.{Post}
-use Rattle.agent.specs.declared.Step.{Step}
 use Rattle.agent.specs.Abstract.{post_of}
-use Rattle.agent.specs.declared.Letters.{Letters}
-use Rattle.agent.specs.Posting.{posts_left, letters_left}
 use Rattle.network.specs.declared.Network.{Network}
 use Rattle.network.specs.Abstract.{is_channel, place_of, row_of}
 use Rattle.clauses.proofs.Numbering.{Ends, ends}

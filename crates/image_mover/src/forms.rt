@@ -4,12 +4,12 @@ ghost use Rattle.lent.specs.Abstract.{over};
 ghost use Rattle.image_format.specs.Bytes.{stretch};
 ghost use Rattle.image_forms.specs.Packing.{LowSlots};
 ghost use Rattle.image_forms.specs.Forms.{packed_messages, unpacked_messages, small, large};
-ghost use Rattle.image_writer.specs.Puts.{Room, Puts};
+ghost use Rattle.lent.specs.Puts.{Room, Puts};
 ghost use Rattle.image_mover.specs.Whole.{Whole, Packable};
 
 use crate::packing::{pack_all, put_all_unpacked};
 use crate::places::{lay_by_place, put_by_place};
-use image_writer::cursor::Cursor;
+use lent::cursor::Cursor;
 
 // The form, and the other bytes before the scanners.
 fn put_front(out: &mut Cursor<'_>, form: u8, s: &[u8])

@@ -3,9 +3,9 @@ ghost use Rattle.std.specs.Prelude.{◌≡◌, ◌*◌, ◌≤◌, length};
 ghost use Rattle.lent.specs.Abstract.{over};
 ghost use Rattle.image_forms.specs.Places.{each_record};
 ghost use Rattle.image_forms.specs.Packing.{packed, unpacked, LowSlots};
-ghost use Rattle.image_writer.specs.Puts.{Room, Puts};
+ghost use Rattle.lent.specs.Puts.{Room, Puts};
 
-use image_writer::cursor::Cursor;
+use lent::cursor::Cursor;
 
 // One message, its left-side slots two to a byte.
 fn put_packed(out: &mut Cursor<'_>, m: &[u8])

@@ -3,9 +3,9 @@ ghost use Rattle.std.specs.Prelude.{◌≡◌, [], ◌∷◌, ◌+◌, ◌*◌, 
 ghost use Rattle.base.specs.Finite.{gather};
 ghost use Rattle.lent.specs.Abstract.{over};
 ghost use Rattle.image_forms.specs.Places.{by_place};
-ghost use Rattle.image_writer.specs.Puts.{Room, Puts};
+ghost use Rattle.lent.specs.Puts.{Room, Puts};
 
-use image_writer::cursor::Cursor;
+use lent::cursor::Cursor;
 
 // The bytes at one place of so many records, each so many bytes wide.
 fn put_place(out: &mut Cursor<'_>, s: &[u8], count: usize, width: usize, place: usize)

@@ -13,7 +13,7 @@ use Rattle.image_format.specs.Reading.{bans_length}
 use Rattle.image_format.proofs.Bytes.{bytes-length}
 use Rattle.image_format.proofs.Stretches.{same-lengths}
 use Rattle.image_format.proofs.Lengths.{bans-length}
-use Rattle.image_writer.proofs.Puts.{room-left}
+use Rattle.lent.proofs.Puts.{room-left}
 
 -- those of one lower agent
 abbrev pub word_bytes : List ℕ → ℕ → ℕ → List ℕ

@@ -1,4 +1,3 @@
-pub mod Puts
 pub mod Words
 pub mod Records
 pub mod BanTable

@@ -6,9 +6,9 @@ use lib.ListN.{length}
 use native.Mathlib.Nat.{div-one, pow-suc, div-div-eq-div-mul}
 use Rattle.std.specs.Int.{bytes_low_first, byte_at, to_le_bytes, w16, w64}
 use Rattle.image_format.specs.Bytes.{bytes_of}
-use Rattle.image_writer.specs.declared.cursor.Cursor.{Cursor}
-use Rattle.image_writer.specs.Puts.{Puts}
-use Rattle.image_writer.proofs.Puts.{puts-as}
+use Rattle.lent.specs.declared.cursor.Cursor.{Cursor}
+use Rattle.lent.specs.Puts.{Puts}
+use Rattle.lent.proofs.Puts.{puts-as}
 
 byte-there : (i x : ℕ) → byte_at i x ≡ x / 256 ^ i % 256
 byte-there zero x = rw div-one

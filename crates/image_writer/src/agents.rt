@@ -8,10 +8,11 @@ ghost use Rattle.choosing.specs.Choosing.{nogood_at};
 ghost use Rattle.agent.specs.Abstract.{assigned, count_of, agent_of};
 ghost use Rattle.network.specs.Abstract.{network_of};
 ghost use Rattle.image_format.specs.Image.{slots, mask_bytes, reason_bytes, count_bytes, agent_bytes};
-ghost use Rattle.image_writer.specs.Puts.{Room, Puts};
+ghost use Rattle.lent.specs.Puts.{Room, Puts};
 
-use crate::cursor::Cursor;
+use crate::slots::put_slots;
 use agent::{Agent, Counts};
+use lent::cursor::Cursor;
 use network::Network;
 
 // The mask of a set: agents 1 to 12 of it. A set has room for 16; in shape the others are not in it.
@@ -28,7 +29,7 @@ fn put_reason(out: &mut Cursor<'_>, stored: bool, word: u64)
     ensures { Puts out.old 13 (reason_bytes (cond stored (some (assignment word)) none)) out.new }
 {
     out.put(stored as u8);
-    out.put_slots(if stored { word } else { 0 });
+    put_slots(out, if stored { word } else { 0 });
 }
 
 // The reasons of own values 1 to 8.
@@ -60,7 +61,7 @@ fn put_front(out: &mut Cursor<'_>, a: &Agent)
     out.put(a.last);
     put_mask(out, a.listens);
     put_mask(out, a.informs);
-    out.put_slots(a.view.digits);
+    put_slots(out, a.view.digits);
 }
 
 fn put_agent(out: &mut Cursor<'_>, a: &Agent)

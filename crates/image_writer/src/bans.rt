@@ -5,10 +5,10 @@ ghost use Rattle.problem.specs.Problem.{max_agents, word_at};
 ghost use Rattle.network.specs.Abstract.{problem_of};
 ghost use Rattle.image_format.specs.Bytes.{bytes_of};
 ghost use Rattle.image_format.specs.Image.{ban_bytes};
-ghost use Rattle.image_writer.specs.Puts.{Room, Puts};
+ghost use Rattle.lent.specs.Puts.{Room, Puts};
 
-use crate::cursor::Cursor;
 use clauses::places::words_before;
+use lent::cursor::Cursor;
 use network::Network;
 
 // The bans of one lower agent, by higher agent.

@@ -1,9 +1,9 @@
 // The header.
 ghost use Rattle.network.specs.Abstract.{network_of};
 ghost use Rattle.image_format.specs.Image.{header_bytes};
-ghost use Rattle.image_writer.specs.Puts.{Room, Puts};
+ghost use Rattle.lent.specs.Puts.{Room, Puts};
 
-use crate::cursor::Cursor;
+use lent::cursor::Cursor;
 use network::Network;
 
 // The first form, n, the rule, the verdict, the slot counts.

@@ -13,15 +13,15 @@ use refusals::Refusal;
 
 mod agents;
 mod bans;
-pub mod cursor;
 mod header;
 mod lines;
 mod messages;
+mod slots;
 
 use agents::put_agents;
 use bans::put_bans;
-use cursor::Cursor;
 use header::put_header;
+use lent::cursor::Cursor;
 use lines::waiting;
 use messages::{put_heads, put_messages};
 

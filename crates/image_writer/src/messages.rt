@@ -7,12 +7,13 @@ ghost use Rattle.network.specs.Abstract.{network_of};
 ghost use Rattle.image_format.specs.Bytes.{bytes_of};
 ghost use Rattle.image_format.specs.Image.{slots, all_lines, number_after, heads_from, message_bytes, chain_from, messages_from};
 ghost use Rattle.image_writer.specs.Lines.{line_at};
-ghost use Rattle.image_writer.specs.Puts.{Room, Puts};
+ghost use Rattle.lent.specs.Puts.{Room, Puts};
 
-use crate::cursor::Cursor;
 use crate::lines::on_line;
+use crate::slots::put_slots;
 use agent::Message;
 use clauses::places::place_at;
+use lent::cursor::Cursor;
 use network::Network;
 
 // The number of the first of so many messages, behind `before` others. The image has zero where there is none.
@@ -56,7 +57,7 @@ fn put_message(out: &mut Cursor<'_>, m: Message, next: u16)
     out.put(sort);
     out.put(value);
     out.put_all(&next.to_le_bytes());
-    out.put_slots(word);
+    put_slots(out, word);
 }
 
 // The messages of one line, behind `before` others. Says how many there are.

@@ -1,2 +1,3 @@
 pub mod Over
 pub mod Within
+pub mod Puts

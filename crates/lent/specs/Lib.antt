@@ -1,1 +1,2 @@
 pub mod Abstract
+pub mod Puts

@@ -3,6 +3,8 @@
 
 ghost use Rattle.std.specs.Prelude.{◌≡◌, ◌++◌, ◌+◌, ◌≤◌, length, take, drop};
 
+pub mod cursor;
+
 // s, in the buffer from `at` on.
 pub fn put(out: &mut [u8], at: usize, s: &[u8])
     requires { at + length s.now ≤ length out.old }

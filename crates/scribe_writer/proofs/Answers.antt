@@ -1,6 +1,6 @@
 -- What is answered for a sheet: its text, or the number of its fault; and how bytes are put as a whole.
 -- Each opens a definition once, with the outcome that led there.
-use Prim.Native.Nat.{ℕ, ◌≤◌, ◌<◌}
+use Prim.Native.Nat.{ℕ, ◌+◌, ◌≤◌, ◌<◌}
 use mathlib.Core.Path.{◌≡◌, sym, ap}
 use mathlib.Core.List.{List, ◌++◌}
 use native.Mathlib.Omega.{arith}
@@ -15,11 +15,11 @@ use Rattle.problem.proofs.Sheet.{decode-in-range}
 use Rattle.sheet.specs.Abstract.{Outcome, outcome, outcome_of}
 use Rattle.std.specs.Prelude.{Err}
 use Rattle.refusals.specs.Refusals.{refusal_number}
+use Rattle.refusals.proofs.Numbers.{refusal-some}
 use Rattle.refusals.specs.declared.Refusal.{Refusal}
-use Rattle.refusals.specs.declared.Refusal.TheVariants.{BadLength, BadHeader, BadRecord, Cycle, BadShape, BadNumbers, VerdictStands, EmptyChannel, NoRoom, BadRule, ShortBuffer, BadImage, BadOrdinal, NotSayable}
 use Rattle.scribe_rules.specs.Telling.{longest_told, Text, text_from, told_from, text_of}
 use Rattle.scribe_theorems.proofs.Theorems.{texts-short}
-use Rattle.scribe_writer.specs.Parts.{Room, put_told}
+use Rattle.scribe_writer.specs.Parts.{put_told}
 
 -- ---- bytes as a whole
 
@@ -35,27 +35,11 @@ module _ (s buffer : List ℕ) where
 
 -- ---- the outcome of reading
 
-some-number : (r : Refusal) → refusal_number r ≡ 0 → ⊥
-some-number BadLength e = omega (arith, e)
-some-number BadHeader e = omega (arith, e)
-some-number BadRecord e = omega (arith, e)
-some-number Cycle e = omega (arith, e)
-some-number BadShape e = omega (arith, e)
-some-number BadNumbers e = omega (arith, e)
-some-number VerdictStands e = omega (arith, e)
-some-number EmptyChannel e = omega (arith, e)
-some-number NoRoom e = omega (arith, e)
-some-number BadRule e = omega (arith, e)
-some-number ShortBuffer e = omega (arith, e)
-some-number BadImage e = omega (arith, e)
-some-number BadOrdinal e = omega (arith, e)
-some-number NotSayable e = omega (arith, e)
-
 -- a refusal has the number of the fault
 refused : (s : List ℕ) (d : Decoded) (r : Refusal) (buffer : List ℕ) → outcome_of (Err r) ≡ outcome d
     → put_told (told_from s d) buffer ≡ untouched (refusal_number r) buffer
 unfolding outcome outcome_of told_from put_told
-refused s (Valid p) r buffer e = absurd (some-number r (ap (λ (o : Outcome). o.number) e))
+refused s (Valid p) r buffer e = absurd (refusal-some r (ap (λ (o : Outcome). o.number) e))
 refused s (Invalid f) r buffer e = ap (λ (n : ℕ). untouched n buffer) (sym (ap (λ (o : Outcome). o.number) e))
 
 pub answers-refused : (s : List ℕ) (r : Refusal) (buffer : List ℕ) → outcome_of (Err r) ≡ outcome (decode s)
@@ -74,9 +58,9 @@ module _ (s : List ℕ) (p : Problem) (v : decode s ≡ Valid p) where
   unfolding text_of told_from
   text-is = rw v
 
-  pub text-room : Room (replicate 67634 0) 0 (text_from (edition_in s) p (rows_in s))
+  pub text-room : length (text_from (edition_in s) p (rows_in s)) + 20 ≤ length (replicate {A = ℕ} 67634 0)
   unfolding longest_told
-  text-room = record { fits = omega (arith, texts-short s _ text-is, length-replicate {A = ℕ} 67634 0) }
+  text-room = omega (arith, texts-short s _ text-is, length-replicate {A = ℕ} 67634 0)
 
   pub answers-text : (buffer : List ℕ) → put_told (text_of s) buffer ≡ put (text_from (edition_in s) p (rows_in s)) buffer
   unfolding put_told

@@ -21,10 +21,12 @@ use Rattle.problem.proofs.Walk.{free_walk, free-none, free-fails, free-goes}
 use Rattle.problem.proofs.Checks.{bad-length, invalid, accepted}
 use Rattle.sheet_parts.proofs.Records.{start-at}
 use Rattle.sheet.proofs.Walking.{next-there}
-use Rattle.text.specs.Text.{Appends}
+use Rattle.lent.specs.declared.cursor.Cursor.{Cursor}
+use Rattle.lent.specs.Puts.{Adds}
+use Rattle.lent.proofs.Puts.{Left, all_left, left_as, less-left, none_left}
 use Rattle.scribe_rules.specs.Telling.{row_line, row_lines}
-use Rattle.scribe_writer.specs.Parts.{Room, Readable}
-use Rattle.scribe_writer.proofs.Rooms.{room-first, Partly, partly_none, partly-room, partly_more, partly-all}
+use Rattle.scribe_writer.specs.Parts.{RoomFor, Readable}
+use Rattle.scribe_writer.proofs.Rooms.{room-first, room-put, room-left}
 
 -- ---- the chain
 
@@ -32,14 +34,14 @@ use Rattle.scribe_writer.proofs.Rooms.{room-first, Partly, partly_none, partly-r
 abbrev lines_from : List ℕ → ℕ → ℕ → List ℕ
 lines_from s r left = row_lines (edition_in s) (map (row_of s) (chain_from left s r))
 
-pub record Ahead (s old : List ℕ) (at : ℕ) (out : List ℕ) (end r left : ℕ) : Type 0 where
+pub record Ahead (s : List ℕ) (old out : Cursor) (r left : ℕ) : Type 0 where
   pub total : length s ≡ 24 + 8 * records_in s
   pub records : records_in s ≤ 4224
   pub here : r ≤ records_in s
   pub before : Problem
   pub after : Problem
   pub walk : free_walk left s r before ≡ Valid after
-  pub partly : Partly old at (row_lines (edition_in s) (rows_in s)) out end (lines_from s r left)
+  pub rest : Left old (row_lines (edition_in s) (rows_in s)) out (lines_from s r left)
 
 total-good : (s : List ℕ) (p : Problem) → decode s ≡ Valid p → length s ≡ 24 + 8 * records_in s
 unfolding header_length
@@ -47,9 +49,9 @@ total-good s p v =
     let a = accepted s p v in
     test (eqb (length s) (24 + 8 * records_in s)) (λ t. eqb-true _ _ t) (λ t. invalid BadLength p (sym (bad-length s a.long a.header t) ∙ v))
 
-pub starts : (s old : List ℕ) (at : ℕ) → Readable s → Ahead s old at old at (word_from s 2) (word_from s 4 + 1)
+pub starts : (s : List ℕ) (old : Cursor) → Readable s → RoomFor old (row_lines (edition_in s) (rows_in s)) → Ahead s old old (word_from s 2) (word_from s 4 + 1)
 unfolding max_records first_in records_in rows_in
-starts s old at readable =
+starts s old readable room =
     let a = accepted s readable.problem readable.valid in
     let f = header-fits s a.header in
     record {
@@ -59,7 +61,7 @@ starts s old at readable =
       before = without_bans s;
       after = readable.problem;
       walk = rw (add-one (word_from s 4)) a.walk;
-      partly = rw (add-one (word_from s 4)) (partly_none old at (row_lines (edition_in s) (rows_in s)));
+      rest = rw (add-one (word_from s 4)) (all_left old (row_lines (edition_in s) (rows_in s)) refl (room-put _ room));
     }
 
 -- a line, and those behind it
@@ -76,13 +78,13 @@ unfolding chain_from row_lines
 line-none s r zero h z = absurd (omega arith)
 line-none s r (suc left) h z = rw (eq-eqb r 0 z, chain_from)
 
-module _ {s old out : List ℕ} {at end r left : ℕ} (w : Ahead s old at out end r left) where
+module _ {s : List ℕ} {old out : Cursor} {r left : ℕ} (w : Ahead s old out r left) where
   -- the walk does not end before the chain
   pub not-over : left ≤ 0 → ⊥
   not-over h = invalid Cycle w.after (sym (free-none s r w.before left h) ∙ w.walk)
 
-  pub ends : 0 < left → r ≡ 0 → Appends old at (row_lines (edition_in s) (rows_in s)) out end
-  ends h z = partly-all w.partly (line-none s r left h z)
+  pub ends : 0 < left → r ≡ 0 → Adds old (row_lines (edition_in s) (rows_in s)) out
+  ends h z = none_left (left_as (line-none s r left h z) w.rest) refl
 
   module _ (h : 0 < left) (n : r ≢ 0) where
     good : record_good s w.before r ≡ true
@@ -90,12 +92,11 @@ module _ {s old out : List ℕ} {at end r left : ℕ} (w : Ahead s old at out en
         test (record_good s w.before r) (λ g. g)
         (λ g. invalid BadRecord w.after (sym (free-fails s r w.before left h n g) ∙ w.walk))
 
-    pub room-here : Room old at (row_lines (edition_in s) (rows_in s)) → Room out end (row_line (edition_in s) (row_at s (16 + 8 * r)))
-    room-here room = room-first _ _ (subst (Room out end) (line_first s r left h n) (partly-room room w.partly))
+    pub room-here : RoomFor old (row_lines (edition_in s) (rows_in s)) → RoomFor out (row_line (edition_in s) (row_at s (16 + 8 * r)))
+    room-here room = room-first _ _ (subst (RoomFor out) (line_first s r left h n) (room-left room w.rest))
 
-    pub goes : {new : List ℕ} {m : ℕ} → Appends out end (row_line (edition_in s) (row_at s (16 + 8 * r))) new m
-        → Ahead s old at new m (word_from s (20 + 8 * r)) (left - 1)
-    goes A =
+    pub goes : {new : Cursor} → Adds out (row_line (edition_in s) (row_at s (16 + 8 * r))) new → Ahead s old new (word_from s (20 + 8 * r)) (left - 1)
+    goes p =
         let there : word_from s (20 + 8 * r) ≡ next_of s r = next-there s r (omega arith) in
         record {
           total = w.total;
@@ -104,7 +105,7 @@ module _ {s old out : List ℕ} {at end r left : ℕ} (w : Ahead s old at out en
           before = with_row (edition_in s) (row_of s r) w.before;
           after = w.after;
           walk = rw there (sym (free-goes s r w.before left h n good) ∙ w.walk);
-          partly = rw there (partly_more _ _ w.partly (line_first s r left h n) A);
+          rest = rw there (less-left (left_as (line_first s r left h n) w.rest) p);
         }
 
 -- ---- the slot counts

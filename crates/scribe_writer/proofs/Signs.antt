@@ -2,12 +2,13 @@
 -- Below 128 a byte is itself, from there on 256 less.
 use Prim.Native.Nat.{ℕ, suc, ◌-◌, ◌≤◌, ◌<◌}
 use mathlib.Core.Path.{◌≡◌, subst}
-use mathlib.Core.List.{List}
 use native.Mathlib.Omega.{arith}
 use lib.IntN.{pos, negsuc}
 use borrow.Author.Tests.{lt-ltb, le-ltb}
 use Rattle.problem.specs.Row.{signed}
-use Rattle.text.specs.Text.{decimal, Appends}
+use Rattle.lent.specs.declared.cursor.Cursor.{Cursor}
+use Rattle.lent.specs.Puts.{Adds}
+use Rattle.text.specs.Text.{decimal}
 
 pub sign-none : (b : ℕ) → b < 128 → signed b ≡ pos b
 unfolding signed
@@ -18,5 +19,5 @@ unfolding signed
 sign-some b l h = let same : 256 - suc b ≡ 255 - b = omega arith in rw (le-ltb b 128 l, lt-ltb b 256 h, same)
 
 -- a number, said in other words
-pub number_is : {m n at k : ℕ} {old new : List ℕ} → m ≡ n → Appends old at (decimal m) new k → Appends old at (decimal n) new k
-number_is {m} {n} {at} {k} {old} {new} e A = subst (λ (x : ℕ). Appends old at (decimal x) new k) e A
+pub number_is : {m n : ℕ} {old new : Cursor} → m ≡ n → Adds old (decimal m) new → Adds old (decimal n) new
+number_is {m} {n} {old} {new} e p = subst (λ (x : ℕ). Adds old (decimal x) new) e p

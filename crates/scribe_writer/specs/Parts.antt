@@ -1,13 +1,15 @@
 -- What the code's parts say, and what a writer answers for what a sheet's text comes to.
-use Rattle.std.specs.Prelude.{ℕ, ◌+◌, ◌≤◌, ◌≡◌, List, length}
+use Rattle.std.specs.Prelude.{ℕ, ◌+◌, ◌≡◌, List, length}
 use Rattle.base.specs.Lent.{Written, untouched, put}
 use Rattle.problem.specs.Problem.{Problem}
 use Rattle.problem.specs.Sheet.{Valid, decode}
+use Rattle.lent.specs.declared.cursor.Cursor.{Cursor}
+use Rattle.lent.specs.Puts.{Room}
 use Rattle.scribe_rules.specs.Telling.{Told, Text, Refused}
 
--- there is room for this text behind the first `at` bytes, and behind it for twenty more, the most digits that any number has
-pub record Room (buffer : List ℕ) (at : ℕ) (text : List ℕ) : Type 0 where
-  pub fits : at + (length text + 20) ≤ length buffer
+-- there is room for this text, and behind it for twenty more, the most digits that any number has
+pub record RoomFor (c : Cursor) (text : List ℕ) : Type 0 where
+  pub fits : Room c (length text + 20)
 
 -- a sheet that is not refused
 pub record Readable (s : List ℕ) : Type 0 where

@@ -1,7 +1,7 @@
 // Writes the text of a sheet into a lent buffer. docs/RULES.md, 'Sheets as text'.
 #![tactic(auto)]
 
-ghost use Rattle.std.specs.Prelude.{◌≡◌};
+ghost use Rattle.std.specs.Prelude.{◌≡◌, ◌+◌, ◌≤◌, length};
 ghost use Rattle.base.specs.Lent.{put};
 ghost use Rattle.problem.specs.Sheet.{Valid, edition_in, decode};
 ghost use Rattle.problem.specs.Chain.{rows_in};
@@ -9,11 +9,12 @@ ghost use Rattle.sheet.specs.Abstract.{problem_of};
 ghost use Rattle.text.specs.Text.{Appends};
 ghost use Rattle.lent.specs.Abstract.{written_of};
 ghost use Rattle.scribe_rules.specs.Telling.{text_from, text_of};
-ghost use Rattle.scribe_writer.specs.Parts.{Room, put_told};
+ghost use Rattle.scribe_writer.specs.Parts.{put_told};
 
 mod lines;
 mod parts;
 
+use lent::cursor::Cursor;
 use parts::{append_rows, append_slots};
 use refusals::Refusal;
 use sheet::{Problem, decode};
@@ -21,11 +22,13 @@ use sheet::{Problem, decode};
 // The text of a sheet that is read as p.
 fn append_text(out: &mut [u8], s: &[u8], p: Problem) -> usize
     requires { (decode s.now ≡ Valid (problem_of p))
-        × Room out.old 0 (text_from (edition_in s.now) (problem_of p) (rows_in s.now)) }
+        × (length (text_from (edition_in s.now) (problem_of p) (rows_in s.now)) + 20 ≤ length out.old) }
     ensures { Appends out.old 0 (text_from (edition_in s.now) (problem_of p) (rows_in s.now)) out.new result }
 {
-    let at = append_slots(out, 0, p);
-    append_rows(out, at, s)
+    let mut next = Cursor { buffer: out, at: 0 };
+    append_slots(&mut next, p);
+    append_rows(&mut next, s);
+    next.at
 }
 
 // All of s where there is room; else the buffer is too short, and untouched.

@@ -2,76 +2,77 @@
 ghost use Rattle.std.specs.Prelude.{◌+◌, ◌≤◌, length};
 ghost use Rattle.problem.specs.Row.{signed};
 ghost use Rattle.problem.specs.Sheet.{edition_in, row_at};
-ghost use Rattle.text.specs.Text.{Appends};
+ghost use Rattle.lent.specs.Puts.{Adds};
 ghost use Rattle.scribe_rules.specs.Telling.{figure, place, signed_figure, ban_line, gap_line, row_line};
-ghost use Rattle.scribe_writer.specs.Parts.{Room};
+ghost use Rattle.scribe_writer.specs.Parts.{RoomFor};
 
-use text::{append, append_number};
+use lent::cursor::Cursor;
+use text::append_number;
 
 // A blank, and a number.
-pub fn append_figure(out: &mut [u8], at: usize, k: u8) -> usize
-    requires { Room out.old at (figure k) }
-    ensures { Appends out.old at (figure k) out.new result }
+pub fn append_figure(out: &mut Cursor<'_>, k: u8)
+    requires { RoomFor out.old (figure k) }
+    ensures { Adds out.old (figure k) out.new }
 {
-    let at = append(out, at, b" ");
-    append_number(out, at, u64::from(k))
+    out.put_all(b" ");
+    append_number(out, u64::from(k));
 }
 
 // A blank, an agent, and a value of it.
-fn append_place(out: &mut [u8], at: usize, i: u8, v: u8) -> usize
-    requires { Room out.old at (place i v) }
-    ensures { Appends out.old at (place i v) out.new result }
+fn append_place(out: &mut Cursor<'_>, i: u8, v: u8)
+    requires { RoomFor out.old (place i v) }
+    ensures { Adds out.old (place i v) out.new }
 {
-    let at = append_figure(out, at, i);
-    let at = append(out, at, b":");
-    append_number(out, at, u64::from(v))
+    append_figure(out, i);
+    out.put_all(b":");
+    append_number(out, u64::from(v));
 }
 
 // A blank, and the signed number that is this byte.
-fn append_signed(out: &mut [u8], at: usize, b: u8) -> usize
-    requires { Room out.old at (signed_figure (signed b)) }
-    ensures { Appends out.old at (signed_figure (signed b)) out.new result }
+fn append_signed(out: &mut Cursor<'_>, b: u8)
+    requires { RoomFor out.old (signed_figure (signed b)) }
+    ensures { Adds out.old (signed_figure (signed b)) out.new }
 {
     if b < 128 {
-        append_figure(out, at, b)
+        append_figure(out, b);
     } else {
-        let at = append(out, at, b" -");
-        append_number(out, at, 256 - u64::from(b))
+        out.put_all(b" -");
+        append_number(out, 256 - u64::from(b));
     }
 }
 
 // Edition 1: the record whose first byte is at k.
-fn append_ban(out: &mut [u8], at: usize, s: &[u8], k: usize) -> usize
-    requires { (k + 4 ≤ length s.now) × Room out.old at (ban_line (row_at s.now k)) }
-    ensures { Appends out.old at (ban_line (row_at s.now k)) out.new result }
+fn append_ban(out: &mut Cursor<'_>, s: &[u8], k: usize)
+    requires { (k + 4 ≤ length s.now) × RoomFor out.old (ban_line (row_at s.now k)) }
+    ensures { Adds out.old (ban_line (row_at s.now k)) out.new }
 {
-    let at = append(out, at, b"ban");
-    let at = append_place(out, at, s[k], s[k + 2]);
-    let at = append_place(out, at, s[k + 1], s[k + 3]);
-    append(out, at, b"\n")
+    out.put_all(b"ban");
+    append_place(out, s[k], s[k + 2]);
+    append_place(out, s[k + 1], s[k + 3]);
+    out.put_all(b"\n");
 }
 
 // Edition 2: the record whose first byte is at k.
-fn append_gap(out: &mut [u8], at: usize, s: &[u8], k: usize) -> usize
-    requires { (k + 4 ≤ length s.now) × Room out.old at (gap_line (row_at s.now k)) }
-    ensures { Appends out.old at (gap_line (row_at s.now k)) out.new result }
+fn append_gap(out: &mut Cursor<'_>, s: &[u8], k: usize)
+    requires { (k + 4 ≤ length s.now) × RoomFor out.old (gap_line (row_at s.now k)) }
+    ensures { Adds out.old (gap_line (row_at s.now k)) out.new }
 {
-    let at = append(out, at, b"gap");
-    let at = append_figure(out, at, s[k]);
-    let at = append_figure(out, at, s[k + 1]);
-    let at = append_signed(out, at, s[k + 2]);
-    let at = append_signed(out, at, s[k + 3]);
-    append(out, at, b"\n")
+    out.put_all(b"gap");
+    append_figure(out, s[k]);
+    append_figure(out, s[k + 1]);
+    append_signed(out, s[k + 2]);
+    append_signed(out, s[k + 3]);
+    out.put_all(b"\n");
 }
 
 // The record whose first byte is at k.
-pub fn append_row(out: &mut [u8], at: usize, s: &[u8], k: usize) -> usize
-    requires { (2 ≤ length s.now) × (k + 4 ≤ length s.now) × Room out.old at (row_line (edition_in s.now) (row_at s.now k)) }
-    ensures { Appends out.old at (row_line (edition_in s.now) (row_at s.now k)) out.new result }
+pub fn append_row(out: &mut Cursor<'_>, s: &[u8], k: usize)
+    requires { (2 ≤ length s.now) × (k + 4 ≤ length s.now) × RoomFor out.old (row_line (edition_in s.now) (row_at s.now k)) }
+    ensures { Adds out.old (row_line (edition_in s.now) (row_at s.now k)) out.new }
 {
     if s[1] == 2 {
-        append_gap(out, at, s, k)
+        append_gap(out, s, k);
     } else {
-        append_ban(out, at, s, k)
+        append_ban(out, s, k);
     }
 }

@@ -2,7 +2,7 @@
 ghost use Rattle.std.specs.Prelude.{◌≡◌, length};
 
 use crate::printing::{put_answer, start_of};
-use text::append;
+use lent::cursor::Cursor;
 use words::printing::Out;
 
 // One byte more than a text may have, all of them the beginning of a comment.
@@ -12,36 +12,36 @@ fn room() -> [u8; 1048577]
     [b'#'; 1048577]
 }
 
-// The line behind the first `at` bytes, if there is room.
-fn with_line(text: &mut [u8], at: usize, line: &[u8]) -> usize {
-    if at <= text.len() && line.len() <= text.len() - at {
-        append(text, at, line)
-    } else {
-        at
+// The line behind the others, if there is room.
+fn put_line(text: &mut Cursor<'_>, line: &[u8]) {
+    if text.at <= text.buffer.len() && line.len() <= text.buffer.len() - text.at {
+        text.put_all(line);
     }
-}
-
-// The same line so many times.
-fn with_lines(text: &mut [u8], from: usize, line: &[u8], times: usize) -> usize {
-    let mut at = from;
-    for _ in 0..times {
-        at = with_line(text, at, line);
-    }
-    at
 }
 
 // A first line, and another so many times.
 fn put_times(o: Out, first: &[u8], line: &[u8], times: usize) -> Out {
     let mut text = room();
-    let a = with_line(&mut text, 0, first);
-    let n = with_lines(&mut text, a, line, times);
+    let mut next = Cursor {
+        buffer: &mut text,
+        at: 0,
+    };
+    put_line(&mut next, first);
+    for _ in 0..times {
+        put_line(&mut next, line);
+    }
+    let n = next.at;
     put_answer(o, start_of(&text, n))
 }
 
 // A first line, and a comment up to n bytes.
 fn put_padded(o: Out, first: &[u8], n: usize) -> Out {
     let mut text = room();
-    with_line(&mut text, 0, first);
+    let mut next = Cursor {
+        buffer: &mut text,
+        at: 0,
+    };
+    put_line(&mut next, first);
     put_answer(o, start_of(&text, n))
 }
 

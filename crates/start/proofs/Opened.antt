@@ -11,12 +11,11 @@ use borrow.Author.Tests.{eq-eqb, ne_eqb, lt-leb, le-leb, leb-true, leb-false}
 use Rattle.base.specs.Finite.{at, within, all_to}
 use Rattle.base.proofs.Tests.{test, eq_test, to-within, not_within}
 use Rattle.base.proofs.Search.{at_same, at_other}
-use Rattle.problem.specs.Problem.{Problem, max_agents, max_pairs, no_bans, empty_problem}
+use Rattle.problem.specs.Problem.{Problem}
 use Rattle.agent_rules.specs.Message.{Message, sent_to}
 use Rattle.agent_rules.specs.Agent.{Agent, unused_agent}
 use Rattle.protocol.specs.Network.{Network as Network', empty_network, posted, with_step, begun, start_agent, start_channel, start}
 use Rattle.network.specs.Abstract.{problem_of, channel_of, network_of}
-use Rattle.network.specs.Empty.{empty_record}
 use Rattle.network.proofs.Zeros.{record-empty}
 use Rattle.start.specs.Started.{unbegun}
 use Rattle.start.proofs.Posting.{Silent}
@@ -65,11 +64,6 @@ none-opened rule p = λ k. record {
       (ap (λ (w : Network'). w.channel) record-empty
       ∙ sym (fun_ext (λ i. fun_ext (λ j. waits-channel rule p 0 i j (not_within 0 i (λ l h. omega arith)))))) k;
 }
-
--- the start of the empty problem, in which there is nobody, with no rule
-pub nobody-starts : start 0 empty_problem ≡ empty_network
-unfolding empty_problem no_bans max_agents max_pairs unbegun empty_record
-nobody-starts = sym (all-opened 0 empty_problem) ∙ sym (none-opened 0 empty_problem) ∙ record-empty
 
 -- ---- one more
 

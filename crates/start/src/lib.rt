@@ -1,11 +1,13 @@
 // The start: each agent begins, and what it sends waits on its channels.
 #![tactic(auto)]
 
-ghost use Rattle.std.specs.Prelude.{◌≡◌, false, ℕ, ◌≤◌, ◌<◌};
+ghost use Rattle.std.specs.Prelude.{◌≡◌, false, ℕ, ◌≤◌, ◌<◌, IfErr};
 ghost use Rattle.problem.specs.Problem.{Problem as Problem', linked};
 ghost use Rattle.protocol.specs.Network.{start_sheet};
 ghost use Rattle.packed.specs.Packed.{members};
-ghost use Rattle.start.specs.Started.{StartsAs};
+ghost use Rattle.network.specs.Abstract.{network_of};
+ghost use Rattle.network.specs.Empty.{empty_record};
+ghost use Rattle.start.specs.Started.{StartsAs, started_network};
 
 use agent::{Agent, Message};
 use choosing::Own;
@@ -58,11 +60,13 @@ pub fn start(rule: u8, sheet: &[u8]) -> Result<Network, Refusal>
         domains,
         bans,
     } = sheet::decode(sheet)?;
-    let mut r = network::empty();
-    r.count = count;
-    r.rule = rule;
-    r.domains = domains;
-    r.bans = bans;
+    let mut r = Network {
+        count,
+        rule,
+        domains,
+        bans,
+        ..network::empty()
+    };
     for at in 0..count as usize {
         let i = at as u8 + 1;
         let own = Own {
@@ -82,4 +86,15 @@ pub fn start(rule: u8, sheet: &[u8]) -> Result<Network, Refusal>
         r.counts[at] = row;
     }
     Ok(r)
+}
+
+// The rail that a start stands for: the empty one where it was refused.
+pub fn rail_of(started: Result<Network, Refusal>) -> Network
+    ensures rail { network_of result ≡ started_network started }
+    ensures refused { IfErr started (λ _. result ≡ empty_record) }
+{
+    match started {
+        Ok(network) => network,
+        Err(_) => network::empty(),
+    }
 }

@@ -1,18 +1,18 @@
--- Text behind text: what is put there in two parts is put there as a whole.
-use mathlib.Core.Path.{refl, ap, ◌∙◌}
-use mathlib.Core.List.{List, [], ◌++◌, append_assoc, append-nil}
-use Prim.Native.Nat.{ℕ}
+-- What is put into a buffer from its first byte on is what it then begins with.
+use mathlib.Core.Path.{◌≡◌, ap, ◌∙◌}
+use mathlib.Core.List.{List}
+use Prim.Native.Nat.{ℕ, ◌+◌}
 use native.Mathlib.Omega.{arith}
-use lib.ListN.{take, length-append}
+use lib.ListN.{drop, length}
+use lib.Seq.{take_at}
+use Rattle.lent.specs.declared.cursor.Cursor.{Cursor}
+use Rattle.lent.specs.Puts.{Adds}
 use Rattle.text.specs.Text.{Appends}
 
-pub appends-none : (old : List ℕ) (at : ℕ) → Appends old at [] old at
-appends-none old at = record { count = omega arith; room = refl; text = rw append-nil }
-
-pub appends-then : {old mid new s t : List ℕ} {at b n : ℕ} → Appends old at s mid b → Appends mid b t new n → Appends old at (s ++ t) new n
-appends-then {old} {mid} {new} {s} {t} {at} A B =
+pub from-start : {old new : Cursor} {s : List ℕ} → old.at ≡ 0 → Adds old s new → Appends old.buffer.now 0 s new.buffer.now new.at
+from-start {old} {new} {s} z p =
     record {
-      count = omega (arith, A.count, B.count, length-append s t);
-      room = B.room ∙ A.room;
-      text = B.text ∙ ap (λ (l : List ℕ). l ++ t) A.text ∙ append_assoc (take at old) s t;
+      count = p.behind ∙ ap (λ (k : ℕ). k + length s) z;
+      room = p.kept;
+      text = rw (p.put, p.behind, z) (take_at s (drop (0 + length s) old.buffer.now) (0 + length s) (omega arith));
     }

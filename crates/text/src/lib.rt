@@ -2,34 +2,29 @@
 #![tactic(auto)]
 
 ghost use Rattle.std.specs.Prelude.{◌+◌, ◌≤◌, length};
-ghost use Rattle.text.specs.Text.{decimal, line_of, Appends};
+ghost use Rattle.lent.specs.Puts.{Room, Adds};
+ghost use Rattle.text.specs.Text.{decimal, line_of};
 
-// Puts s behind the first `at` bytes of out, and answers how many there are then.
-pub fn append(out: &mut [u8], at: usize, s: &[u8]) -> usize
-    requires { at + length s.now ≤ length out.old }
-    ensures { Appends out.old at s.now out.new result }
-{
-    let end = at + s.len();
-    out[at..end].copy_from_slice(s);
-    end
-}
+use lent::cursor::Cursor;
 
 // A number in decimal, which has at most twenty digits.
-pub fn append_number(out: &mut [u8], at: usize, n: u64) -> usize
-    requires { at + 20 ≤ length out.old }
-    ensures { Appends out.old at (decimal n) out.new result × (result ≤ at + 20) }
+pub fn append_number(out: &mut Cursor<'_>, n: u64)
+    requires { Room out.old 20 }
+    ensures text { Adds out.old (decimal n) out.new }
+    ensures short { length (decimal n) ≤ 20 }
 {
     let mut digits = [0u8; 20];
     let count = io::decimal(n, &mut digits);
-    append(out, at, &digits[..count])
+    out.put_all(&digits[..count]);
 }
 
 // A line that ends in a number: what stands before it, and the number.
-pub fn append_line(out: &mut [u8], at: usize, before: &[u8], n: u64) -> usize
-    requires { at + (length before.now + 21) ≤ length out.old }
-    ensures { Appends out.old at (line_of before.now n) out.new result × (result ≤ at + (length before.now + 21)) }
+pub fn append_line(out: &mut Cursor<'_>, before: &[u8], n: u64)
+    requires { Room out.old (length before.now + 21) }
+    ensures text { Adds out.old (line_of before.now n) out.new }
+    ensures short { length (line_of before.now n) ≤ length before.now + 21 }
 {
-    let a = append(out, at, before);
-    let b = append_number(out, a, n);
-    append(out, b, b"\n")
+    out.put_all(before);
+    append_number(out, n);
+    out.put_all(b"\n");
 }

@@ -1,15 +1,15 @@
 // What the programs print with: the words, and printing.
 #![tactic(auto)]
 
-ghost use Rattle.std.specs.Prelude.{◌≡◌, ◌+◌, ◌≤◌, length};
+ghost use Rattle.std.specs.Prelude.{◌≡◌, ◌≤◌, length};
 ghost use Rattle.protocol.specs.Run.{ending_word};
 ghost use Rattle.engine.specs.Answers.{ending_of};
-ghost use Rattle.text.specs.Text.{Appends};
+ghost use Rattle.lent.specs.Puts.{Room, Adds};
 
 pub mod printing;
 
 use engine::Ending;
-use text::append;
+use lent::cursor::Cursor;
 
 // The word for how a run ended, at most six letters; none where it was rejected.
 #[tactic(auto, unfolding(protocol::specs::Run::ending_word, engine::specs::Answers::ending_of))]
@@ -27,9 +27,10 @@ pub fn word_for(e: Ending) -> &'static [u8]
 }
 
 // The word for how a run ended.
-pub fn append_ending(out: &mut [u8], at: usize, e: Ending) -> usize
-    requires { at + 6 ≤ length out.old }
-    ensures { Appends out.old at (ending_word (ending_of e)) out.new result × (result ≤ at + 6) }
+pub fn append_ending(out: &mut Cursor<'_>, e: Ending)
+    requires { Room out.old 6 }
+    ensures text { Adds out.old (ending_word (ending_of e)) out.new }
+    ensures short { length (ending_word (ending_of e)) ≤ 6 }
 {
-    append(out, at, word_for(e))
+    out.put_all(word_for(e));
 }

@@ -4,7 +4,6 @@ ghost use Rattle.words.specs.Printing.{StaysFailed};
 
 use crate::word_for;
 use engine::Ending;
-use text::append_number;
 use tool::written;
 
 // Standard output, and whether something could not be written there. It is handed on from part to part, so that a line reads as it is printed. A `Result`
@@ -34,7 +33,7 @@ impl Out {
         ensures { StaysFailed self result }
     {
         let mut text = [0u8; 20];
-        let k = append_number(&mut text, 0, n);
+        let k = io::decimal(n, &mut text);
         self.put(&text[..k])
     }
 

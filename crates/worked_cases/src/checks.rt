@@ -9,6 +9,7 @@ use engine::Ending;
 use network::Network;
 use refusals::Refusal;
 use words::printing::Out;
+use words::word_for;
 
 // What a line finds: a number, whether all else is as the line says, and the rail after it.
 #[derive(Clone, Copy)]
@@ -30,25 +31,24 @@ fn rule_at(n: Numbers, k: usize) -> u8
 
 // The start, under a rule, of the sheet that is the first n bytes.
 fn start_on(rule: u8, bytes: &[u8], n: usize) -> Result<Network, Refusal> {
-    if n <= bytes.len() {
-        return start::start(rule, &bytes[..n]);
-    }
-    start::start(rule, bytes)
+    start::start(rule, &bytes[..n.min(bytes.len())])
 }
 
-// An accepted sheet gives a rail that holds the rule; a refused one, or a refused rule, leaves the empty rail.
+// An accepted sheet gives a rail that holds the rule, a refused one, or a refused rule, the empty rail.
 fn started(out: Out, rule: u8, s: Sheet) -> Found {
-    match start_on(rule, &s.bytes, s.length) {
-        Ok(rail) => Found {
+    let answer = start_on(rule, &s.bytes, s.length);
+    let rail = start::rail_of(answer);
+    match answer {
+        Ok(_) => Found {
             rail,
             number: 0,
             right: rail.rule == rule,
             out,
         },
         Err(refusal) => Found {
-            rail: network::empty(),
+            rail,
             number: u64::from(refusal.number()),
-            right: true,
+            right: same_rail(&rail, &network::empty()),
             out,
         },
     }
@@ -56,20 +56,9 @@ fn started(out: Out, rule: u8, s: Sheet) -> Found {
 
 // ---- run and delivery
 
-// The first letter of the word for how a run ended.
-fn initial(e: Ending) -> u8 {
-    match e {
-        Ending::None => b'n',
-        Ending::Plan => b'p',
-        Ending::Jammed => b'j',
-        Ending::Open => b'o',
-        Ending::Broken => b' ',
-    }
-}
-
-// The line names the word, behind `run`.
+// The line names the word for how a run ended, behind `run`: the first letter tells.
 fn ended(e: Ending, line: &[u8]) -> bool {
-    4 < line.len() && line[4] == initial(e)
+    line.len() > 4 && word_for(e).first() == Some(&line[4])
 }
 
 // Where the line names another word, the one that came is printed.
@@ -152,32 +141,25 @@ fn first_wrong(rail: Network, kind: usize, n: Numbers) -> u64 {
 
 // How many messages wait on the line that a line of the text names; none where there is no such line.
 fn waiting(rail: Network, n: Numbers) -> u64 {
-    let from = small(n, 0);
-    let to = small(n, 1);
+    let (from, to) = (small(n, 0), small(n, 1));
     if is_line(from, to) {
-        return held(rail, from, to) as u64;
+        u64::from(held(&rail, from, to))
+    } else {
+        0
     }
-    0
 }
 
 // Where a line of the text says so, all that waits on the line that it names is news of one slot.
 fn news_right(rail: Network, kind: usize, n: Numbers) -> bool {
-    if kind != LINE || n.count < 4 {
-        return true;
-    }
-    let from = small(n, 0);
-    let to = small(n, 1);
-    if is_line(from, to) {
-        return all_news(rail, from, to, small(n, 3));
-    }
-    false
+    let (from, to) = (small(n, 0), small(n, 1));
+    kind != LINE || n.count < 4 || (is_line(from, to) && all_news(&rail, from, to, small(n, 3)))
 }
 
 fn looked(rail: Network, kept: Network, kind: usize, n: Numbers) -> u64 {
     match kind {
         TAKEN | LAST => first_wrong(rail, kind, n),
         LINE => waiting(rail, n),
-        SAME | DIFFERS => u64::from(same_rail(rail, kept)),
+        SAME | DIFFERS => u64::from(same_rail(&rail, &kept)),
         _ => 0,
     }
 }
@@ -212,10 +194,8 @@ pub fn tried(
 pub fn expected(kind: usize, n: Numbers) -> u64 {
     match kind {
         SAME => 1,
-        REFUSED => n.values[0],
-        RUN => n.values[0],
-        DELIVER => n.values[2],
-        LINE => n.values[2],
+        REFUSED | RUN => n.values[0],
+        DELIVER | LINE => n.values[2],
         _ => 0,
     }
 }

@@ -48,20 +48,11 @@ struct Tally {
 }
 
 // One more check of a kind, or one more failure. Lines that check nothing are not tallied.
-fn tallied(tally: Tally, kind: usize) -> Tally {
-    let mut t = tally;
-    if kind < 9 {
-        let n = t.of[kind];
-        if n < 1000000000 {
-            t.of[kind] = n + 1;
-        }
+fn tallied(mut tally: Tally, kind: usize) -> Tally {
+    if kind < 9 && tally.of[kind] < 1000000000 {
+        tally.of[kind] += 1;
     }
-    t
-}
-
-fn with_out(tally: Tally, out: Out) -> Tally {
-    let of = tally.of;
-    Tally { of, out }
+    tally
 }
 
 // The kind as which a check is tallied.
@@ -77,11 +68,15 @@ fn sort_of(kind: usize) -> usize {
 fn judged(tally: Tally, kind: usize, line: &[u8], must: u64, number: u64, right: bool) -> Tally {
     let t = tallied(tally, sort_of(kind));
     if right && number == must && kind != UNKNOWN {
-        return t;
+        t
+    } else {
+        let out = t
+            .out
+            .put(b"failed: ")
+            .put(line)
+            .line(b", but found ", number);
+        tallied(Tally { out, ..t }, FAILED)
     }
-    let out = t.out;
-    let said = out.put(b"failed: ").put(line).line(b", but found ", number);
-    tallied(with_out(t, said), FAILED)
 }
 
 // ---- the text
@@ -89,13 +84,10 @@ fn judged(tally: Tally, kind: usize, line: &[u8], must: u64, number: u64, right:
 // The title of a case is printed.
 fn titled(o: Out, kind: usize, line: &[u8]) -> Out {
     if kind == CASE {
-        return o.put(line).put(b"\n");
+        o.put(line).put(b"\n")
+    } else {
+        o
     }
-    o
-}
-
-fn kept_after(rail: Network, kept: Network, kind: usize) -> Network {
-    if kind == KEEP { rail } else { kept }
 }
 
 // What lies on the desk: the sheet and the rail of the case under hand, the rail that is kept beside, and the tally.
@@ -108,29 +100,40 @@ struct Desk {
 }
 
 // The desk after a line.
-fn followed(d: Desk, line: &[u8]) -> Desk {
-    let rail = d.rail;
-    let kept = d.kept;
+fn followed(desk: Desk, line: &[u8]) -> Desk {
+    let Desk {
+        rail,
+        kept,
+        tally,
+        ..
+    } = desk;
     let n = numbers_in(line);
     let kind = kind_of(line, n.count);
-    let before = d.tally;
-    let out = before.out;
-    let sheet = built(d.sheet, kind, n, line);
-    let found = tried(titled(out, kind, line), rail, kept, sheet, kind, n, line);
-    let said = found.out;
+    let sheet = built(desk.sheet, kind, n, line);
+    let found = tried(
+        titled(tally.out, kind, line),
+        rail,
+        kept,
+        sheet,
+        kind,
+        n,
+        line,
+    );
     let tally = judged(
-        with_out(before, said),
+        Tally {
+            out: found.out,
+            ..tally
+        },
         kind,
         line,
         expected(kind, n),
         found.number,
         found.right,
     );
-    let after = found.rail;
     Desk {
         sheet,
-        rail: after,
-        kept: kept_after(rail, kept, kind),
+        rail: found.rail,
+        kept: if kind == KEEP { rail } else { kept },
         tally,
     }
 }
@@ -145,6 +148,7 @@ fn play(text: &[u8]) -> Tally {
             out: Out::new(),
         },
     };
+    // by hand: where a line ends, and where the next begins, is said by `cases`
     let mut at: usize = 0;
     while at < text.len() {
         let end = line_end(text, at);
@@ -165,17 +169,14 @@ struct Account {
 
 // How many checks of a kind were made; none at all is a failure.
 fn counted(r: Account, words: &[u8], made: u64) -> Account {
-    let o = r.out;
-    let out = o.line(words, made);
+    let out = r.out.line(words, made);
     if made == 0 {
-        return Account {
+        Account {
             failures: 1,
             out: out.put(b"failed: nothing of this kind was checked\n"),
-        };
-    }
-    Account {
-        failures: r.failures,
-        out,
+        }
+    } else {
+        Account { out, ..r }
     }
 }
 
@@ -196,15 +197,13 @@ fn report_looks(r: Account, t: [u64; 9]) -> Account {
 }
 
 fn report(tally: Tally) {
-    let t = tally.of;
-    let out = tally.out;
+    let Tally { of, out } = tally;
     let r = Account {
-        failures: t[FAILED],
+        failures: of[FAILED],
         out,
     };
-    let all = report_looks(report_moves(report_sheets(r, t), t), t);
-    let o = all.out;
-    o.number(all.failures).put(b" failed\n");
+    let all = report_looks(report_moves(report_sheets(r, of), of), of);
+    all.out.number(all.failures).put(b" failed\n");
 }
 
 fn main() {

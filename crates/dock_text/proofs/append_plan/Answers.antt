@@ -1,19 +1,17 @@
 -- The slots of a plan, and nothing for the other words. Assumes nothing.
-use Rattle.std.proofs.Common.{◌≡◌, [], refl, ap}
+use Rattle.std.proofs.Common.{◌≡◌, [], refl, ap, arith}
 use Rattle.protocol.specs.Network.{Network}
 use Rattle.network.specs.Abstract.{network_of}
 use Rattle.engine.specs.declared.Ending.{Ending}
 use Rattle.engine.specs.declared.Ending.TheVariants.{None, Plan, Jammed, Open, Broken}
 use Rattle.engine.specs.Answers.{ending_of}
-use Rattle.text.proofs.Appending.{appends-none}
+use Rattle.lent.proofs.Puts.{none_left, all_left}
 use Rattle.dock_text.specs.Text.{plan_lines}
 use Rattle.dock_text.proofs.append_plan.Goals as goal
 
-pub append_slots-requires : goal.append_slots-requires
+pub append_slots-requires-clause-few : goal.append_slots-requires-clause-few
 unfolding ending_of
-append_slots-requires c =
-    let e : c.args.e ≡ Plan = c.in-Plan.is in
-    (c.requires.0, c.requires.1 (ap ending_of e))
+append_slots-requires-clause-few c = c.requires.few (ap ending_of c.in-Plan.is)
 
 pub returns-in-Plan : goal.returns-in-Plan
 unfolding plan_lines ending_of
@@ -28,4 +26,5 @@ nothing Open w n = refl
 nothing Broken w n = refl
 
 pub returns-in_default : goal.returns-in_default
-returns-in_default c = rw (nothing c.args.e (network_of c.args.r) c.in_default.not-Plan) (appends-none _ _)
+returns-in_default c =
+    rw (nothing c.args.e (network_of c.args.r) c.in_default.not-Plan) (none_left (all_left _ [] refl (omega (arith, c.requires.room))) refl)

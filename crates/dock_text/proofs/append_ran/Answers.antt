@@ -1,12 +1,12 @@
 -- The word, the rounds and the slots one behind the other. Assumes nothing.
 use Rattle.text.specs.Text.{newline}
-use Rattle.text.proofs.Appending.{appends-then}
+use Rattle.lent.proofs.Puts.{adds_then}
 use Rattle.dock_text.specs.Text.{verdict, rounds, ran_text, answer_text}
 use Rattle.dock_text.proofs.append_ran.Goals as goal
 
 pub returns : goal.returns
 unfolding answer_text ran_text verdict rounds newline
 returns c =
-    appends-then c.append-a.ensures
-    (appends-then c.append_ending-b.ensures.0
-    (appends-then c.append-c.ensures (appends-then c.append_line-d.ensures.0 c.append_plan.ensures)))
+    adds_then c.put_all.ensures
+    (adds_then c.append_ending.ensures.text
+    (adds_then c.put_all-2.ensures (adds_then c.append_line.ensures.text c.append_plan.ensures)))

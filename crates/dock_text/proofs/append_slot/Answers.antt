@@ -1,10 +1,17 @@
 -- The number, then the slot. Assumes nothing.
 use mathlib.Core.Path.{sym}
 use native.Mathlib.Omega.{arith}
-use Rattle.text.proofs.Appending.{appends-then}
+use lib.ListN.{length-append}
+use Rattle.lent.proofs.Puts.{adds_then}
+use Rattle.text.specs.Text.{decimal, line_of}
 use Rattle.dock_text.specs.Text.{slot_line, scanner, slot}
 use Rattle.dock_text.proofs.append_slot.Goals as goal
 
 pub returns : goal.returns
 unfolding slot_line scanner slot
-returns c = rw (sym c.from.ensures, sym c.from-2.ensures) (appends-then c.append-a.ensures (appends-then c.append_number-b.ensures.0 c.append_line.ensures.0), omega arith)
+returns c =
+    rw (sym c.from.ensures, sym c.from-2.ensures)
+    (record {
+      text = adds_then c.put_all.ensures (adds_then c.append_number.ensures.text c.append_line.ensures.text);
+      short = omega (arith, length-append (decimal c.from.result) (line_of slot c.from-2.result), c.append_number.ensures.short, c.append_line.ensures.short);
+    })

@@ -1,26 +1,27 @@
 -- Before line i the lines of the scanners below i stand in the buffer.
-use mathlib.Core.Path.{◌≡◌, ◌∙◌}
+use mathlib.Core.Path.{◌≡◌, refl, ◌∙◌}
+use mathlib.Core.List.{[]}
 use Prim.Native.Nat.{◌+◌, ◌-◌}
 use native.Mathlib.Omega.{arith}
 use Rattle.base.specs.Finite.{gather}
-use Rattle.text.proofs.Appending.{appends-none}
+use Rattle.lent.proofs.Puts.{none_left, all_left}
 use Rattle.dock_text.proofs.Lines.{unwrapped, slots-more, slots-all}
 use Rattle.dock_text.proofs.append_slots.Goals as goal
 
 pub loop-i-init : goal.loop-i-init
 unfolding gather
-loop-i-init c = record { lines = appends-none _ _; few = omega arith; near = omega arith }
+loop-i-init c = record { lines = none_left (all_left _ [] refl (omega arith)) refl; few = omega arith; near = omega arith }
 
-pub append_slot-n-requires : goal.append_slot-n-requires
-append_slot-n-requires c = omega (arith, c.loop-i.invariant.lines.room)
+pub append_slot-requires : goal.append_slot-requires
+append_slot-requires c = omega (arith, c.loop-i.invariant.lines.kept, c.loop-i.invariant.few, c.requires.room)
 
 pub loop-i-preserved : goal.loop-i-preserved
 loop-i-preserved c =
     let h = c.loop-i in
     let done : (h.i + 1) - 1 ≡ h.i = omega arith in
     record {
-      lines = rw done (slots-more _ h.i _ h.auto.i h.invariant.lines (c.unwrap_or.ensures ∙ unwrapped c.value.result ∙ c.value.ensures.1) c.append_slot-n.ensures.0);
-      few = omega (arith, h.invariant.few, c.append_slot-n.ensures.1);
+      lines = rw done (slots-more _ h.i _ h.auto.i h.invariant.lines (c.unwrap_or.ensures ∙ unwrapped c.value.result ∙ c.value.ensures.1) c.append_slot.ensures.text);
+      few = omega (arith, h.invariant.few, c.append_slot.ensures.short, c.append_slot.ensures.text.behind);
       near = omega arith;
     }
 
@@ -30,4 +31,4 @@ returns c = let h = c.loop-i in slots-all _ (h.i - 1) h.invariant.lines (omega a
 pub returns-2 : goal.returns-2
 returns-2 c =
     let h = c.loop-i in
-    slots-all _ h.i (slots-more _ h.i _ h.auto.i h.invariant.lines (c.unwrap_or.ensures ∙ unwrapped c.value.result ∙ c.value.ensures.1) c.append_slot-n.ensures.0) (omega arith)
+    slots-all _ h.i (slots-more _ h.i _ h.auto.i h.invariant.lines (c.unwrap_or.ensures ∙ unwrapped c.value.result ∙ c.value.ensures.1) c.append_slot.ensures.text) (omega arith)

@@ -1,20 +1,21 @@
 -- What is made of a settlement is the text of its sheet. Assumes nothing.
-use native.Mathlib.Omega.{arith}
+use mathlib.Core.Path.{refl}
 use Rattle.refusals.proofs.Numbers.{refusal-some}
+use Rattle.text.proofs.Appending.{from-start}
 use Rattle.dock_text.specs.Text.{sheet_refused}
-use Rattle.dock_text.proofs.Printed.{prints-counts, prints-refused, counted, prints-ran}
+use Rattle.dock_text.proofs.Printed.{prints-refused, counted, prints-ran}
+use Rattle.dock_text.proofs.text.Goals.{in-Ok, in-Err}
 use Rattle.dock_text.proofs.text.Goals as goal
 
-pub returns-in-Err : goal.returns-in-Err
+pub append_ran-requires-clause-few : goal.append_ran-requires-clause-few
+append_ran-requires-clause-few c = counted _ _ _ c.in-Ok.ensures.ran
+
+pub returns-clause-prints : goal.returns-clause-prints
 unfolding sheet_refused
-returns-in-Err c =
-    let p = prints-refused _ _ _ _ _ _ c.in-Err.ensures.number (refusal-some _) (rw (c.from.ensures, c.number.ensures) at c.append_line.ensures.0) in
-    record { prints = p; prefix_len = prints-counts _ _ _ _ p }
-
-pub append_ran-requires : goal.append_ran-requires
-append_ran-requires c = (omega arith, counted _ _ _ c.in-Ok.ensures.ran)
-
-pub returns-in-Ok : goal.returns-in-Ok
-returns-in-Ok c =
-    let p = prints-ran _ _ _ _ _ _ c.in-Ok.ensures.number c.in-Ok.ensures.ran c.append_ran.ensures in
-    record { prints = p; prefix_len = prints-counts _ _ _ _ p }
+returns-clause-prints c =
+    elim c.match-settle.branch [
+      | in-Ok w ↦ rw w.next-is (prints-ran _ _ _ _ _ _ w.in-Ok.ensures.number w.in-Ok.ensures.ran (from-start refl w.append_ran.ensures))
+      | in-Err w ↦
+          rw w.next-is
+          (prints-refused _ _ _ _ _ _ w.in-Err.ensures.number (refusal-some _) (from-start refl (rw (w.from.ensures, w.number.ensures) at w.append_line.ensures.text)))
+    ]

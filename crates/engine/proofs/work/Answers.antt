@@ -1,10 +1,11 @@
 -- The work on a network: each goal by the laws that the invariants are built on.
-use Prim.Native.Nat.{◌+◌, ◌-◌}
+use Prim.Native.Nat.{ℕ, ◌+◌, ◌-◌}
 use mathlib.Core.Bool.{Bool, false, not, cond, ◌&&◌, false≢true}
 use mathlib.Core.Path.{◌≡◌, refl, sym, ap, ◌∙◌}
 use native.Mathlib.Omega.{arith}
 use lib.ListN.{length, get_or, set}
 use borrow.Author.Rules.{rules}
+use Rattle.base.specs.Finite.{at}
 use Rattle.packed.specs.Packed.{assignment}
 use Rattle.agent.specs.Abstract.{assigned}
 use Rattle.agent.specs.Posting.{letters_left}
@@ -207,14 +208,14 @@ pub with_digit-rest-requires : goal.with_digit-rest-requires
 with_digit-rest-requires c = let b = (visited (goal.at.with_digit-rest-requires c).In-Some-next_visit) in (b.to_low, omega (arith, b.to_high), omega arith)
 
 pub visits-smaller-then-waiting-ge8 : goal.visits-smaller-then-waiting-ge8
-visits-smaller-then-waiting-ge8 c = let b = (visited (goal.at.visits-smaller-then-waiting-ge8 c).In-Some-next_visit) in passed-less _ _ c.in-Some-next_visit.ensures b.to_low (omega (arith, b.to_high)) _ (rw c.posts.invariant.1 at c.with_digit-rest.ensures)
+visits-smaller-then-waiting-ge8 c = let b = (visited (goal.at.visits-smaller-then-waiting-ge8 c).In-Some-next_visit) in passed-less _ _ c.in-Some-next_visit.ensures b.to_low (omega (arith, b.to_high)) _ (c.with_digit-rest.ensures ∙ ap (λ (rest : ℕ). at (assignment rest) c.in-Some-next_visit.visit.to 0) c.posts.invariant.1)
 
 pub visits-preserved-then-waiting-ge8 : goal.visits-preserved-then-waiting-ge8
 visits-preserved-then-waiting-ge8 c =
     let q = bars-now (goal.at.visits-preserved-then-waiting-ge8 c).Joined-not-has in
     let none = going (goal.at.visits-preserved-then-waiting-ge8 c).In-Some-next_visit in (
       stored-jams c.visits.invariant.0 c.in-Some-next_visit.visit c.in-Some-next_visit.ensures none c.if-not-has.bars c.if-not-has.ready q.0 q.1 (stepped (goal.at.visits-preserved-then-waiting-ge8 c).After-receive-step) (rw (ap letters_left c.into_iter-post-iterator.ensures.into_iter_gives) at c.posts.invariant.0)
-          (turn-full (rw (ap letters_left c.into_iter-post-iterator.ensures.into_iter_gives) at c.posts.invariant.0) c.in-Some-post.post c.in-Some-post.ensures.steps _ c.digit-waiting.ensures.0 c.if-waiting-ge8.true) (rw c.posts.invariant.1 at c.with_digit-rest.ensures),
+          (turn-full (rw (ap letters_left c.into_iter-post-iterator.ensures.into_iter_gives) at c.posts.invariant.0) c.in-Some-post.post c.in-Some-post.ensures.steps _ c.digit-waiting.ensures.0 c.if-waiting-ge8.true) (c.with_digit-rest.ensures ∙ ap (λ (rest : ℕ). at (assignment rest) c.in-Some-next_visit.visit.to 0) c.posts.invariant.1),
       λ t. absurd (false≢true (sym none ∙ sym c.posts.invariant.0.kept.verdict ∙ t)),
     )
 

@@ -2,7 +2,7 @@
 use Rattle.std.proofs.Common.{rules}
 use Rattle.network.specs.Abstract.{problem_of, network_of}
 use Rattle.image_format.specs.Image.{image}
-use Rattle.image_writer.proofs.Puts.{puts_then}
+use Rattle.lent.proofs.Puts.{puts_then}
 use Rattle.image_writer.proofs.put_image.Goals as goal
 
 pub returns : goal.returns

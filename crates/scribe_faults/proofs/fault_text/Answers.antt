@@ -1,14 +1,17 @@
 -- The parts of the line one behind the other. Assumes nothing.
-use native.Mathlib.Omega.{arith}
+use Rattle.std.proofs.Common.{refl, arith, rules}
+use Rattle.lent.proofs.Puts.{adds_then}
 use Rattle.text.specs.Text.{newline}
-use Rattle.text.proofs.Appending.{appends-then}
+use Rattle.text.proofs.Appending.{from-start}
 use Rattle.scribe_rules.specs.Faults.{line_word, colon_word, fault_text}
 use Rattle.scribe_faults.proofs.fault_text.Goals as goal
 
 pub returns : goal.returns
 unfolding fault_text line_word colon_word newline
-returns c = (
-  appends-then c.append-at.ensures (appends-then c.append_number-at.ensures.0 (appends-then c.append-at-2.ensures
-      (appends-then c.append_fault-at.ensures.words c.append.ensures))),
-  omega (arith, c.append-at.ensures.count, c.append_number-at.ensures.1, c.append-at-2.ensures.count, c.append_fault-at.ensures.few, c.append.ensures.count),
-)
+returns c =
+    let line = c.append_number.ensures in
+    let words = c.append_fault.ensures in
+    let all = adds_then c.put_all.ensures (adds_then line.text (adds_then c.put_all-2.ensures (adds_then words.text c.put_all-3.ensures))) in (
+      search (rules, from-start refl all, all.same),
+      omega (arith, c.put_all.ensures.behind, line.text.behind, line.short, c.put_all-2.ensures.behind, words.text.behind, words.short, c.put_all-3.ensures.behind),
+    )

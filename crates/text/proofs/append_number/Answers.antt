@@ -1,11 +1,19 @@
 -- The digits that `io` writes are the decimal of the number. Assumes nothing.
-use mathlib.Core.Path.{◌∙◌}
+use mathlib.Core.Path.{◌≡◌, ap, ◌∙◌}
 use native.Mathlib.Omega.{arith}
+use lib.ListN.{length, take, length-take}
+use Rattle.text.specs.Text.{decimal}
 use Rattle.text.proofs.Digits.{fewest-decimal, digits-fit}
 use Rattle.text.proofs.append_number.Goals as goal
 
-pub append-requires : goal.append-requires
-append-requires c = omega (arith, c.decimal-count.ensures.in_bounds.1, digits-fit _ _ c.decimal-count.ensures.len (omega arith))
+pub put_all-requires : goal.put_all-requires
+put_all-requires c = omega (arith, c.decimal-count.ensures.in_bounds.1, digits-fit _ _ c.decimal-count.ensures.len (omega arith))
 
 pub returns : goal.returns
-returns c = (rw (c.decimal-count.ensures.digits ∙ fewest-decimal _ _ c.decimal-count.ensures.len) at c.append.ensures, omega (arith, c.decimal-count.ensures.in_bounds.1, digits-fit _ _ c.decimal-count.ensures.len (omega arith), c.append.ensures.count))
+returns c =
+    let digits : take c.decimal-count.result c.decimal-count.new.out ≡ decimal c.args.n =
+    c.decimal-count.ensures.digits ∙ fewest-decimal _ _ c.decimal-count.ensures.len in
+    record {
+      text = rw digits at c.put_all.ensures;
+      short = omega (arith, digits-fit _ _ c.decimal-count.ensures.len (omega arith), ap length digits, length-take c.decimal-count.result c.decimal-count.new.out);
+    }

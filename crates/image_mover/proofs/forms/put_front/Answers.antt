@@ -1,7 +1,7 @@
 -- `put_front` puts the form's byte and copies the others behind it.
 use Rattle.std.proofs.Common.{refl, arith}
 use Rattle.image_format.specs.Bytes.{stretch}
-use Rattle.image_writer.proofs.Puts.{puts_then, puts-as}
+use Rattle.lent.proofs.Puts.{puts_then, puts-as}
 use Rattle.image_mover.proofs.Lengths.{stretch-length}
 use Rattle.image_mover.proofs.forms.put_front.Goals as goal
 

@@ -4,7 +4,7 @@ use Rattle.image_format.specs.Image.{first_form}
 use Rattle.image_format.specs.Reading.{agent_length}
 use Rattle.image_forms.specs.Places.{by_place}
 use Rattle.image_forms.specs.Forms.{agents_in, unpacked_messages, large}
-use Rattle.image_writer.proofs.Puts.{puts-as, puts_then}
+use Rattle.lent.proofs.Puts.{puts-as, puts_then}
 use Rattle.image_mover.proofs.Parts.{part_length}
 use Rattle.image_mover.proofs.Lengths.{large-long, rearranged-parts, rest-long}
 use Rattle.image_mover.proofs.forms.put_large.Goals as goal

@@ -4,7 +4,7 @@ use Rattle.image_format.specs.Reading.{message_length}
 use Rattle.image_forms.specs.Places.{by_place}
 use Rattle.image_forms.specs.Packing.{packed_length}
 use Rattle.image_forms.proofs.Forms.{laid-messages}
-use Rattle.image_writer.proofs.Puts.{puts-as}
+use Rattle.lent.proofs.Puts.{puts-as}
 use Rattle.image_mover.proofs.Parts.{puts_first}
 use Rattle.image_mover.proofs.Lengths.{records-long}
 use Rattle.image_mover.proofs.forms.put_packed_messages.Goals as goal

@@ -3,7 +3,7 @@ use Rattle.std.proofs.Common.{◌+◌, ◌-◌, ◌*◌, ◌/◌, ◌≡◌, ref
 use Rattle.image_format.specs.Reading.{agent_length}
 use Rattle.image_forms.specs.Places.{by_place}
 use Rattle.image_forms.specs.Forms.{second_form, agents_in, packed_messages, small}
-use Rattle.image_writer.proofs.Puts.{puts-as, puts_then}
+use Rattle.lent.proofs.Puts.{puts-as, puts_then}
 use Rattle.image_mover.proofs.Parts.{part_length}
 use Rattle.image_mover.proofs.Lengths.{small-long, rearranged-parts, rest-long, rest-low}
 use Rattle.image_mover.proofs.forms.put_small.Goals as goal

@@ -4,7 +4,7 @@ use native.Mathlib.Nat.{mul_comm}
 use Rattle.image_forms.specs.Places.{each_record}
 use Rattle.image_forms.specs.Packing.{unpacked}
 use Rattle.image_forms.proofs.Places.{laid-length}
-use Rattle.image_writer.proofs.Puts.{puts-as}
+use Rattle.lent.proofs.Puts.{puts-as}
 use Rattle.image_mover.proofs.Parts.{puts_first}
 use Rattle.image_mover.proofs.Lengths.{unpacked-laid}
 use Rattle.image_mover.proofs.forms.put_unpacked_messages.Goals as goal

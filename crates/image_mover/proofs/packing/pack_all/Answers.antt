@@ -3,7 +3,7 @@ use Rattle.std.proofs.Common.{◌+◌, ◌*◌, ◌≤◌, refl, ap, arith, leng
 use native.Mathlib.Nat.{zero-add}
 use Rattle.image_forms.specs.Places.{each_record}
 use Rattle.image_forms.specs.Packing.{packed}
-use Rattle.image_writer.proofs.Puts.{none_gathered, one_more, all-gathered}
+use Rattle.lent.proofs.Puts.{none_gathered, one_more, all-gathered}
 use Rattle.image_mover.proofs.Parts.{part-is, part_length, part_low}
 use Rattle.image_mover.proofs.packing.pack_all.Goals as goal
 

@@ -2,7 +2,7 @@
 use Rattle.std.proofs.Common.{◌*◌}
 use Rattle.image_format.specs.Bytes.{stretch}
 use Rattle.image_forms.specs.Packing.{unpacked}
-use Rattle.image_writer.proofs.Puts.{Gathered}
+use Rattle.lent.proofs.Puts.{Gathered}
 use Rattle.image_mover.proofs.packing.put_all_unpacked.Given as goal
 
 abbrev pub invariant-loop-r : goal.invariant-loop-r

@@ -3,7 +3,7 @@ use Rattle.std.proofs.Common.{ℕ, suc, ◌+◌, ◌*◌, ◌<◌, ◌≡◌, re
 use native.Mathlib.Nat.{zero-add}
 use lib.Seq.{length-take-le}
 use Rattle.image_forms.specs.Packing.{front_length, packed}
-use Rattle.image_writer.proofs.Puts.{puts-as, puts_then, none_gathered, one_more, all-gathered}
+use Rattle.lent.proofs.Puts.{puts-as, puts_then, none_gathered, one_more, all-gathered}
 use Rattle.image_mover.proofs.packing.put_packed.Goals as goal
 
 pub loop-i-init : goal.loop-i-init

@@ -1,6 +1,6 @@
 -- `put_packed` puts the bytes before the left side, and the twelve slots of the left side two by two.
 use Rattle.std.proofs.Common.{suc, ◌+◌, ◌*◌, [], ◌∷◌, get_or}
-use Rattle.image_writer.proofs.Puts.{Gathered}
+use Rattle.lent.proofs.Puts.{Gathered}
 use Rattle.image_mover.proofs.packing.put_packed.Given as goal
 
 abbrev pub invariant-loop-i : goal.invariant-loop-i

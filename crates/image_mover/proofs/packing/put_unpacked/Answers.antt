@@ -4,7 +4,7 @@ use native.Mathlib.Nat.{zero-add}
 use lib.ListN.{length-drop}
 use lib.Seq.{length-take-le, get_or-drop}
 use Rattle.image_forms.specs.Packing.{front_length, unpacked}
-use Rattle.image_writer.proofs.Puts.{puts-as, puts_then, none_gathered, one_more, all-gathered}
+use Rattle.lent.proofs.Puts.{puts-as, puts_then, none_gathered, one_more, all-gathered}
 use Rattle.image_mover.proofs.Parts.{rest-is}
 use Rattle.image_mover.proofs.packing.put_unpacked.Goals as goal
 

@@ -1,6 +1,6 @@
 -- `put_unpacked` puts the bytes before the left side, and both halves of each of the six bytes.
 use Rattle.std.proofs.Common.{◌+◌, ◌*◌, ◌/◌, ◌%◌, [], ◌∷◌, get_or}
-use Rattle.image_writer.proofs.Puts.{Gathered}
+use Rattle.lent.proofs.Puts.{Gathered}
 use Rattle.image_mover.proofs.packing.put_unpacked.Given as goal
 
 abbrev pub invariant-loop-slots : goal.invariant-loop-slots

@@ -2,7 +2,7 @@
 use Rattle.std.proofs.Common.{◌≡◌, refl, arith}
 use native.Mathlib.Nat.{zero-add, zero-mul, mul_comm, mul-le-mul_left}
 use Rattle.image_forms.specs.Places.{by_place}
-use Rattle.image_writer.proofs.Puts.{none_gathered, one_more, all-gathered}
+use Rattle.lent.proofs.Puts.{none_gathered, one_more, all-gathered}
 use Rattle.image_mover.proofs.places.put_by_place.Goals as goal
 
 pub loop-place-init : goal.loop-place-init

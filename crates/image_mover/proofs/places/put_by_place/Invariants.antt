@@ -1,7 +1,7 @@
 -- `put_by_place` puts the bytes place by place.
 use Rattle.std.proofs.Common.{◌+◌, ◌*◌, [], ◌∷◌, get_or}
 use Rattle.base.specs.Finite.{gather}
-use Rattle.image_writer.proofs.Puts.{Gathered}
+use Rattle.lent.proofs.Puts.{Gathered}
 use Rattle.image_mover.proofs.places.put_by_place.Given as goal
 
 abbrev pub invariant-loop-place : goal.invariant-loop-place

@@ -1,7 +1,7 @@
 -- `put_place` puts the bytes at one place, record by record.
 use Rattle.std.proofs.Common.{refl, arith, rules}
 use native.Mathlib.Nat.{zero-add}
-use Rattle.image_writer.proofs.Puts.{none_gathered, one_more, all-gathered}
+use Rattle.lent.proofs.Puts.{none_gathered, one_more, all-gathered}
 use Rattle.image_mover.proofs.Parts.{in-record}
 use Rattle.image_mover.proofs.places.put_place.Goals as goal
 

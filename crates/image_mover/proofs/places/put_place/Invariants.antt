@@ -1,6 +1,6 @@
 -- `put_place` puts the bytes at one place, record by record.
 use Rattle.std.proofs.Common.{◌+◌, ◌*◌, [], ◌∷◌, get_or}
-use Rattle.image_writer.proofs.Puts.{Gathered}
+use Rattle.lent.proofs.Puts.{Gathered}
 use Rattle.image_mover.proofs.places.put_place.Given as goal
 
 abbrev pub invariant-loop-r : goal.invariant-loop-r

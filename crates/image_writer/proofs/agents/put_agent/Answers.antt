@@ -1,7 +1,7 @@
 -- `put_agent` puts the four parts of a record one behind the other.
 use Rattle.agent.specs.Abstract.{agent_of, counts_of}
 use Rattle.image_format.specs.Image.{agent_bytes}
-use Rattle.image_writer.proofs.Puts.{puts_then}
+use Rattle.lent.proofs.Puts.{puts_then}
 use Rattle.image_writer.proofs.agents.put_agent.Goals as goal
 
 pub returns : goal.returns

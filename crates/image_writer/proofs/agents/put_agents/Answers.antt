@@ -1,6 +1,6 @@
 -- `put_agents` puts the records of agents 1 to n: so many of them are put.
 use Rattle.std.proofs.Common.{◌≡◌, length, take, refl, arith}
-use Rattle.image_writer.proofs.Puts.{none_gathered, one_more, all-gathered}
+use Rattle.lent.proofs.Puts.{none_gathered, one_more, all-gathered}
 use Rattle.image_writer.proofs.Records.{agent-here}
 use Rattle.image_writer.proofs.agents.put_agents.Goals as goal
 

@@ -2,7 +2,7 @@
 use Rattle.std.proofs.Common.{◌*◌}
 use Rattle.network.specs.Abstract.{network_of}
 use Rattle.image_format.specs.Image.{agent_bytes}
-use Rattle.image_writer.proofs.Puts.{Gathered}
+use Rattle.lent.proofs.Puts.{Gathered}
 use Rattle.image_writer.proofs.agents.put_agents.Given as goal
 
 abbrev pub invariant-loop-a : goal.invariant-loop-a

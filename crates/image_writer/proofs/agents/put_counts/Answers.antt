@@ -1,7 +1,7 @@
 -- `put_counts` puts three counts of eight bytes, one behind the other.
 use Rattle.agent.specs.Abstract.{count_of}
 use Rattle.image_format.specs.Image.{count_bytes}
-use Rattle.image_writer.proofs.Puts.{puts_then}
+use Rattle.lent.proofs.Puts.{puts_then}
 use Rattle.image_writer.proofs.Words.{puts-eight}
 use Rattle.image_writer.proofs.agents.put_counts.Goals as goal
 

@@ -1,6 +1,6 @@
 -- `put_front` puts its five parts one behind the other.
 use Rattle.agent.specs.Abstract.{assigned}
-use Rattle.image_writer.proofs.Puts.{puts_then}
+use Rattle.lent.proofs.Puts.{puts_then}
 use Rattle.image_writer.proofs.agents.put_front.Goals as goal
 
 pub returns : goal.returns

@@ -1,7 +1,7 @@
 -- `put_mask` puts the mask of agents 1 to 12 of a set.
 -- The number below 4096 that has these bits is that mask.
 use Rattle.std.proofs.Common.{refl}
-use Rattle.image_writer.proofs.Puts.{puts-as}
+use Rattle.lent.proofs.Puts.{puts-as}
 use Rattle.image_writer.proofs.Words.{puts-two}
 use Rattle.image_writer.proofs.Records.{mask-is-put}
 use Rattle.image_writer.proofs.agents.put_mask.Goals as goal

@@ -1,6 +1,6 @@
 -- `put_reason` puts a reason: 1 and its left side, or zeros.
 use Rattle.std.proofs.Common.{refl}
-use Rattle.image_writer.proofs.Puts.{puts_then, puts-as}
+use Rattle.lent.proofs.Puts.{puts_then, puts-as}
 use Rattle.image_writer.proofs.Records.{reason-put, no-reason-put}
 use Rattle.image_writer.proofs.agents.put_reason.Goals as goal
 use Rattle.image_writer.proofs.agents.put_reason.Goals.{then-stored, else-stored}

@@ -1,7 +1,7 @@
 -- `put_reasons` puts the reasons of own values 1 to 8: so many of them are put.
 use Rattle.std.proofs.Common.{refl, arith}
 use Rattle.problem.specs.Problem.{max_domain}
-use Rattle.image_writer.proofs.Puts.{none_gathered, one_more, all-gathered}
+use Rattle.lent.proofs.Puts.{none_gathered, one_more, all-gathered}
 use Rattle.image_writer.proofs.Records.{reason-at}
 use Rattle.image_writer.proofs.agents.put_reasons.Goals as goal
 

@@ -4,7 +4,7 @@ use mathlib.Core.Option.{none}
 use Rattle.base.specs.Finite.{from_one}
 use Rattle.choosing.specs.Choosing.{nogood_at}
 use Rattle.image_format.specs.Image.{reason_bytes}
-use Rattle.image_writer.proofs.Puts.{Gathered}
+use Rattle.lent.proofs.Puts.{Gathered}
 use Rattle.image_writer.proofs.agents.put_reasons.Given as goal
 
 abbrev pub invariant-loop-v : goal.invariant-loop-v

@@ -4,7 +4,7 @@ use Rattle.base.specs.Finite.{gather}
 use Rattle.problem.specs.Problem.{max_agents}
 use Rattle.network.specs.Abstract.{problem_of}
 use Rattle.image_format.specs.Image.{ban_bytes}
-use Rattle.image_writer.proofs.Puts.{none_gathered, one_more, all-gathered}
+use Rattle.lent.proofs.Puts.{none_gathered, one_more, all-gathered}
 use Rattle.image_writer.proofs.BanTable.{row_room, more-rows, rows-length}
 use Rattle.image_writer.proofs.bans.put_bans.Goals as goal
 

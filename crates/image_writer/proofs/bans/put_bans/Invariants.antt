@@ -1,7 +1,7 @@
 -- `put_bans` puts the words of all pairs, by lower, then higher agent: those of the agents below `lower` are put.
 use Rattle.std.proofs.Common.{◌-◌, length}
 use Rattle.base.specs.Finite.{gather}
-use Rattle.image_writer.proofs.Puts.{Gathered}
+use Rattle.lent.proofs.Puts.{Gathered}
 use Rattle.image_writer.proofs.BanTable.{row_bytes}
 use Rattle.image_writer.proofs.bans.put_bans.Given as goal
 

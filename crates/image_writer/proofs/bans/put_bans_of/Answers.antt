@@ -3,7 +3,7 @@ use Rattle.std.proofs.Common.{ℕ, suc, ◌+◌, ◌-◌, ◌≡◌, ap, arith, 
 use Rattle.problem.specs.Problem.{max_agents}
 use Rattle.clauses.proofs.Pairs.{word-place}
 use Rattle.image_format.specs.Bytes.{bytes_of}
-use Rattle.image_writer.proofs.Puts.{none_gathered, one_more, all-gathered}
+use Rattle.lent.proofs.Puts.{none_gathered, one_more, all-gathered}
 use Rattle.image_writer.proofs.Words.{puts-eight}
 use Rattle.image_writer.proofs.bans.put_bans_of.Goals as goal
 

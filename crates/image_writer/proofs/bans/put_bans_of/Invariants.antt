@@ -1,6 +1,6 @@
 -- `put_bans_of` puts the words of one lower agent, by higher agent: those with the agents below `higher` are put.
 use Rattle.std.proofs.Common.{suc, ◌+◌, ◌-◌, ◌*◌}
-use Rattle.image_writer.proofs.Puts.{Gathered}
+use Rattle.lent.proofs.Puts.{Gathered}
 use Rattle.image_writer.proofs.BanTable.{word_bytes}
 use Rattle.image_writer.proofs.bans.put_bans_of.Given as goal
 

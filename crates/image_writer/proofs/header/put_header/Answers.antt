@@ -2,7 +2,7 @@
 use Rattle.std.proofs.Common.{ℕ, refl, ap, [], ◌∷◌, rules}
 use Rattle.packed.proofs.Masks.{byte_of}
 use Rattle.image_format.specs.Image.{first_form, byte_for}
-use Rattle.image_writer.proofs.Puts.{puts_then, puts-as}
+use Rattle.lent.proofs.Puts.{puts_then, puts-as}
 use Rattle.image_writer.proofs.Stored.{header-put}
 use Rattle.image_writer.proofs.header.put_header.Goals as goal
 

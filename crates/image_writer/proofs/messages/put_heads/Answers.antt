@@ -2,7 +2,7 @@
 -- Those of the lines from `line` on are left to put, behind `before` messages.
 use Rattle.std.proofs.Common.{arith}
 use Rattle.network.specs.Abstract.{network_of}
-use Rattle.image_writer.proofs.Puts.{all_left, left_as, less-left, none_left}
+use Rattle.lent.proofs.Puts.{all_left, left_as, less-left, none_left}
 use Rattle.image_writer.proofs.Words.{puts-two}
 use Rattle.image_writer.proofs.Chains.{all-heads, heads-long, first_head, no-heads}
 use Rattle.image_writer.proofs.messages.put_heads.Goals as goal

@@ -4,7 +4,7 @@ use Rattle.std.proofs.Common.{◌≡◌, ◌+◌, ◌*◌, ◌≤◌}
 use Rattle.network.specs.Abstract.{network_of}
 use Rattle.image_format.specs.Image.{all_lines, heads_from}
 use Rattle.image_writer.specs.Lines.{lines_from}
-use Rattle.image_writer.proofs.Puts.{Left}
+use Rattle.lent.proofs.Puts.{Left}
 use Rattle.image_writer.proofs.messages.put_heads.Given as goal
 
 abbrev pub invariant-loop-line : goal.invariant-loop-line

@@ -6,7 +6,7 @@ use Rattle.image_format.specs.Reading.{message_length}
 use Rattle.image_format.proofs.Lengths.{chain_length}
 use Rattle.image_writer.specs.Lines.{line_at}
 use Rattle.image_writer.proofs.Numbered.{line-length}
-use Rattle.image_writer.proofs.Puts.{all_left, left_as, less-left, none_left}
+use Rattle.lent.proofs.Puts.{all_left, left_as, less-left, none_left}
 use Rattle.image_writer.proofs.Chains.{all-on-it, none-on-it, next-message}
 use Rattle.image_writer.proofs.messages.put_line.Goals as goal
 

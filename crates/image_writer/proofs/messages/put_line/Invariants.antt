@@ -4,7 +4,7 @@ use Rattle.std.proofs.Common.{◌≡◌, ◌+◌, ◌*◌, drop}
 use Rattle.network.specs.Abstract.{network_of}
 use Rattle.image_format.specs.Image.{chain_from}
 use Rattle.image_writer.specs.Lines.{line_at}
-use Rattle.image_writer.proofs.Puts.{Left}
+use Rattle.lent.proofs.Puts.{Left}
 use Rattle.image_writer.proofs.messages.put_line.Given as goal
 
 abbrev pub invariant-loop-ahead : goal.invariant-loop-ahead

@@ -1,6 +1,6 @@
 -- `put_message` puts a message's parts one behind the other.
 use Rattle.std.proofs.Common.{refl, sym}
-use Rattle.image_writer.proofs.Puts.{puts_then, puts-as}
+use Rattle.lent.proofs.Puts.{puts_then, puts-as}
 use Rattle.image_writer.proofs.Words.{puts-two}
 use Rattle.image_writer.proofs.messages.put_message.Goals as goal
 

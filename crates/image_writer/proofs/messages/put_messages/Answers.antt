@@ -2,7 +2,7 @@
 -- Those of the lines from `line` on are left to put, behind `before` others.
 use Rattle.std.proofs.Common.{arith, refl}
 use Rattle.network.specs.Abstract.{network_of}
-use Rattle.image_writer.proofs.Puts.{all_left, left_as, less-left, none_left}
+use Rattle.lent.proofs.Puts.{all_left, left_as, less-left, none_left}
 use Rattle.image_writer.proofs.Chains.{all-messages, first-chain, no-messages, chain-room}
 use Rattle.image_writer.proofs.messages.put_messages.Goals as goal
 

@@ -2,45 +2,45 @@
 -- The six parts one behind the other.
 use Rattle.problem.specs.Sheet.{byte_at, row_at}
 use Rattle.text.specs.Text.{newline}
-use Rattle.text.proofs.Appending.{appends-then}
+use Rattle.lent.proofs.Puts.{adds_then}
 use Rattle.scribe_rules.specs.Statements.{gap_word}
 use Rattle.scribe_rules.specs.Telling.{gap_line}
 use Rattle.scribe_writer.proofs.Rooms.{room-first, room-rest, room-put}
 use Rattle.scribe_writer.proofs.lines.append_gap.Goals as goal
 
-pub append-at-requires : goal.append-at-requires
+pub put_all-requires : goal.put_all-requires
 unfolding gap_line gap_word
-append-at-requires c = room-put _ (room-first gap_word _ c.requires.1)
+put_all-requires c = room-put _ (room-first gap_word _ c.requires.1)
 
-pub append_figure-at-requires : goal.append_figure-at-requires
+pub append_figure-requires : goal.append_figure-requires
 unfolding gap_line gap_word byte_at row_at
-append_figure-at-requires c = room-first _ _ (room-rest gap_word _ c.requires.1 c.append-at.ensures)
+append_figure-requires c = room-first _ _ (room-rest gap_word _ c.requires.1 c.put_all.ensures)
 
-pub append_figure-at-requires-2 : goal.append_figure-at-requires-2
+pub append_figure-requires-2 : goal.append_figure-requires-2
 unfolding gap_line gap_word byte_at row_at
-append_figure-at-requires-2 c = room-first _ _ (room-rest _ _ (room-rest gap_word _ c.requires.1 c.append-at.ensures) c.append_figure-at.ensures)
+append_figure-requires-2 c = room-first _ _ (room-rest _ _ (room-rest gap_word _ c.requires.1 c.put_all.ensures) c.append_figure.ensures)
 
-pub append_signed-at-requires : goal.append_signed-at-requires
+pub append_signed-requires : goal.append_signed-requires
 unfolding gap_line gap_word byte_at row_at
-append_signed-at-requires c =
-    let one = room-rest _ _ (room-rest gap_word _ c.requires.1 c.append-at.ensures) c.append_figure-at.ensures in
-    room-first _ _ (room-rest _ _ one c.append_figure-at-2.ensures)
+append_signed-requires c =
+    let one = room-rest _ _ (room-rest gap_word _ c.requires.1 c.put_all.ensures) c.append_figure.ensures in
+    room-first _ _ (room-rest _ _ one c.append_figure-2.ensures)
 
-pub append_signed-at-requires-2 : goal.append_signed-at-requires-2
+pub append_signed-requires-2 : goal.append_signed-requires-2
 unfolding gap_line gap_word byte_at row_at
-append_signed-at-requires-2 c =
-    let one = room-rest _ _ (room-rest gap_word _ c.requires.1 c.append-at.ensures) c.append_figure-at.ensures in
-    room-first _ _ (room-rest _ _ (room-rest _ _ one c.append_figure-at-2.ensures) c.append_signed-at.ensures)
+append_signed-requires-2 c =
+    let one = room-rest _ _ (room-rest gap_word _ c.requires.1 c.put_all.ensures) c.append_figure.ensures in
+    room-first _ _ (room-rest _ _ (room-rest _ _ one c.append_figure-2.ensures) c.append_signed.ensures)
 
-pub append-requires : goal.append-requires
+pub put_all-requires-2 : goal.put_all-requires-2
 unfolding gap_line gap_word byte_at row_at newline
-append-requires c =
-    let one = room-rest _ _ (room-rest gap_word _ c.requires.1 c.append-at.ensures) c.append_figure-at.ensures in
-    let two = room-rest _ _ (room-rest _ _ one c.append_figure-at-2.ensures) c.append_signed-at.ensures in
-    room-put newline (room-rest _ _ two c.append_signed-at-2.ensures)
+put_all-requires-2 c =
+    let one = room-rest _ _ (room-rest gap_word _ c.requires.1 c.put_all.ensures) c.append_figure.ensures in
+    let two = room-rest _ _ (room-rest _ _ one c.append_figure-2.ensures) c.append_signed.ensures in
+    room-put newline (room-rest _ _ two c.append_signed-2.ensures)
 
 pub returns : goal.returns
 unfolding gap_line gap_word byte_at row_at newline
 returns c =
-    let figures = appends-then c.append_figure-at.ensures (appends-then c.append_figure-at-2.ensures (appends-then c.append_signed-at.ensures (appends-then c.append_signed-at-2.ensures c.append.ensures))) in
-    appends-then c.append-at.ensures figures
+    let figures = adds_then c.append_figure.ensures (adds_then c.append_figure-2.ensures (adds_then c.append_signed.ensures (adds_then c.append_signed-2.ensures c.put_all-2.ensures))) in
+    adds_then c.put_all.ensures figures

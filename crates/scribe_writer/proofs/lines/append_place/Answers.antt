@@ -2,25 +2,25 @@
 -- The three parts one behind the other.
 use mathlib.Core.List.{◌++◌}
 use Rattle.text.specs.Text.{decimal}
-use Rattle.text.proofs.Appending.{appends-then}
+use Rattle.lent.proofs.Puts.{adds_then}
 use Rattle.scribe_rules.specs.Telling.{colon, figure, place}
 use Rattle.scribe_writer.proofs.Rooms.{room-first, room-rest, room-put, room-digits}
 use Rattle.scribe_writer.proofs.lines.append_place.Goals as goal
 
-pub append_figure-at-requires : goal.append_figure-at-requires
+pub append_figure-requires : goal.append_figure-requires
 unfolding place
-append_figure-at-requires c = room-first (figure c.args.i) (colon ++ decimal c.args.v) c.requires
+append_figure-requires c = room-first (figure c.args.i) (colon ++ decimal c.args.v) c.requires
 
-pub append-at-requires : goal.append-at-requires
+pub put_all-requires : goal.put_all-requires
 unfolding place colon
-append-at-requires c = room-put _ (room-first colon (decimal c.args.v) (room-rest (figure c.args.i) (colon ++ decimal c.args.v) c.requires c.append_figure-at.ensures))
+put_all-requires c = room-put _ (room-first colon (decimal c.args.v) (room-rest (figure c.args.i) (colon ++ decimal c.args.v) c.requires c.append_figure.ensures))
 
 pub append_number-requires : goal.append_number-requires
 unfolding place colon
 append_number-requires c =
-    let rest = room-rest (figure c.args.i) (colon ++ decimal c.args.v) c.requires c.append_figure-at.ensures in
-    room-digits _ (room-rest colon (decimal c.args.v) rest c.append-at.ensures)
+    let rest = room-rest (figure c.args.i) (colon ++ decimal c.args.v) c.requires c.append_figure.ensures in
+    room-digits _ (room-rest colon (decimal c.args.v) rest c.put_all.ensures)
 
 pub returns : goal.returns
 unfolding place colon
-returns c = appends-then c.append_figure-at.ensures (appends-then c.append-at.ensures (rw c.from.ensures at c.append_number.ensures.0))
+returns c = adds_then c.append_figure.ensures (adds_then c.put_all.ensures (rw c.from.ensures at c.append_number.ensures.text))

@@ -2,7 +2,7 @@
 -- By the sign of the byte.
 use mathlib.Core.List.{◌++◌}
 use native.Mathlib.Omega.{arith}
-use Rattle.text.proofs.Appending.{appends-then}
+use Rattle.lent.proofs.Puts.{adds_then}
 use Rattle.scribe_rules.specs.Telling.{blank, dash, signed_figure}
 use Rattle.scribe_writer.proofs.Rooms.{room-first, room-rest, room-put, room-digits}
 use Rattle.scribe_writer.proofs.Signs.{sign-none, sign-some, number_is}
@@ -16,16 +16,16 @@ pub returns-then-b-lt128 : goal.returns-then-b-lt128
 unfolding signed_figure
 returns-then-b-lt128 c = rw (sign-none _ c.if-b-lt128.true) c.append_figure.ensures
 
-pub append-at-requires : goal.append-at-requires
+pub put_all-requires : goal.put_all-requires
 unfolding signed_figure blank dash
-append-at-requires c = room-put _ (room-first (blank ++ dash) _ (rw (sign-some _ c.if-b-lt128.false (omega arith)) at c.requires))
+put_all-requires c = room-put _ (room-first (blank ++ dash) _ (rw (sign-some _ c.if-b-lt128.false (omega arith)) at c.requires))
 
 pub append_number-requires : goal.append_number-requires
 unfolding signed_figure blank dash
-append_number-requires c = room-digits _ (room-rest (blank ++ dash) _ (rw (sign-some _ c.if-b-lt128.false (omega arith)) at c.requires) c.append-at.ensures)
+append_number-requires c = room-digits _ (room-rest (blank ++ dash) _ (rw (sign-some _ c.if-b-lt128.false (omega arith)) at c.requires) c.put_all.ensures)
 
 pub returns-else-b-lt128 : goal.returns-else-b-lt128
 unfolding signed_figure blank dash
 returns-else-b-lt128 c =
     let b = c.args.b in
-    rw (sign-some b c.if-b-lt128.false (omega arith)) (appends-then c.append-at.ensures (number_is (omega arith) c.append_number.ensures.0))
+    rw (sign-some b c.if-b-lt128.false (omega arith)) (adds_then c.put_all.ensures (number_is (omega arith) c.append_number.ensures.text))

@@ -5,4 +5,4 @@ use Rattle.scribe_writer.proofs.Chains.{Ahead}
 use Rattle.scribe_writer.proofs.parts.append_rows.Given as goal
 
 abbrev pub invariant-loop : goal.invariant-loop
-invariant-loop l = Ahead l.s l.initial.out l.initial.at l.out l.at l.r (l.end + 1 - l.counter)
+invariant-loop l = Ahead l.s l.initial.out l.out l.r (l.end + 1 - l.counter)

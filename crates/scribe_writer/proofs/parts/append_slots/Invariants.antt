@@ -8,7 +8,7 @@ use Rattle.sheet.specs.Abstract.{problem_of}
 use Rattle.sheet.specs.declared.Problem.{Problem}
 use Rattle.text.specs.Text.{newline}
 use Rattle.scribe_rules.specs.Telling.{figure}
-use Rattle.scribe_writer.proofs.Rooms.{Partly}
+use Rattle.lent.proofs.Puts.{Left}
 use Rattle.scribe_writer.proofs.parts.append_slots.Given as goal
 
 -- the counts of so many agents from agent i on, and the newline
@@ -17,4 +17,4 @@ counts p m i = gather m i (λ k. figure (domain (problem_of p) k)) ++ newline
 
 abbrev pub invariant-loop-domain : goal.invariant-loop-domain
 invariant-loop-domain l =
-    Partly l.initial.out l.initial.at (counts l.fn.p l.fn.p.count 1) l.out l.at (counts l.fn.p (l.fn.p.count - l.domain-index) (suc l.domain-index))
+    Left l.initial.out (counts l.fn.p l.fn.p.count 1) l.out (counts l.fn.p (l.fn.p.count - l.domain-index) (suc l.domain-index))

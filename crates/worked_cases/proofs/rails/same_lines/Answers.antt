@@ -1,4 +1,4 @@
--- The loops over the senders and the receivers end, and name agents of 1 to 12. Assumes nothing.
+-- Two different numbers of 1 to 12 name a line.
 use borrow.Author.Rules.{rules}
 use Rattle.clauses.proofs.Numbering.{to-channel}
 use Rattle.worked_cases.proofs.rails.same_lines.Goals as goal

@@ -1,11 +1,8 @@
 // Bytes put into a lent buffer one behind the other.
 ghost use Rattle.std.specs.Prelude.{[], ◌∷◌, length};
-ghost use Rattle.image_format.specs.Image.{slots};
-ghost use Rattle.packed.specs.Packed.{assignment};
-ghost use Rattle.image_writer.specs.Puts.{Room, Puts};
+ghost use Rattle.lent.specs.Puts.{Room, Puts};
 
-use lent::put;
-use packed::digit;
+use crate::put;
 
 // A buffer that a caller lends, and the place where the next byte goes.
 #[derive(Drop)]
@@ -29,15 +26,5 @@ impl Cursor<'_> {
     {
         put(self.buffer, self.at, bytes);
         self.at += bytes.len();
-    }
-
-    // The twelve digits of a packed word.
-    pub fn put_slots(&mut self, word: u64)
-        requires { Room self.old 12 }
-        ensures { Puts self.old 12 (slots (assignment word)) self.new }
-    {
-        for k in 1..=12 {
-            self.put(digit(word, k));
-        }
     }
 }

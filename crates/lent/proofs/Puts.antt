@@ -11,8 +11,8 @@ use Rattle.base.proofs.Lists.{gather-last}
 use Rattle.base.proofs.Gathers.{gather-split}
 use Rattle.lent.specs.Abstract.{over}
 use Rattle.lent.proofs.Over.{over_nothing, over-over}
-use Rattle.image_writer.specs.declared.cursor.Cursor.{Cursor}
-use Rattle.image_writer.specs.Puts.{Room, Puts}
+use Rattle.lent.specs.declared.cursor.Cursor.{Cursor}
+use Rattle.lent.specs.Puts.{Room, Puts, Adds}
 
 -- one stretch, and another behind it
 pub puts_then : {old mid new : Cursor} {a b : ℕ} {xs ys : List ℕ} → Puts old a xs mid → Puts mid b ys new → Puts old (a + b) (xs ++ ys) new
@@ -32,6 +32,10 @@ puts_then {old} {mid} {new} {a} {b} {xs} {ys} p q =
 -- the same, said otherwise
 pub puts-as : {old new : Cursor} {a b : ℕ} {xs ys : List ℕ} → a ≡ b → xs ≡ ys → Puts old a xs new → Puts old b ys new
 puts-as e f p = rw (← e, ← f) p
+
+-- all of some bytes, and all of others behind them
+pub adds_then : {old mid new : Cursor} {xs ys : List ℕ} → Adds old xs mid → Adds mid ys new → Adds old (xs ++ ys) new
+adds_then {xs = xs} {ys = ys} p q = puts-as (sym (length-append xs ys)) refl (puts_then p q)
 
 -- ---- what is gathered, put part by part
 

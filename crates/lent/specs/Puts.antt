@@ -1,7 +1,7 @@
 -- What a putting function does to the buffer that it is lent.
 use Rattle.std.specs.Prelude.{ℕ, ◌+◌, ◌≤◌, ◌≡◌, List, length}
 use Rattle.lent.specs.Abstract.{over}
-use Rattle.image_writer.specs.declared.cursor.Cursor.{Cursor}
+use Rattle.lent.specs.declared.cursor.Cursor.{Cursor}
 
 -- the buffer has room for so many bytes more
 abbrev pub Room : Cursor → ℕ → Type 0
@@ -15,3 +15,7 @@ pub record Puts (old : Cursor) (count : ℕ) (bytes : List ℕ) (new : Cursor) :
   pub long : length bytes ≡ count
   pub put : new.buffer.now ≡ over old.at bytes old.buffer.now
   pub behind : new.at ≡ old.at + count
+
+-- these bytes, all of them, put behind the others
+abbrev pub Adds : Cursor → List ℕ → Cursor → Type 0
+Adds old bytes new = Puts old (length bytes) bytes new

@@ -2,8 +2,8 @@
 use Rattle.std.proofs.Common.{ℕ, ◌+◌, ◌-◌, ◌∷◌, [], ◌≡◌, refl, ap, arith}
 use Rattle.problem.specs.Problem.{max_agents}
 use Rattle.image_format.specs.Image.{slots}
-use Rattle.image_writer.proofs.Puts.{none_gathered, one_more, all-gathered}
-use Rattle.image_writer.proofs.cursor.Cursor.put_slots.Goals as goal
+use Rattle.lent.proofs.Puts.{none_gathered, one_more, all-gathered}
+use Rattle.image_writer.proofs.slots.put_slots.Goals as goal
 
 pub loop-k-init : goal.loop-k-init
 loop-k-init c = none_gathered _ _ 0 1 0 (omega arith) refl refl

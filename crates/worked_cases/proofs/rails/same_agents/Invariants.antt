@@ -1,9 +1,0 @@
--- The scanners of two rails are compared one by one.
-use Prim.Native.Nat.{◌≤◌, ◌-◌}
-use Rattle.worked_cases.proofs.rails.same_agents.Given as goal
-
-abbrev pub invariant-loop-k : goal.invariant-loop-k
-invariant-loop-k l = l.k ≤ 12
-
-abbrev pub decreases-loop-k : goal.decreases-loop-k
-decreases-loop-k l = 12 - l.k
