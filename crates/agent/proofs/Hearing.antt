@@ -7,7 +7,7 @@ use mathlib.Core.Bool.{Bool, true, false, not, ◌&&◌, ◌||◌, cond, and-fal
 use mathlib.Core.List.{List}
 use native.Mathlib.Omega.{arith}
 use lib.Dec.{eqb}
-use lib.ListN.{length, get_or}
+use lib.ListN.{get_or}
 use borrow.Author.Tests.{eqb-true, eq-eqb}
 use Rattle.base.specs.Finite.{at, all_to}
 use Rattle.base.proofs.Tests.{test, eq_test, implied}
@@ -25,9 +25,9 @@ use Rattle.agent.specs.Abstract.{assigned, agent_of}
 use Rattle.agent.specs.Parts.{listener, Listening, Hears}
 use Rattle.agent.specs.declared.State.{State}
 use Rattle.agent.specs.declared.receiving.Heard.{Heard}
-use Rattle.packed.proofs.Known.{known-true}
 use Rattle.packed.proofs.Sets.{no-members}
 use Rattle.choosing.proofs.Barrings.{seen, barred-at-bits}
+use Rattle.choosing.proofs.Walking.{Left, left_then, near}
 
 module _ (s : State) (lhs : Assignment) where
   -- agent k was passed, and not listened to
@@ -35,7 +35,7 @@ module _ (s : State) (lhs : Assignment) where
   newly rest k = not (known (rest k)) && unheard (listener s) lhs k
 
   pub record Hearing (words : List ℕ) (rest : Assignment) (h : Heard) : Type 0 where
-    pub left : (k : ℕ) → known (rest k) ≡ true → rest k ≡ lhs k
+    pub left : Left lhs rest
     pub passed : (k : ℕ) → known (rest k) ≡ false → matches (listener s) lhs k ≡ true
     pub links : (k : ℕ) → members h.links k ≡ newly rest k
     pub view : (k : ℕ) → assignment h.view k ≡ cond (newly rest k) (lhs k) (assignment s.view k)
@@ -60,13 +60,6 @@ module _ (s : State) (lhs : Assignment) where
   module _ (words : List ℕ) (rest : Assignment) (h : Heard) (w : Hearing words rest h) (k : ℕ) (here : known (rest k) ≡ true) where
     named : known (lhs k) ≡ true
     named = rw (w.left k here) at here
-
-    -- what is left after agent k
-    left-then : (j : ℕ) → known (at rest k 0 j) ≡ true → at rest k 0 j ≡ lhs j
-    left-then j e =
-        eq_test j k
-        (λ q. absurd (omega (arith, known-true (at rest k 0 j) e, ap (at rest k 0) q ∙ at_same rest k 0)))
-        (λ n. at_other rest k 0 j n ∙ w.left j (rw (at_other rest k 0 j n) at e))
 
     passed_then : matches (listener s) lhs k ≡ true → (j : ℕ) → known (at rest k 0 j) ≡ false → matches (listener s) lhs j ≡ true
     passed_then m j e =
@@ -95,22 +88,15 @@ module _ (s : State) (lhs : Assignment) where
         let same : (j : ℕ) → newly (at rest k 0) j ≡ newly rest j =
         (λ j. eq_test j k (λ q. rw q (here-then ∙ none-new ∙ sym here-before)) (λ n. newly-else j n)) in
         record {
-          left = left-then;
+          left = left_then lhs rest k w.left;
           passed = passed_then (rw (named, l) (eq-eqb (lhs k) (assignment s.view k) (sym (w.left k here) ∙ sym e)));
           links = λ j. w.links j ∙ sym (same j);
           view = λ j. w.view j ∙ ap (λ (b : Bool). cond b (lhs j) (assignment s.view j)) (sym (same j));
           barring = w.barring;
         }
 
-    -- it is above, at a value that a word of bans has room for
+    -- it is not listened to
     module _ (own : Own) (able : Able own words) (fits : ViewFits own lhs) (lo : 1 ≤ k) (hi : k ≤ 16) where
-      pub near : (k ≤ length words) × (1 ≤ rest k) × (rest k ≤ 8)
-      unfolding max_named max_domain
-      near =
-          let f = fits k lo hi named in
-          (omega (arith, f.0, able.bans), known-true (rest k) here, rw (w.left k here) f.1)
-
-      -- it is not listened to
       pub hear-new : (links view : ℕ) (b : Bars) → members s.listens k ≡ false → members links ≡ at (members h.links) k true
           → assignment view ≡ at (assignment h.view) k (rest k)
           → ((j : ℕ) → 1 ≤ j → j ≤ 16 → byte_of b j ≡ at (byte_of h.bars) k (barred_at (get_or words (k - 1) 0) (rest k)) j)
@@ -118,8 +104,9 @@ module _ (s : State) (lhs : Assignment) where
       unfolding matches unheard agent_of max_domain
       hear-new links view b fresh more wider changed =
           let is-new : unheard (listener s) lhs k ≡ true = rw (named, fresh) in
+          let (bound, some, few) = near own words lhs rest able fits w.left k lo hi here in
           record {
-            left = left-then;
+            left = left_then lhs rest k w.left;
             passed = passed_then (rw (named, fresh));
             links = λ j.
                 eq_test j k
@@ -132,7 +119,7 @@ module _ (s : State) (lhs : Assignment) where
             barring =
                 rw wider
                 (seen (bans_in words) (assignment h.view) h.bars b k (rest k) _ w.barring changed
-                (λ u l m. barred-at-bits words k (rest k) lo near.0 near.1 near.2 u l m));
+                (λ u l m. barred-at-bits words k (rest k) lo bound some few u l m));
           }
 
   -- ---- it ends

@@ -92,6 +92,10 @@ module _ (own : Own) (words : List ℕ) (s : State) (nogoods : List ℕ) (from v
       let r = within-true 8 v m.2 in
       (m.0, h.agent.upward from m.0 (member-range s.listens from small m.1) m.1, r.0, r.1)
 
+  -- it has a number
+  pub in_range : (1 ≤ from) × (from ≤ 16)
+  in_range = (sender.0, omega (arith, sender.1, h.able.fits.last))
+
   pub valued : (1 ≤ s.value) × (s.value ≤ 8)
   unfolding agent_of self_of
   valued = let r = within-true own.domain s.value h.agent.valued in (r.0, omega (arith, r.1, h.able.fits.few))

@@ -1,17 +1,16 @@
 -- The start: an agent that knows nothing takes the lowest value and tells those below.
-use Prim.Native.Nat.{ℕ, zero, suc, pred, ◌≤◌}
+use Prim.Native.Nat.{ℕ, zero, suc, ◌≤◌}
 use mathlib.Core.Path.{◌≡◌, refl, ap, ap₂, ◌∙◌, fun_ext}
-use mathlib.Core.Bool.{Bool, ◌&&◌}
-use mathlib.Core.Option.{none, some}
+use mathlib.Core.Bool.{Bool}
+use mathlib.Core.Option.{none}
 use mathlib.Core.List.{List, [], ◌∷◌}
 use native.Mathlib.Nat.{not-suc-le-zero}
 use native.Mathlib.Omega.{arith}
 use Rattle.base.specs.Finite.{from_one}
 use Rattle.base.proofs.Bits.{bit-of-zero}
-use Rattle.base.proofs.Searches.{lowest-empty}
-use Rattle.agent_rules.specs.Message.{Assignment, known, nobody}
-use Rattle.agent_rules.specs.Agent.{Self, Bans, Nogoods, no_nogoods, unused_agent, above, with_last, with_counts}
-use Rattle.agent_rules.specs.Choosing.{bars, named, blame, blaming, reason_of, reason, choose, choice, no_refuser, chosen, took, settle, check_view, infos}
+use Rattle.agent_rules.specs.Message.{Assignment}
+use Rattle.agent_rules.specs.Agent.{Self, Bans, Nogoods, no_nogoods, unused_agent, with_last, with_counts}
+use Rattle.agent_rules.specs.Choosing.{no_refuser, chosen, took, check_view, infos}
 use Rattle.agent_rules.specs.Receiving.{fresh, begin, counted}
 use Rattle.agent_rules.specs.Counts.{Sort, Infos, Backs, AddLinks, Counts as Counts', no_counts, number, messages_in, top, raised, counting}
 use Rattle.packed.specs.Packed.{members}
@@ -23,47 +22,20 @@ use Rattle.agent.specs.Posting.{news_to, backs_from, posts_left, Ready}
 use Rattle.agent.specs.Entries.{Below, BeginsAs}
 use Rattle.agent.specs.declared.Agent.{Agent}
 use Rattle.agent.specs.declared.Counts.{Counts}
+use Rattle.agent.specs.declared.Lhs.{Lhs}
 use Rattle.agent.specs.declared.Posts.{Posts}
+use Rattle.agent_facts.proofs.Begin.{settle-first}
 use Rattle.packed.proofs.Digits.{nobody-assigned}
 use Rattle.agent.proofs.Telling.{all_told}
 use Rattle.agent.proofs.ToSet.{none_in, links-none, news-infos}
 
 -- ---- the rule
 
-blames-nobody : (s : Self) (bans : Bans) → blame s bans nobody no_nogoods 1 ≡ none
-unfolding blame bars nobody known
-blames-nobody s bans =
-    let none_named = lowest-empty (above s) 1 (λ k. bars bans nobody 1 k && named s no_nogoods k) (λ j l. refl) in
-    rw (none_named, blame) (lowest-empty (above s) 1 (bars bans nobody 1) (λ j l. refl))
-
-free-first : (s : Self) (bans : Bans) → reason s bans nobody no_nogoods 1 ≡ none
-unfolding reason reason_of blaming no_nogoods
-free-first s bans = rw (blames-nobody s bans)
-
-takes_first : (m : ℕ) (s : Self) (bans : Bans) → choose (suc m) 1 s bans nobody no_nogoods ≡ record { value = some 1; nogoods = no_nogoods }
-unfolding choose
-takes_first m s bans = rw (free-first s bans, choose)
-
-choice-first : (s : Self) (bans : Bans) (listens informs : ℕ → Bool) → 1 ≤ s.domain
-    → choice s bans (fresh listens informs) ≡ record { value = some 1; nogoods = no_nogoods }
-unfolding choice fresh unused_agent
-choice-first s bans listens informs h =
-    let e : s.domain ≡ suc (pred s.domain) = omega arith in
-    ap (λ (d : ℕ). choose d 1 s bans nobody no_nogoods) e ∙ takes_first (pred s.domain) s bans
-
-settles-first : (n : ℕ) (s : Self) (bans : Bans) (listens informs : ℕ → Bool) → 1 ≤ s.domain
-    → settle (suc n) s bans no_refuser (fresh listens informs) ≡ took s no_refuser (fresh listens informs) 1 no_nogoods
-unfolding settle
-settles-first n s bans listens informs h =
-    let e = choice-first s bans listens informs h in rw (e, settle, e)
-
 begins : (s : Self) (bans : Bans) (listens informs : ℕ → Bool) → 1 ≤ s.number → 1 ≤ s.domain
     → begin s bans listens informs ≡ counted (fresh listens informs) [] (took s no_refuser (fresh listens informs) 1 no_nogoods)
 unfolding begin check_view
 begins s bans listens informs l h =
-    let e : s.number ≡ suc (pred s.number) = omega arith in
-    ap (counted (fresh listens informs) [])
-    (ap (λ (n : ℕ). settle n s bans no_refuser (fresh listens informs)) e ∙ settles-first (pred s.number) s bans listens informs h)
+    ap (counted (fresh listens informs) []) (settle-first s bans listens informs s.number l h)
 
 -- ---- the code's record
 
@@ -74,6 +46,13 @@ none-stored l = fun_ext λ v. go v
     go : (v : ℕ) → from_one none (nogood_at 0 l) v ≡ none
     go zero = refl
     go (suc i) = rw (bit-of-zero i, nogood_at)
+
+-- what `Counts::default` and `Lhs::default` make
+pub default-counts : (c : Counts) → (c.infos ≡ 0) × ((c.backs ≡ 0) × (c.links ≡ 0)) → c ≡ none_counted
+default-counts c (e, (f, g)) = rw (e, f, g) refl
+
+pub default-lhs : (l : Lhs) → l.digits ≡ 0 → l ≡ record { digits = 0 }
+default-lhs l e = ap (λ (n : ℕ). let k : Lhs = record { digits = n } in k) e
 
 -- it knows nobody and stores nothing
 abbrev first : ℕ → ℕ → List ℕ → Counts → Agent

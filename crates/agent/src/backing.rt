@@ -14,7 +14,8 @@ use choosing::{Choice, Own, choose, sparing};
 use packed::{add, last_digit, with_digit};
 
 // A step done: the agent less the words of its nogoods, whom it sends what, with so many Backs, and whether the verdict "none" fell. It is its own value
-// that it tells.
+// that it tells. The verdict is a flag, and no second variant: a step has it so, and whoever makes one of this would take both variants apart into the same
+// fields.
 #[derive(Clone, Copy)]
 pub(crate) struct Done {
     pub state: State,
@@ -89,7 +90,8 @@ impl State {
     // Choosing, with backing up: "Where no slot is free, all left sides are joined. .. Otherwise the highest-numbered scanner in the join gets a refusal ..
     // The sender sets that scanner to unknown, drops every reason that names it, and chooses again, until a slot is taken." The Backs are put into `backs`,
     // each as the whole nogood. Link requests to the agents of the set `links` are sent before. `refuser` is the agent whose refusal is being
-    // worked, if one is: it stays the same throughout.
+    // worked, if one is: it stays the same throughout. A turn ends the loop by what it comes to, and how many there are is not known before, so it is
+    // no `for`.
     pub(crate) fn settle(
         self,
         own: Own,

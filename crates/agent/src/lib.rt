@@ -21,13 +21,14 @@ use crate::backing::Done;
 use choosing::{Bars, Own};
 
 // A packed partial assignment: digit k - 1 in base 16 is the value of agent k, 0 where it is unknown or not named. A view, or the left side of
-// a nogood.
-#[derive(Clone, Copy, Debug, PartialEq, Eq)]
+// a nogood. The word is handed over in the record and in an image as it is, so that a digit has no other way to say that there is none.
+#[derive(Clone, Copy, Debug, PartialEq, Eq, Default)]
 pub struct Lhs {
     pub digits: u64,
 }
 
-// A left side as a message carries it: its twelve digits, four to a word, agents 1 to 4 in `low`.
+// A left side as a message carries it: its twelve digits, four to a word, agents 1 to 4 in `low`. Three short words, and not one of 64 bits: a message takes
+// eight bytes so, and would take twenty-four.
 #[derive(Clone, Copy, Debug, PartialEq, Eq)]
 pub struct Carried {
     pub low: u16,
@@ -44,7 +45,7 @@ pub enum Message {
 }
 
 // How many messages of each sort. A count stays at the top, the greatest number of 64 bits, when it reaches it.
-#[derive(Clone, Copy, Debug, PartialEq, Eq)]
+#[derive(Clone, Copy, Debug, PartialEq, Eq, Default)]
 pub struct Counts {
     pub infos: u64,
     pub backs: u64,
@@ -53,7 +54,8 @@ pub struct Counts {
 
 // Bit k - 1 of `listens` and `informs` is agent k. Bit v - 1 of `stored` says whether own value v has a stored reason (nogood): the left side
 // whose digits stand at place v - 1 of `nogoods`. An empty left side is a reason too. `last` is the last value that it took, whether it still
-// holds it or not; both are 0 where there is none, as in the rules' record and in an image. The messages that it sent and received are counted.
+// holds it or not; both are 0 where there is none, and no `Option`: the record is handed over by value in a rail, and an image has it so. The messages
+// that it sent and received are counted.
 #[derive(Clone, Copy, Debug, PartialEq, Eq)]
 pub struct Agent {
     pub value: u8,
@@ -75,7 +77,8 @@ pub struct Post {
 }
 
 // The posts that are left of what a step sends, in order: link requests to the agents of the set `links`, upward; the Backs from place `next` on, up to
-// `count`; an Info of `value` to the agents of the set `told`, upward.
+// `count`; an Info of `value` to the agents of the set `told`, upward. The places are numbers, and no slice of the Backs: a step is handed back by value, with
+// its Backs in an array of fixed length, so that it can lend itself nothing.
 #[derive(Clone, Copy, Debug, PartialEq, Eq)]
 pub struct Posts {
     pub links: u16,
@@ -85,7 +88,7 @@ pub struct Posts {
     pub count: u8,
 }
 
-// What is left of what a step sends, with the words of its Backs, to be gone through in order: `for post in step.letters()`.
+// What is left of what a step sends, with the words of its Backs, to be gone through in order by a `for`.
 #[derive(Clone, Debug, Drop)]
 pub struct Letters<'a> {
     pub posts: Posts,
@@ -103,7 +106,8 @@ pub struct Step {
     pub verdict: bool,
 }
 
-// An agent taken apart: all of it but the words of its nogoods, with what its view bars.
+// An agent taken apart: all of it but the words of its nogoods, which are changed where they lie while this is handed on by value; with what its view bars. It
+// has its fields as the record has them, 0 for no value: they are put together again to one, field by field, at the end of a step.
 #[derive(Clone, Copy)]
 struct State {
     pub value: u8,
@@ -128,13 +132,22 @@ impl Agent {
     fn apart(self, bars: Bars) -> State
         ensures { result ≡ apart self bars }
     {
+        let Agent {
+            value,
+            last,
+            stored,
+            listens,
+            informs,
+            view,
+            ..
+        } = self;
         State {
-            value: self.value,
-            last: self.last,
-            stored: self.stored,
-            listens: self.listens,
-            informs: self.informs,
-            view: self.view.digits,
+            value,
+            last,
+            stored,
+            listens,
+            informs,
+            view: view.digits,
             bars,
         }
     }
@@ -223,11 +236,7 @@ impl Agent {
         requires below { Below own informs }
         ensures { (bans : Bans) → BeginsAs result (begin (self_of own) bans (members listens) (members informs)) }
     {
-        let none = Counts {
-            infos: 0,
-            backs: 0,
-            links: 0,
-        };
+        let none = Counts::default();
         let news = Posts {
             links: 0,
             told: informs,
@@ -241,7 +250,7 @@ impl Agent {
             stored: 0,
             listens,
             informs,
-            view: Lhs { digits: 0 },
+            view: Lhs::default(),
             nogoods: [0; 8],
             sent: none.posted(news),
             received: none,

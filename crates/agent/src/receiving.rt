@@ -1,5 +1,5 @@
 // The rules 'News' (Info), 'Refusal' (Back) and 'Link request' (AddLink): what an agent does with a message before it chooses, if it has to.
-ghost use Rattle.std.specs.Prelude.{◌≡◌, false, List, ℕ, ◌≤◌, ◌<◌};
+ghost use Rattle.std.specs.Prelude.{◌≡◌, List, ℕ, ◌≤◌, ◌<◌};
 ghost use Rattle.agent_rules.specs.Message.{Info as Info', Back as Back', AddLink as AddLink'};
 ghost use Rattle.agent_rules.specs.Receiving.{on_info, on_back, on_add_link};
 ghost use Rattle.packed.specs.Packed.{assignment};
@@ -22,6 +22,7 @@ struct Heard {
 impl State {
     // "The view is updated, and reasons that disagree with it are dropped. If the own slot is now banned, it chooses; otherwise that is all." What nogoods
     // name has its value in the view: they can be left alone where that value stays, and where there was none.
+    #[tactic(auto, using(crate::proofs::Infos::in_range))]
     pub(crate) fn on_info(
         self,
         own: Own,
@@ -66,6 +67,7 @@ impl State {
         requires barring { Barring (bans_in bans.now) (assignment self.view) self.bars }
         ensures { Hears own (bans_in bans.now) self (assignment lhs) result }
     {
+        // two fields of the agent, field by field: a struct of another type is no update of it
         let mut h = Heard {
             links: 0,
             view: self.view,
@@ -107,7 +109,7 @@ impl State {
         if v != self.value {
             return (self, Todo::Tell(0));
         }
-        let Some(h) = self.hear(own, bans, lhs) else {
+        let Some(Heard { links, view, bars }) = self.hear(own, bans, lhs) else {
             return (self, Todo::Tell(add(0, from)));
         };
         let i = v - 1;
@@ -115,13 +117,13 @@ impl State {
         let state = State {
             value: 0,
             stored: self.stored | (1u8 << i),
-            listens: self.listens | h.links,
-            view: h.view,
-            bars: h.bars,
+            listens: self.listens | links,
+            view,
+            bars,
             ..self
         };
         let todo = Todo::Choose {
-            links: h.links,
+            links,
             refuser: Some(from),
         };
         (state, todo)

@@ -33,7 +33,7 @@ module _ (s : Self) (bans : Bans) (listens informs : ℕ → Bool) where
   unfolding choice fresh unused_agent
   first-choice d = choose-first s.domain d
 
-  settle-first : (times : ℕ) → 1 ≤ times → 1 ≤ s.domain
+  pub settle-first : (times : ℕ) → 1 ≤ times → 1 ≤ s.domain
       → settle times s bans no_refuser (fresh listens informs) ≡ took s no_refuser (fresh listens informs) 1 no_nogoods
   unfolding settle
   settle-first zero l d = absurd (omega arith)

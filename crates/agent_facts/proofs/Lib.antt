@@ -10,7 +10,7 @@ mod Back
 mod ChoosingFits
 mod Fits
 mod Plain
-mod Begin
+pub mod Begin
 mod Counted
 pub mod Agent
 pub mod Answered

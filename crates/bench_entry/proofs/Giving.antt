@@ -57,11 +57,6 @@ module _ (sheet : List ℕ) (word : ℕ) where
 
 -- ---- the start
 
--- a refused start
-pub refused-start : (rule : ℕ) (sheet : List ℕ) (sender : ℕ) (e : Refusal) → StartsAs (start_sheet rule sheet) (Err e)
-    → WaitsFor rule sheet sender (refusal_number e)
-refused-start rule sheet sender e s = record { refused = λ _. s.number; waits = λ z. absurd (refusal-some e (s.number ∙ z)) }
-
 module _ (rule : ℕ) (sheet : List ℕ) (o : Network) (sender : ℕ) (s : StartsAs (start_sheet rule sheet) (Ok o)) where
   held : (j : ℕ) → held_at o.counts (suc sender) j ≡ length ((start_sheet rule sheet).network.channel (suc sender) j)
   held j = sym (channel-held o (suc sender) j) ∙ ap (λ (w : Network'). length (w.channel (suc sender) j)) s.network

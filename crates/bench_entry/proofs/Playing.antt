@@ -1,7 +1,7 @@
 -- Deliveries through the public entry, one more at a time, and then the values.
 use Prim.Native.Nat.{ℕ, suc, ◌+◌, ◌*◌, ◌%◌}
-use Rattle.std.specs.Prelude.{Result, Ok, Err}
-use Rattle.std.specs.Result.{result_unwrap_or}
+use Rattle.std.specs.Prelude.{Option, Result, Ok, Err}
+use Rattle.std.specs.Result.{result_unwrap_or, result_err}
 use mathlib.Core.Path.{◌≡◌, refl, ap, ◌∙◌}
 use Rattle.refusals.specs.declared.Refusal.{Refusal}
 use Rattle.network.specs.Asked.{asked_value}
@@ -11,8 +11,18 @@ use Rattle.protocol.specs.Network.{Network as Network', Started}
 use Rattle.protocol.specs.Delivery.{deliver, ask_value}
 use Rattle.network.specs.declared.Network.{Network}
 use Rattle.network.specs.Abstract.{network_of}
+use Rattle.start.specs.Started.{started_number}
+use Rattle.engine.specs.Refused.{refused_number}
 use Rattle.run.specs.Answers.{DeliversAs}
 use Rattle.bench_entry.specs.Giving.{mixed, played_one, played_to, Playing, asked_to, played_for}
+
+-- what refuses a start is its number
+refused-start : (r : Result Network Refusal) → refused_number (result_err r) ≡ started_number r
+refused-start (Ok r) = refl
+refused-start (Err e) = refl
+
+pub number-given : (r : Result Network Refusal) (e : Option Refusal) → e ≡ result_err r → refused_number e ≡ started_number r
+number-given r e q = rw q (refused-start r)
 
 pub none-played : (s : Started) (calls : List ℕ) (r : Network) (sum : ℕ) → network_of r ≡ s.network → sum ≡ s.number → Playing s calls 0 r sum
 unfolding played_to
@@ -27,9 +37,6 @@ one-played s calls k r o sum number p d =
       network = d.network ∙ ap (λ (w : Network'). (deliver w (get_or calls (2 * k) 0) (get_or calls (2 * k + 1) 0)).network) p.network;
       sum = rw (d.number, p.sum, p.network);
     }
-
-pub all-played : (s : Started) (calls : List ℕ) (k n : ℕ) (r : Network) (total : ℕ) → Playing s calls k r total → k ≡ n → Playing s calls n r total
-all-played s calls k n r total p e = rw (← e) p
 
 -- the value asked, 0 where it is refused
 pub value-or : (r : Result ℕ Refusal) → result_unwrap_or r 0 ≡ asked_value r

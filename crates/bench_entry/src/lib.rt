@@ -1,24 +1,23 @@
-// The entries by which `bench/` measures the proved libraries from another language: numbers and byte slices only. Each answer takes in all that was
-// worked out, so that nothing of it can be left out.
+// The entries by which `bench/` measures the proved libraries from another language: numbers and byte slices only, since the C interface has no other
+// types, so that a rule and a sheet come side by side. Each answer takes in all that was worked out, so that nothing of it can be left out.
 #![tactic(auto)]
 
-ghost use Rattle.std.specs.Prelude.{◌≡◌, ◌/◌, length};
+ghost use Rattle.std.specs.Prelude.{◌≡◌, ◌/◌, ◌<◌, length};
 ghost use Rattle.problem.specs.Sheet.{decode};
 ghost use Rattle.protocol.specs.Network.{Started as Started', start_sheet};
 ghost use Rattle.network.specs.Abstract.{network_of};
 ghost use Rattle.engine.specs.Answers.{ending_of};
 ghost use Rattle.engine.specs.Refused.{refused_number};
 ghost use Rattle.agent.specs.Abstract.{counts_of, agent_of};
-ghost use Rattle.start.specs.Started.{started_number, started_network};
-ghost use Rattle.lent.specs.Abstract.{written_of};
 ghost use Rattle.image_forms.specs.Reading.{load};
-ghost use Rattle.image_forms.specs.Writing.{store};
 ghost use Rattle.image_forms.specs.Moving.{move};
-ghost use Rattle.bench_entry.specs.Giving.{word_for, WaitsFor, ending_digit, settled_for, played_to, Playing, played_for, mixed, count_mixed, counts_mixed, counts_for, agent_mixed, read_for, form_for, length_given, WritesFor, MovesFor};
+ghost use Rattle.image_mover.specs.Form.{form_named};
+ghost use Rattle.bench_entry.specs.Giving.{word_for, WaitsFor, ending_digit, values_to, settled_for, played_to, Playing, played_for, mixed, count_mixed, counts_mixed, counts_for, agent_mixed, read_for, form_for, length_given, WritesFor, MovesFor};
 
 use agent::{Agent, Counts};
 use clauses::places::lines_of;
 use engine::{Answer, Ending};
+use image_mover::{Form, store_as};
 use network::Network;
 use refusals::Refusal;
 
@@ -46,7 +45,8 @@ pub extern "C" fn bench_entry_start(rule: u8, sheet: &[u8], sender: usize) -> u6
     }
 }
 
-// How a run ended, as a number.
+// How a run ended, as a number. One function for this and for `words::word_for` would be no plainer: they share the five cases and no answer, so that it
+// would have the answers as parameters.
 #[tactic(auto, unfolding(engine::specs::Answers::ending_of, crate::specs::Giving::ending_digit))]
 fn digit_of(ending: Ending) -> u64
     ensures { result ≡ ending_digit (ending_of ending) }
@@ -60,6 +60,17 @@ fn digit_of(ending: Ending) -> u64
     }
 }
 
+// All values as digits in base 9.
+fn values_of(r: Network) -> u64
+    ensures { (result ≡ values_to 12 (network_of r)) × (result < 282429536481) }
+{
+    let mut values: u64 = 0;
+    for agent in r.agents {
+        values = values * 9 + u64::from(agent.value % 9);
+    }
+    values
+}
+
 // Decoding, the start and a run: how it ended, its full rounds and all values, or the number that refuses the rule or the sheet.
 #[unsafe(no_mangle)]
 pub extern "C" fn bench_entry_settle(rule: u8, sheet: &[u8], rounds: u64) -> u64
@@ -68,27 +79,13 @@ pub extern "C" fn bench_entry_settle(rule: u8, sheet: &[u8], rounds: u64) -> u64
     match start::start(rule, sheet) {
         Ok(network) => {
             let ran = run::run(network, rounds);
-            let mut values: u64 = 0;
-            for agent in ran.network.agents {
-                values = values * 9 + u64::from(agent.value % 9);
-            }
-            (values * 1048576 + ran.rounds % 1048576) * 16 + digit_of(ran.ending)
+            (values_of(ran.network) * 1048576 + ran.rounds % 1048576) * 16 + digit_of(ran.ending)
         }
         Err(refusal) => 8 + u64::from(refusal.number()),
     }
 }
 
-// ---- what an answer stands for
-
-// The network and number 0, or the empty network and the refusal's number.
-fn answered(answer: Result<Network, Refusal>) -> (Network, u8)
-    ensures { (network_of result.0 ≡ started_network answer) × (result.1 ≡ started_number answer) }
-{
-    match answer {
-        Ok(network) => (network, 0),
-        Err(refusal) => (network::empty(), refusal.number()),
-    }
-}
+// ---- numbers mixed into a sum
 
 // A number mixed into a sum.
 #[tactic(auto, unfolding(crate::specs::Giving::mixed))]
@@ -100,26 +97,7 @@ fn mixed(sum: u64, n: u32) -> u64
 
 // ---- deliveries
 
-// Deliveries, each through the public entry: sender and receiver stand in `calls`, two bytes for each. They come to the network that is left, and a sum
-// that each number answered is mixed into. One answer is handed on from call to call.
-fn play(network: Network, number: u8, calls: &[u8]) -> (Network, u64)
-    ensures { (s : Started') → network_of network ≡ s.network → number ≡ s.number → Playing s calls.now (length calls.now / 2) result.0 result.1 }
-{
-    let mut answer = Answer {
-        network,
-        rounds: 0,
-        refusal: None,
-        ending: Ending::Open,
-    };
-    let mut sum = u64::from(number);
-    for k in 0..calls.len() / 2 {
-        answer = run::deliver(answer.network, calls[2 * k], calls[2 * k + 1]);
-        sum = mixed(sum, number_of(answer.refusal));
-    }
-    (answer.network, sum)
-}
-
-// The number of what a call was refused with; 0 where it was not.
+// The number that a refusal is mixed in as; an answer that is none is mixed in as 0.
 fn number_of(refusal: Option<Refusal>) -> u32
     ensures { result ≡ refused_number refusal }
 {
@@ -129,14 +107,34 @@ fn number_of(refusal: Option<Refusal>) -> u32
     }
 }
 
+// Deliveries, each through the public entry: sender and receiver stand in `calls`, two bytes for each. They come to the network that is left, and a sum
+// that each answer is mixed into, from a start's on. The first answer is the start's, so that the network is moved once a call. Network and refusal are
+// handed over side by side: with the start's `Result` a delivery copies the network twice more, and takes half as long again.
+fn play(network: Network, refusal: Option<Refusal>, calls: &[u8]) -> (Network, u64)
+    ensures { (s : Started') → network_of network ≡ s.network → refused_number refusal ≡ s.number → Playing s calls.now (length calls.now / 2) result.0 result.1 }
+{
+    let mut answer = Answer {
+        network,
+        rounds: 0,
+        refusal,
+        ending: Ending::Open,
+    };
+    let mut sum = u64::from(number_of(refusal));
+    for k in 0..calls.len() / 2 {
+        answer = run::deliver(answer.network, calls[2 * k], calls[2 * k + 1]);
+        sum = mixed(sum, number_of(answer.refusal));
+    }
+    (answer.network, sum)
+}
+
 // The start and then deliveries: sender and receiver stand in `calls`, two bytes for each. The answer is made of their numbers and, at the end, of each
 // agent's value.
 #[unsafe(no_mangle)]
 pub extern "C" fn bench_entry_deliver(rule: u8, sheet: &[u8], calls: &[u8]) -> u64
     ensures { result ≡ played_for (played_to (length calls.now / 2) (start_sheet rule sheet.now) calls.now) }
 {
-    let (begun, number) = answered(start::start(rule, sheet));
-    let (network, mut sum) = play(begun, number, calls);
+    let begun = start::start(rule, sheet);
+    let (network, mut sum) = play(start::rail_of(begun), begun.err(), calls);
     for i in 0..13 {
         sum = mixed(sum, u32::from(network::value(network, i).unwrap_or(0)));
     }
@@ -193,28 +191,25 @@ fn agent_mixed(sum: u64, a: Agent) -> u64
 pub extern "C" fn bench_entry_read(image: &[u8]) -> u64
     ensures { result ≡ read_for (load image.now) }
 {
-    let (network, number) = answered(image_mover::load(image));
+    let loaded = image_mover::load(image);
+    let network = start::rail_of(loaded);
     let ruled = u64::from(network.count) * 31 + u64::from(network.rule);
     let mut sum = ruled * 31 + u64::from(network.verdict);
     for agent in network.agents {
         sum = agent_mixed(sum, agent);
     }
-    (sum % 4294967296) * 16 + u64::from(number)
+    (sum % 4294967296) * 16 + u64::from(number_of(loaded.err()))
 }
 
-// The image in the second form, or in the first.
+// The form of an image, for which C has a flag.
 #[tactic(auto, unfolding(crate::specs::Giving::form_for))]
-fn stored(r: Network, small: bool, out: &mut [u8]) -> Result<usize, Refusal>
-    ensures { written_of result out.new ≡ store (form_for small) (network_of r) out.old }
+fn form_for(small: bool) -> Form
+    ensures { form_named result ≡ form_for small }
 {
-    if small {
-        image_mover::store_small(r, out)
-    } else {
-        image_writer::store(r, out)
-    }
+    if small { Form::Second } else { Form::First }
 }
 
-// The length written, or the number of the refusal.
+// The length written, or the number of the refusal: C has one number for both.
 fn length_of(written: Result<usize, Refusal>) -> u64
     ensures { result ≡ length_given written }
 {
@@ -230,10 +225,11 @@ fn length_of(written: Result<usize, Refusal>) -> u64
 pub extern "C" fn bench_entry_write(image: &[u8], small: bool, times: u64, out: &mut [u8]) -> u64
     ensures { WritesFor (form_for small) (load image.now).network times out.old result out.new }
 {
-    let (network, _) = answered(image_mover::load(image));
+    let network = start::rail_of(image_mover::load(image));
+    let form = form_for(small);
     let mut last = Ok(0);
     for _ in 0..times {
-        last = stored(network, small, out);
+        last = store_as(form, network, out);
     }
     length_of(last)
 }

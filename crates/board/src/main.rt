@@ -1,20 +1,15 @@
 // Steps a network call by call and draws it: `board [--rule N] SHEET [CALL ..]`, `board --image IMAGE [CALL ..]`.
+//
+// The system and the place of the first call are handed on side by side: the one is lent to all, the other is known only where the file's name is read.
 #![tactic(auto)]
 
 use board_text::options::{Options, goes_on, no_options, opens, option, put_unopened, rule_of};
 use board_text::{Begun, Stepped, begin, begin_image, call};
 use std::rt::{Env, Files};
-use tool::{LONGEST_ARGUMENT, argument, argument_count, read_file};
+use tool::{argument_count, read_file, with_argument};
 use words::printing::Out;
 
 // ---- calls
-
-// The call that argument i says.
-fn call_at(rt: &impl Env, s: Stepped, i: usize) -> Stepped {
-    let mut word = [0u8; LONGEST_ARGUMENT];
-    let n = argument(rt, i, &mut word);
-    call(s.out, s.dispatcher, &word[..n])
-}
 
 // The calls from argument `first` on, as long as what they print can be written.
 fn calls(rt: &impl Env, stepped: Stepped, first: usize) {
@@ -23,7 +18,7 @@ fn calls(rt: &impl Env, stepped: Stepped, first: usize) {
         if s.out.failed {
             return;
         }
-        s = call_at(rt, s, i);
+        s = with_argument(rt, i, |word| call(s.out, s.dispatcher, word));
     }
 }
 
@@ -61,33 +56,24 @@ fn open_and_play(rt: &(impl Env + Files), o: Options, name: &[u8], first: usize)
 
 // ---- the words in front of the calls
 
-fn option_at(rt: &impl Env, o: Options, i: usize) -> Options {
-    let mut word = [0u8; LONGEST_ARGUMENT];
-    let n = argument(rt, i, &mut word);
-    option(o, &word[..n])
-}
-
-// What the words up to argument i come to. Where it is the file, the calls begin at argument `first`.
-fn follow(rt: &(impl Env + Files), o: Options, i: usize, first: usize) {
-    let mut word = [0u8; LONGEST_ARGUMENT];
-    let n = argument(rt, i, &mut word);
+// What the options come to, with the word read last. Where it is the file, the calls begin at argument `first`.
+fn follow(rt: &(impl Env + Files), o: Options, word: &[u8], first: usize) {
     if opens(o) {
-        open_and_play(rt, o, &word[..n], first);
+        open_and_play(rt, o, word, first);
     } else {
-        put_unopened(Out::new(), o, &word[..n]);
+        put_unopened(Out::new(), o, word);
     }
 }
 
-// The options are read, up to the file, to a word that is not understood or to the end.
+// The options are read, up to the file, to a word that is not understood or to the end. `image write` reads its own by the same steps: one loop for both would
+// take the number of the first word, the options and both ends, these as closures, and be as long as either.
 fn main(rt: HostRuntime) {
-    let end = argument_count(&rt);
     let mut o = no_options(true);
-    for i in 1..end {
-        o = option_at(&rt, o, i);
+    for i in 1..argument_count(&rt) {
+        o = with_argument(&rt, i, |word| option(o, word));
         if !goes_on(o) {
-            follow(&rt, o, i, i + 1);
-            return;
+            return with_argument(&rt, i, |word| follow(&rt, o, word, i + 1));
         }
     }
-    follow(&rt, o, end, end);
+    put_unopened(Out::new(), o, b"");
 }

@@ -1,6 +1,7 @@
 -- A run with more rounds than 64 bits can say is the run with the largest number that they can: both are taken as 1,000,000.
-use mathlib.Core.Path.{◌≡◌, sym, ap, ◌∙◌}
-use mathlib.Core.List.{[]}
+use mathlib.Core.Path.{◌≡◌, refl, sym, ap, ◌∙◌}
+use mathlib.Core.Bool.{true}
+use mathlib.Core.List.{List, [], ◌∷◌}
 use Prim.Native.Nat.{ℕ, ◌-◌, ◌^◌, ◌≤◌}
 use native.Mathlib.Omega.{arith}
 use lib.Dec.{ltb, leb}
@@ -8,9 +9,15 @@ use borrow.Author.Tests.{leb-true, ltb-true, ltb-false}
 use Rattle.base.proofs.Tests.{test}
 use Rattle.protocol.specs.Network.{Network}
 use Rattle.protocol.specs.Shape.{in_shape}
-use Rattle.protocol.specs.Run.{max_rounds, allowed, run_from, run}
-use Rattle.numerals.specs.Reading.{capped}
+use Rattle.protocol.specs.Run.{max_rounds, allowed, run_from, Ran, run}
+use Rattle.std.specs.Prelude.{Option, Some, option_map}
+use Rattle.board_text.specs.declared.calls.Call.{Call}
+use Rattle.board_text.specs.declared.calls.Call.TheVariants.{Run}
+use Rattle.numerals.specs.Reading.{capped, is_number, value_from, number_in}
 use Rattle.numerals.proofs.Numbers.{capped-low, capped-high}
+use Rattle.dispatch_rules.specs.Dispatch.{Dispatcher, with_network}
+use Rattle.board_text.specs.Reading.{call_in}
+use Rattle.board_text.specs.Calling.{after_call, after_word, RunsAll}
 
 many : (k : ℕ) → 1000000 ≤ k → allowed k ≡ 1000000
 unfolding allowed max_rounds
@@ -30,3 +37,19 @@ capped-run n w =
     test (in_shape w)
     (λ t. rw (t, run) (ap (λ (k : ℕ). run_from k 0 [] w) (capped-allowed n)))
     (λ t. rw (t, run))
+
+number-is : (digits : List ℕ) → is_number digits ≡ true → number_in digits ≡ Some (capped (value_from 0 digits))
+unfolding number_in
+number-is digits n = rw (n, number_in) refl
+
+run-is : (digits : List ℕ) → call_in (114 ∷ digits) ≡ option_map Run (number_in digits)
+unfolding call_in
+run-is digits = refl
+
+-- what the call leaves that a word says
+pub runs-all : (word : List ℕ) (k : Option Call) (d e : Dispatcher) → k ≡ call_in word → e ≡ after_word k d → RunsAll word d e
+unfolding after_word after_call
+runs-all word k d e q h digits w n =
+    h
+    ∙ ap (λ (x : Option Call). after_word x d) (q ∙ ap call_in w ∙ run-is digits ∙ ap (option_map Run) (number-is digits n))
+    ∙ ap (λ (x : Ran). with_network d x.network) (capped-run (value_from 0 digits) d.network)

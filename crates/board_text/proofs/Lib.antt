@@ -1,3 +1,3 @@
 mod Spelling
-mod Lines
+pub mod Lines
 pub mod Capped

@@ -1,8 +1,9 @@
 -- What the start of a sheet by a rule and the reading of an image give, and what a call of the command line does to the network and to the dispatcher
 -- above it.
-use Rattle.std.specs.Prelude.{ℕ, suc, ◌≡◌, List, Option, Some, None, Result, Ok, Err, take}
+use Rattle.std.specs.Prelude.{ℕ, suc, ◌≡◌, true, List, ◌∷◌, Option, Some, None, Result, Ok, Err, take}
 use Rattle.refusals.specs.Refusals.{refusal_number}
 use Rattle.refusals.specs.declared.Refusal.{Refusal}
+use Rattle.numerals.specs.Reading.{is_number, value_from}
 use Rattle.problem.specs.Sheet.{longest_sheet}
 use Rattle.protocol.specs.Network.{empty_network, start_sheet}
 use Rattle.protocol.specs.Delivery.{deliver}
@@ -49,3 +50,7 @@ after_call (Pick l) d = (pick d (line_of l)).state
 unfoldable pub after_word : Option Call → Dispatcher → Dispatcher
 after_word (Some k) d = after_call k d
 after_word None d = d
+
+-- `rN` is a run with N rounds, however large N is, though a larger number than 64 bits can say is read as the largest that they can. 'r' is 114.
+abbrev pub RunsAll : List ℕ → Dispatcher → Dispatcher → Type 0
+RunsAll word d e = (digits : List ℕ) → word ≡ 114 ∷ digits → is_number digits ≡ true → e ≡ with_network d (run (value_from 0 digits) d.network).network

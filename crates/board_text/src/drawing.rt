@@ -1,4 +1,5 @@
-// The text of the board: each scanner with its view, whom it informs, its reasons and its counts; then the lines that hold something.
+// The text of the board: each scanner with its view, whom it informs, its reasons and its counts; then the lines that hold something. Each function takes
+// the output so far, and beside it what it prints, as in lib.rt. A value of 0 is none, as a scanner's record has it.
 ghost use Rattle.std.specs.Prelude.{◌≡◌, true, ◌≤◌, ◌<◌};
 ghost use Rattle.network.specs.Abstract.{is_channel};
 
@@ -131,7 +132,7 @@ fn put_message(o: Out, m: Message) -> Out {
 
 // The message that stands k places behind the head of a line.
 #[tactic(auto, using(clauses::proofs::Numbering::ends))]
-fn put_waiting(o: Out, r: Network, line: Line, k: u8) -> Out
+fn put_waiting(o: Out, r: &Network, line: Line, k: u8) -> Out
     requires { (is_channel line.from line.to ≡ true) × (k < 8) }
 {
     let head = digit(r.heads[line.from as usize - 1], line.to);
@@ -142,7 +143,7 @@ fn put_waiting(o: Out, r: Network, line: Line, k: u8) -> Out
 
 // A line that holds so many messages, from the head on; an empty one is not drawn.
 #[tactic(auto, using(clauses::proofs::Numbering::ends))]
-fn put_channel(o: Out, r: Network, line: Line) -> Out
+fn put_channel(o: Out, r: &Network, line: Line) -> Out
     requires { is_channel line.from line.to ≡ true }
 {
     let count = digit(r.counts[line.from as usize - 1], line.to);
@@ -159,17 +160,17 @@ fn put_channel(o: Out, r: Network, line: Line) -> Out
 
 // ---- the board
 
-fn put_agents(o: Out, r: Network) -> Out {
+fn put_agents(o: Out, r: &Network) -> Out {
     let mut out = o;
-    for (number, agent) in (1..=u64::from(r.count)).zip(r.agents) {
-        out = put_agent(out, number, agent);
+    for (number, agent) in (1..=u64::from(r.count)).zip(&r.agents) {
+        out = put_agent(out, number, *agent);
     }
     out
 }
 
 // By sender, then receiver.
 #[tactic(auto, using(crate::proofs::Lines::channel))]
-fn put_channels(o: Out, r: Network) -> Out {
+fn put_channels(o: Out, r: &Network) -> Out {
     let mut out = o;
     for from in 1..=12 {
         for to in 1..=12 {
@@ -185,6 +186,6 @@ fn put_verdict(o: Out, verdict: bool) -> Out {
     if verdict { o.put(b"verdict none\n") } else { o }
 }
 
-pub fn put_board(o: Out, r: Network) -> Out {
+pub fn put_board(o: Out, r: &Network) -> Out {
     put_channels(put_agents(put_verdict(o, r.verdict), r), r)
 }

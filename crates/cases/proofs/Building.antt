@@ -1,19 +1,19 @@
 -- What a line adds to a sheet, byte by byte, slot by slot and record by record.
 -- What is there so far, with what is left to add, comes to the same.
-use Prim.Native.Nat.{ℕ, suc, ◌+◌, ◌*◌, ◌-◌, ◌/◌, ◌%◌, ◌≤◌, ◌<◌}
-use mathlib.Core.Path.{◌≡◌, sym, ap, ◌∙◌}
-use mathlib.Core.Bool.{true, false}
+use Prim.Native.Nat.{ℕ, suc, ◌+◌, ◌-◌, ◌/◌, ◌%◌, ◌≤◌, ◌<◌}
+use mathlib.Core.Path.{◌≡◌, refl, sym, ap, ◌∙◌}
 use mathlib.Core.List.{List, [], ◌∷◌, map}
 use native.Mathlib.Omega.{arith}
 use native.Mathlib.Numerals.{add-one}
 use lib.Dec.{eqb}
 use lib.ListN.{length, get_or, set, take, drop}
 use lib.Seq.{sets, drop-cons, length-take-le, get_or-take, drop-length}
-use borrow.Author.Tests.{lt-ltb, le-ltb, le-leb, lt-leb}
+use borrow.Author.Tests.{le-leb, lt-leb}
+use Rattle.std.specs.Prelude.{Option, Some, None}
 use Rattle.base.proofs.Tests.{test}
 use Rattle.cases.specs.declared.lines.Numbers.{Numbers}
 use Rattle.cases.specs.declared.sheets.Sheet.{Sheet}
-use Rattle.cases.specs.Sheets.{with_byte, with_bytes, hex_digit, is_pair, hex_after, link_before, linked, with_record, with_ban, with_bans}
+use Rattle.cases.specs.Sheets.{with_bytes, hex_digit, pair_of, in_front, hex_after, link_before, linked, with_record, with_ban, with_bans}
 use Rattle.cases.proofs.Reading.{next}
 
 pub same-sheet : (s : Sheet) (bytes : List ℕ) (n : ℕ) → s.bytes ≡ bytes → s.length ≡ n → s ≡ record { bytes = bytes; length = n }
@@ -21,35 +21,15 @@ same-sheet s bytes n e f = rw (← e, ← f)
 
 -- ---- pairs of digits
 
-pair-true : (high low : ℕ) → hex_digit high < 16 → hex_digit low < 16 → is_pair high low ≡ true
-unfolding is_pair
-pair-true high low h l = rw (lt-ltb (hex_digit high) 16 h, lt-ltb (hex_digit low) 16 l)
-
-module _ (high low : ℕ) (s : Sheet) where
-  no-pair : is_pair high low ≡ false → with_bytes (hex_after high (low ∷ [])) s ≡ s
-  unfolding hex_after with_bytes
-  no-pair e = rw (e, hex_after)
-
-  module _ (h : ℕ) (e : h ≡ hex_digit high) where
-    pub high-none : 16 ≤ h → with_bytes (hex_after high (low ∷ [])) s ≡ s
-    unfolding is_pair
-    high-none g = no-pair (rw (← e, le-ltb h 16 g))
-
-    module _ (l : ℕ) (f : l ≡ hex_digit low) (g : h < 16) where
-      pub low-none : 16 ≤ l → with_bytes (hex_after high (low ∷ [])) s ≡ s
-      unfolding is_pair
-      low-none k = no-pair (rw (← e, ← f, lt-ltb h 16 g, le-ltb l 16 k))
-
-      pub both-digits : l < 16 → with_bytes (hex_after high (low ∷ [])) s ≡ with_byte (16 * h + l) s
-      unfolding hex_after with_bytes
-      both-digits k =
-          let t : is_pair high low ≡ true = pair-true high low (rw e at g) (rw f at k) in
-          rw (t, hex_after) (rw (e, f))
+front_then : (front : Option ℕ) (rest : List ℕ) (s : Sheet) → with_bytes (in_front front rest) s ≡ with_bytes rest (with_bytes (in_front front []) s)
+unfolding with_bytes
+front_then None rest s = refl
+front_then (Some b) rest s = refl
 
 pair_then : (before b : ℕ) (rest : List ℕ) (s : Sheet)
     → with_bytes (hex_after before (b ∷ rest)) s ≡ with_bytes (hex_after b rest) (with_bytes (hex_after before (b ∷ [])) s)
-unfolding hex_after with_bytes
-pair_then before b rest s = test (is_pair before b) (λ e. rw (e, hex_after)) (λ e. rw (e, hex_after))
+unfolding hex_after
+pair_then before b rest s = front_then (pair_of (hex_digit before) (hex_digit b)) (hex_after b rest) s
 
 pub hex-goes : (line : List ℕ) (i before : ℕ) (s : Sheet) → i < length line
     → with_bytes (hex_after before (drop i line)) s

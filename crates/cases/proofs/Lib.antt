@@ -1,3 +1,3 @@
-mod Tables
+mod Words
 mod Reading
 mod Building

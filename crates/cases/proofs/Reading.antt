@@ -1,14 +1,14 @@
 -- The numbers in a line, byte by byte: what is kept so far, with the bytes left, comes to the same.
 -- One byte more is one step of the definition.
-use Prim.Native.Nat.{ℕ, suc, ◌+◌, ◌-◌, ◌≤◌, ◌<◌}
+use Prim.Native.Nat.{ℕ, suc, ◌+◌, ◌≤◌, ◌<◌}
 use mathlib.Core.Path.{◌≡◌, ap, ◌∙◌}
 use mathlib.Core.Bool.{true, false, and-eq-true_iff}
 use mathlib.Core.List.{List, [], ◌∷◌}
 use native.Mathlib.Omega.{arith}
 use native.Mathlib.Numerals.{add-one}
 use lib.Dec.{eqb, leb}
-use lib.ListN.{length, get_or, take, drop, length-drop}
-use lib.Seq.{drop-cons, drop-length, take_all}
+use lib.ListN.{length, get_or, drop}
+use lib.Seq.{drop-cons, drop-length}
 use borrow.Author.Tests.{leb-true}
 use Rattle.std.specs.List.{position_or_len}
 use Rattle.base.proofs.Tests.{test}
@@ -30,10 +30,6 @@ end-is at (b ∷ bytes) =
     (λ e. rw (e, end_from) (rw (← end-is (suc at) bytes) (omega arith)))
 
 -- ---- byte by byte
-
--- what a slice from a place on has
-pub rest-is : (line : List ℕ) (k : ℕ) → take (length line - k) (drop k line) ≡ drop k line
-rest-is line k = take_all (length line - k) (drop k line) (omega (arith, length-drop k line))
 
 pub none_left : (line : List ℕ) (i : ℕ) → i ≤ length line → length line ≤ i → drop i line ≡ []
 none_left line i h l = let e : i ≡ length line = omega arith in rw e (drop-length line)

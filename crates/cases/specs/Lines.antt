@@ -1,11 +1,16 @@
 -- A line of the cases: where it ends, and the numbers in it, which are its runs of decimal digits.
-use Rattle.std.specs.Prelude.{ℕ, suc, ◌+◌, ◌*◌, ◌-◌, ◌%◌, Bool, true, false, not, cond, ◌&&◌, List, [], ◌∷◌, eqb, ltb, leb, get_or, set, replicate}
+use Rattle.std.specs.Prelude.{ℕ, suc, ◌+◌, ◌*◌, ◌-◌, ◌%◌, Bool, true, false, not, cond, ◌&&◌, List, [], ◌∷◌, Option, None, eqb, ltb, leb, get_or, set, replicate, take}
+use Rattle.std.specs.List.{slice_get}
 use Rattle.cases.specs.declared.lines.Numbers.{Numbers}
 
 -- the place of the first line feed in some bytes that begin at this place, or else of their end
 unfoldable pub end_from : ℕ → List ℕ → ℕ
 end_from at [] = at
 end_from at (b ∷ bs) = elim (eqb b 10) [ true ↦ at | false ↦ end_from (suc at) bs ]
+
+-- the line at the front of some bytes, without its line feed
+abbrev pub first_line : List ℕ → List ℕ
+first_line text = take (end_from 0 text) text
 
 -- '0' to '9'
 unfoldable pub is_digit : ℕ → Bool
@@ -45,6 +50,10 @@ with_numbers (value ∷ values) n = with_numbers values (with_number value n)
 -- the numbers in a line; a blank is no digit
 unfoldable pub numbers_in : List ℕ → Numbers
 numbers_in line = with_numbers (numbers_after 32 line) no_numbers
+
+-- number k of a line, from 0 on, if it has so many
+abbrev pub number_of : Numbers → ℕ → Option ℕ
+number_of n k = cond (ltb k n.count) (slice_get n.values k) None
 
 -- number k of a line, as a byte
 abbrev pub small_of : Numbers → ℕ → ℕ

@@ -1,11 +1,11 @@
 -- The sheet that lines build, record by record or byte by byte. Nothing is added where there is no room for it.
-use Rattle.std.specs.Prelude.{ℕ, zero, suc, ◌+◌, ◌*◌, ◌-◌, ◌/◌, ◌%◌, Bool, true, false, cond, ◌&&◌, List, [], ◌∷◌, map, eqb, ltb, leb, get_or, set, take, replicate}
+use Rattle.std.specs.Prelude.{ℕ, zero, suc, ◌+◌, ◌*◌, ◌-◌, ◌/◌, ◌%◌, Bool, cond, ◌&&◌, List, [], ◌∷◌, Option, Some, None, map, eqb, ltb, leb, get_or, set, take, replicate}
 use Rattle.std.proofs.lemmas.List.Edits.{sets}
 use Rattle.cases.specs.declared.lines.Numbers.{Numbers}
 use Rattle.cases.specs.declared.sheets.Sheet.{Sheet}
 use Rattle.cases.specs.Lines.{is_digit, small_of}
-use Rattle.cases.specs.Kinds.Names.{CASE, SLOTS, BAN, EACH, HEX, ZEROS}
-use Rattle.cases.specs.Kinds.{pick}
+use Rattle.cases.specs.declared.kinds.Kind.{Kind}
+use Rattle.cases.specs.declared.kinds.Kind.TheVariants.{Case, Slots, Ban, Each, Hex, Zeros}
 
 -- the bytes that a sheet has room for
 abbrev pub room : ℕ
@@ -44,18 +44,24 @@ with_bytes (b ∷ bs) s = with_bytes bs (with_byte b s)
 unfoldable pub is_hex_letter : ℕ → Bool
 is_hex_letter b = leb 97 b && leb b 102
 
--- the value of a hexadecimal digit, and 16 for any other byte
-unfoldable pub hex_digit : ℕ → ℕ
-hex_digit b = cond (is_digit b) (b - 48) (cond (is_hex_letter b) (b - 87) 16)
+-- the value of a hexadecimal digit
+unfoldable pub hex_digit : ℕ → Option ℕ
+hex_digit b = cond (is_digit b) (Some (b - 48)) (cond (is_hex_letter b) (Some (b - 87)) None)
 
--- two digits
-unfoldable pub is_pair : ℕ → ℕ → Bool
-is_pair high low = ltb (hex_digit high) 16 && ltb (hex_digit low) 16
+-- the byte that two digits say
+abbrev pub pair_of : Option ℕ → Option ℕ → Option ℕ
+pair_of (Some high) (Some low) = Some (16 * high + low)
+pair_of high low = None
+
+-- a byte in front of others, if there is one
+abbrev pub in_front : Option ℕ → List ℕ → List ℕ
+in_front (Some b) bs = b ∷ bs
+in_front None bs = bs
 
 -- a byte for every two digits that stand side by side in some letters, with this letter before them
 unfoldable pub hex_after : ℕ → List ℕ → List ℕ
 hex_after before [] = []
-hex_after before (b ∷ bs) = elim (is_pair before b) [ true ↦ (16 * hex_digit before + hex_digit b) ∷ hex_after b bs | false ↦ hex_after b bs ]
+hex_after before (b ∷ bs) = in_front (pair_of (hex_digit before) (hex_digit b)) (hex_after b bs)
 
 -- the bytes that a line gives; a blank is no digit
 unfoldable pub with_hex : List ℕ → Sheet → Sheet
@@ -100,15 +106,12 @@ with_bans (suc k) i v j w s = with_bans k i (suc v) j w (with_ban i v j w s)
 
 -- ---- every line
 
--- the sheet after a line of this kind with these numbers: a case begins with a blank one
-unfoldable pub built_by : Sheet → ℕ → Numbers → List ℕ → Sheet
-built_by s kind n line =
-    pick kind
-    ((CASE, blank_sheet)
-    ∷ (SLOTS, slots_sheet n)
-    ∷ (BAN, with_ban (small_of n 0) (small_of n 1) (small_of n 2) (small_of n 3) s)
-    ∷ (EACH, with_bans (suc (small_of n 2) - small_of n 1) (small_of n 0) (small_of n 1) (small_of n 3) (small_of n 4) s)
-    ∷ (HEX, with_hex line s)
-    ∷ (ZEROS, with_zeros (get_or n.values 0 0) s)
-    ∷ [])
-    s
+-- the sheet after a line of this kind with these numbers: a case begins with a blank one; a line that is not understood builds nothing
+unfoldable pub built_by : Sheet → Option Kind → Numbers → List ℕ → Sheet
+built_by s (Some Case) n line = blank_sheet
+built_by s (Some Slots) n line = slots_sheet n
+built_by s (Some Ban) n line = with_ban (small_of n 0) (small_of n 1) (small_of n 2) (small_of n 3) s
+built_by s (Some Each) n line = with_bans (suc (small_of n 2) - small_of n 1) (small_of n 0) (small_of n 1) (small_of n 3) (small_of n 4) s
+built_by s (Some Hex) n line = with_hex line s
+built_by s (Some Zeros) n line = with_zeros (get_or n.values 0 0) s
+built_by s kind n line = s

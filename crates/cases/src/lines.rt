@@ -1,9 +1,13 @@
-// A line of the cases: where it ends, how it begins, and the numbers in it.
+// A line of the cases: where it ends, what it asks for, and the numbers in it.
 ghost use Rattle.std.specs.Prelude.{◌≡◌, ◌+◌, ◌≤◌, ◌<◌, min, eqb, length, drop};
 ghost use Rattle.std.specs.List.{position_or_len};
-ghost use Rattle.cases.specs.Lines.{end_from, is_digit, with_digit, value_from, number_begins, with_number, numbers_in, small_of};
+ghost use Rattle.cases.specs.Kinds.{kind_of};
+ghost use Rattle.cases.specs.Lines.{end_from, first_line, is_digit, with_digit, value_from, number_begins, with_number, numbers_in, number_of, small_of};
 
-// The numbers of a line, in order, at most 16; the places beyond `count` are zero.
+use crate::kinds::{Kind, kind_of};
+
+// The numbers of a line, in order, at most 16; the places beyond `count` are zero. An array and a count: a line is read without a heap, and its numbers
+// are handed over by value.
 #[derive(Clone, Copy)]
 pub struct Numbers {
     pub count: usize,
@@ -71,6 +75,7 @@ fn begins(before: u8, b: u8) -> bool
 }
 
 // One number more, if there is room.
+#[tactic(auto, unfolding(crate::specs::Lines::with_number))]
 fn with_number(n: Numbers, value: u64) -> Numbers
     ensures { result ≡ with_number value n }
 {
@@ -99,10 +104,53 @@ pub fn numbers_in(line: &[u8]) -> Numbers
     n
 }
 
-// Number k of a line, as a byte.
-pub fn small(n: Numbers, k: usize) -> u8
-    requires { k < 16 }
-    ensures { result ≡ small_of n k }
+impl Numbers {
+    // Number k of a line, from 0 on, if it has so many.
+    pub fn get(self, k: usize) -> Option<u64>
+        ensures { result ≡ number_of self k }
+    {
+        if k < self.count {
+            self.values.get(k).copied()
+        } else {
+            None
+        }
+    }
+
+    // Number k of a line, as a byte.
+    pub fn small(self, k: usize) -> u8
+        requires { k < 16 }
+        ensures { result ≡ small_of self k }
+    {
+        (self.values[k] % 256) as u8
+    }
+}
+
+// A line as it was read: what it asks for, where it is understood, the numbers in it, and the line itself.
+#[derive(Clone, Copy)]
+pub struct Line<'a> {
+    pub kind: Option<Kind>,
+    pub numbers: Numbers,
+    pub text: &'a [u8],
+}
+
+pub fn read_line(text: &[u8]) -> Line<'_>
+    ensures kind { result.kind ≡ kind_of text.now (numbers_in text.now).count }
+    ensures numbers { result.numbers ≡ numbers_in text.now }
+    ensures text { result.text.now ≡ text.now }
 {
-    (n.values[k] % 256) as u8
+    let numbers = numbers_in(text);
+    Line {
+        kind: kind_of(text, numbers.count),
+        numbers,
+        text,
+    }
+}
+
+// The line at the front of a text, without its line feed.
+pub fn first_line(text: &[u8]) -> Line<'_>
+    ensures kind { result.kind ≡ kind_of (first_line text.now) (numbers_in (first_line text.now)).count }
+    ensures numbers { result.numbers ≡ numbers_in (first_line text.now) }
+    ensures text { result.text.now ≡ first_line text.now }
+{
+    read_line(&text[..line_end(text, 0)])
 }

@@ -1,5 +1,5 @@
 // A sheet under hand, built record by record or byte by byte.
-ghost use Rattle.std.specs.Prelude.{◌≡◌, [], ◌∷◌, suc, ◌-◌, ◌≤◌, ◌<◌};
+ghost use Rattle.std.specs.Prelude.{◌≡◌, [], ◌∷◌, suc, ◌-◌, ◌≤◌, ◌<◌, take, IfSome};
 ghost use Rattle.cases.specs.Sheets.{
   blank_sheet,
   two_at,
@@ -17,16 +17,17 @@ ghost use Rattle.cases.specs.Sheets.{
   built_by,
 };
 
-use crate::kinds::{BAN, CASE, EACH, HEX, SLOTS, ZEROS};
-use crate::lines::{Numbers, is_digit, small};
+use crate::kinds::Kind;
+use crate::lines::{Line, Numbers, is_digit};
 
-// The first `length` bytes; those beyond are zero.
+// The first `length` bytes; those beyond are zero. An array and a length: a sheet is built without a heap, and handed over by value.
 #[derive(Clone, Copy)]
 pub struct Sheet {
     pub bytes: [u8; 33824],
     pub length: usize,
 }
 
+#[tactic(auto, unfolding(crate::specs::Sheets::blank_sheet))]
 pub fn blank() -> Sheet
     ensures { result ≡ blank_sheet }
 {
@@ -36,7 +37,17 @@ pub fn blank() -> Sheet
     }
 }
 
+impl Sheet {
+    // The bytes of the sheet.
+    pub fn filled(&self) -> &[u8]
+        ensures { result.now ≡ take self.now.length self.now.bytes }
+    {
+        &self.bytes[..self.length.min(33824)]
+    }
+}
+
 // So many zeros more, if there is room.
+#[tactic(auto, unfolding(crate::specs::Sheets::with_zeros))]
 fn with_zeros(s: Sheet, more: usize) -> Sheet
     ensures { result ≡ with_zeros more s }
 {
@@ -55,6 +66,7 @@ fn with_zeros(s: Sheet, more: usize) -> Sheet
 // ---- a line of hexadecimal digits
 
 // One byte more, if there is room.
+#[tactic(auto, unfolding(crate::specs::Sheets::with_byte))]
 fn with_byte(s: Sheet, b: u8) -> Sheet
     ensures { result ≡ with_byte b s }
 {
@@ -68,35 +80,28 @@ fn with_byte(s: Sheet, b: u8) -> Sheet
     o
 }
 
-// The value of a hexadecimal digit, and 16 for any other byte.
-fn hex_digit(b: u8) -> u8
-    ensures { result ≡ hex_digit b }
+// The value of a hexadecimal digit.
+#[tactic(auto, unfolding(crate::specs::Lines::is_digit, crate::specs::Sheets::is_hex_letter, crate::specs::Sheets::hex_digit))]
+fn hex_digit(b: u8) -> Option<u8>
+    ensures value { result ≡ hex_digit b }
+    ensures below { IfSome result (λ h. h < 16) }
 {
-    if is_digit(b) {
-        return b - b'0';
+    match b {
+        b'0'..=b'9' => Some(b - b'0'),
+        b'a'..=b'f' => Some(b - b'a' + 10),
+        _ => None,
     }
-    if b < b'a' {
-        return 16;
-    }
-    if b'f' < b {
-        return 16;
-    }
-    b - b'a' + 10
 }
 
 // One byte more where two digits stand side by side.
+#[tactic(auto, unfolding(crate::specs::Sheets::hex_after, crate::specs::Sheets::with_bytes))]
 fn with_pair(s: Sheet, high: u8, low: u8) -> Sheet
     ensures { result ≡ with_bytes (hex_after high (low ∷ [])) s }
 {
-    let h = hex_digit(high);
-    let l = hex_digit(low);
-    if 16 <= h {
-        return s;
+    match (hex_digit(high), hex_digit(low)) {
+        (Some(high), Some(low)) => with_byte(s, 16 * high + low),
+        _ => s,
     }
-    if 16 <= l {
-        return s;
-    }
-    with_byte(s, 16 * h + l)
 }
 
 // The bytes that a line gives as pairs of hexadecimal digits, with a blank between them.
@@ -150,6 +155,7 @@ fn with_index(s: Sheet, k: usize, index: usize) -> Sheet
 }
 
 // Where the index of the record behind the last one stands: in the header, and from record 1 on at a record's fifth byte.
+#[tactic(auto, unfolding(crate::specs::Sheets::link_before))]
 fn link_before(index: usize, length: usize) -> usize
     requires { 4 ≤ length }
     ensures { result ≡ link_before index length }
@@ -157,7 +163,8 @@ fn link_before(index: usize, length: usize) -> usize
     if index == 1 { 2 } else { length - 4 }
 }
 
-// One record more at the end of the chain, if there is room: slot v of scanner i with slot w of scanner j.
+// One record more at the end of the chain, if there is room: slot v of scanner i with slot w of scanner j. The four numbers stand side by side, as in a record
+// and in the line that gives them.
 fn with_ban(s: Sheet, i: u8, v: u8, j: u8, w: u8) -> Sheet
     ensures { result ≡ with_ban i v j w s }
 {
@@ -188,24 +195,26 @@ fn with_bans(s: Sheet, i: u8, first: u8, last: u8, j: u8, w: u8) -> Sheet
 
 // ---- all lines that build
 
-// The sheet after a line; a case begins with a blank one.
-pub fn built(s: Sheet, kind: usize, n: Numbers, line: &[u8]) -> Sheet
-    ensures { result ≡ built_by s kind n line.now }
+// The sheet after a line; a case begins with a blank one, and a line that is not understood builds nothing.
+#[tactic(auto, unfolding(crate::specs::Sheets::built_by))]
+pub fn built(s: Sheet, line: Line<'_>) -> Sheet
+    ensures { result ≡ built_by s line.entry.kind line.entry.numbers line.entry.text.now }
 {
-    match kind {
-        CASE => blank(),
-        SLOTS => with_slots(n),
-        BAN => with_ban(s, small(n, 0), small(n, 1), small(n, 2), small(n, 3)),
-        EACH => with_bans(
+    let n = line.numbers;
+    match line.kind {
+        Some(Kind::Case) => blank(),
+        Some(Kind::Slots) => with_slots(n),
+        Some(Kind::Ban) => with_ban(s, n.small(0), n.small(1), n.small(2), n.small(3)),
+        Some(Kind::Each) => with_bans(
             s,
-            small(n, 0),
-            small(n, 1),
-            small(n, 2),
-            small(n, 3),
-            small(n, 4),
+            n.small(0),
+            n.small(1),
+            n.small(2),
+            n.small(3),
+            n.small(4),
         ),
-        HEX => with_hex(s, line),
-        ZEROS => with_zeros(s, n.values[0] as usize),
+        Some(Kind::Hex) => with_hex(s, line.text),
+        Some(Kind::Zeros) => with_zeros(s, n.values[0] as usize),
         _ => s,
     }
 }

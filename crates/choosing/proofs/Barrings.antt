@@ -1,6 +1,6 @@
 -- What a view bars, read off the bytes: the lowest agent that bars an own value, and the bytes after a change of the view.
 use Prim.Native.Nat.{ℕ, pred, ◌*◌, ◌-◌, ◌^◌, ◌≤◌}
-use mathlib.Core.Path.{◌≡◌, refl, ap, ◌∙◌}
+use mathlib.Core.Path.{◌≡◌, refl, ap, ap₂, ◌∙◌}
 use mathlib.Core.Bool.{Bool, false, ◌&&◌}
 use mathlib.Core.List.{List}
 use native.Mathlib.Nat.{zero-div}
@@ -80,6 +80,10 @@ empty-byte : (k : ℕ) → byte_of (record { low = 0; high = 0 }) k ≡ 0
 unfolding byte_of byte
 empty-byte k =
     test (leb k 8) (λ t. rw (t, byte_of, zero-div (256 ^ pred k))) (λ t. rw (t, byte_of, zero-div (256 ^ (k - 9))))
+
+-- what `Bars::default` makes
+pub default-bars : (b : Bars) → (b.low ≡ 0) × (b.high ≡ 0) → b ≡ record { low = 0; high = 0 }
+default-bars b zero = ap₂ (λ (l h : ℕ). let b : Bars = record { low = l; high = h } in b) zero.0 zero.1
 
 pub nothing-barred : (bans : Bans) (view : Assignment) → ((k : ℕ) → 1 ≤ k → k ≤ max_named → view k ≡ 0)
     → Barring bans view (record { low = 0; high = 0 })

@@ -18,7 +18,8 @@ use Rattle.base.proofs.Peeling.{bit-shr, bit-low}
 use Rattle.agent_rules.specs.Shape.{max_named}
 use Rattle.choosing.specs.Barring.{byte, byte_of}
 use Rattle.choosing.specs.declared.Bars.{Bars}
-use Rattle.packed.proofs.Fields.{exchanged, same, others}
+use Rattle.packed.specs.Packed.{exchanged}
+use Rattle.packed.proofs.Fields.{same, others}
 use Rattle.base.proofs.Searches.{is_some-halves}
 
 pow256 : (k : ℕ) → 256 ^ k ≡ 2 ^ (8 * k)
@@ -27,11 +28,11 @@ pow256 (suc k) = rw (pow-suc 256 k, pow256 k, mul-suc 8 k, pow-add 2 (8 * k) 8)
 
 -- ---- as the code has them
 
-byte_low : (b : Bars) (k : ℕ) → k ≤ 8 → byte_of b k ≡ b.low / 2 ^ (8 * (k - 1)) % 256
+pub byte_low : (b : Bars) (k : ℕ) → k ≤ 8 → byte_of b k ≡ b.low / 2 ^ (8 * (k - 1)) % 256
 unfolding byte_of byte
 byte_low b k h = rw (le-leb k 8 h, byte_of, pow256 (pred k), sub-one k)
 
-byte_high : (b : Bars) (k : ℕ) → 8 < k → byte_of b k ≡ b.high / 2 ^ (8 * (k - 9)) % 256
+pub byte_high : (b : Bars) (k : ℕ) → 8 < k → byte_of b k ≡ b.high / 2 ^ (8 * (k - 9)) % 256
 unfolding byte_of byte
 byte_high b k h = rw (lt-leb k 8 h, byte_of, pow256 (k - 9))
 

@@ -29,9 +29,6 @@ unfolding mask_from
 sparing-none nogoods k long = record { first = take-length nogoods; few = omega (arith, long); above = rw long }
 
 module _ (nogoods : List ℕ) (k : ℕ) (left : List ℕ) (mask : ℕ) (s : Sparing nogoods k left mask) where
-  pub sparing-all : length left ≡ 0 → mask ≡ mask_from (spares nogoods k) 1 8
-  sparing-all z = rw z at s.above
-
   module _ (left' : List ℕ) (x : ℕ) (last : left ≡ left' ++ x ∷ []) where
     one-fewer : length left ≡ suc (length left')
     one-fewer = omega (arith, ap length last, length-append left' (x ∷ []))

@@ -1,5 +1,6 @@
 -- The bytes of a view, agent by agent as a walk along the view's named digits finds them.
 -- The bytes are those of the view less the agents that are left.
+-- What a walk says of those left serves any walk along a word.
 use Prim.Native.Nat.{ℕ, ◌-◌, ◌≤◌}
 use mathlib.Core.Path.{◌≡◌, refl, ap, ◌∙◌, fun_ext, subst}
 use mathlib.Core.Bool.{true, cond}
@@ -17,23 +18,48 @@ use Rattle.choosing.specs.Barring.{Able, ViewFits, bans_in, barred_at, byte_of, 
 use Rattle.choosing.specs.declared.Bars.{Bars}
 use Rattle.choosing.specs.declared.Own.{Own}
 use Rattle.packed.proofs.Known.{known-true}
-use Rattle.choosing.proofs.Barrings.{seen, barred-at-bits, nothing-barred}
+use Rattle.choosing.proofs.Barrings.{seen, barred-at-bits, default-bars, nothing-barred}
+
+-- ---- those left
+
+-- they have their values still
+abbrev pub Left : Assignment → Assignment → Type 0
+Left view rest = (k : ℕ) → known (rest k) ≡ true → rest k ≡ view k
+
+pub left_then : (view rest : Assignment) (k : ℕ) → Left view rest → Left view (at rest k 0)
+unfolding known
+left_then view rest k left j e =
+    eq_test j k
+    (λ q. absurd (omega (arith, known-true (at rest k 0 j) e, ap (at rest k 0) q ∙ at_same rest k 0)))
+    (λ n. at_other rest k 0 j n ∙ left j (rw (at_other rest k 0 j n) at e))
+
+-- each is above, at a value that a word of bans has room for
+pub near : (own : Own) (words : List ℕ) (view rest : Assignment) → Able own words → ViewFits own view → Left view rest
+    → (k : ℕ) → 1 ≤ k → k ≤ 16 → known (rest k) ≡ true → (k ≤ length words) × (1 ≤ rest k) × (rest k ≤ 8)
+unfolding max_named max_domain
+near own words view rest able fits left k lo hi here =
+    let e = left k here in
+    let f = fits k lo hi (rw e at here) in
+    (omega (arith, f.0, able.bans), known-true (rest k) here, rw e f.1)
+
+-- ---- the bytes
 
 -- the view less the agents that are left
 unfoldable pub less : Assignment → Assignment → Assignment
 less view rest k = cond (known (rest k)) 0 (view k)
 
 pub record Walked (words : List ℕ) (view : Assignment) (b : Bars) (rest : Assignment) : Type 0 where
-  pub left : (k : ℕ) → known (rest k) ≡ true → rest k ≡ view k
+  pub left : Left view rest
   pub barring : Barring (bans_in words) (less view rest) b
 
-pub walk_begins : (words : List ℕ) (view : Assignment) → Walked words view record { low = 0; high = 0 } view
+pub walk_begins : (words : List ℕ) (view : Assignment) (b : Bars) → (b.low ≡ 0) × (b.high ≡ 0) → Walked words view b view
 unfolding less
-walk_begins words view =
-    record {
+walk_begins words view b zero =
+    rw (default-bars b zero)
+    (record {
       left = λ k e. refl;
       barring = nothing-barred (bans_in words) (less view view) (λ k l h. test (known (view k)) (λ t. rw t) (λ t. rw t (unknown-zero (view k) t)));
-    }
+    })
 
 pub walk_ends : (words : List ℕ) (view : Assignment) (b : Bars) → Walked words view b nobody → Barring (bans_in words) view b
 unfolding less nobody known
@@ -41,14 +67,6 @@ walk_ends words view b w = w.barring
 
 module _ (own : Own) (words : List ℕ) (view : Assignment) (b : Bars) (rest : Assignment) (able : Able own words) (fits : ViewFits own view)
     (w : Walked words view b rest) (k : ℕ) (lo : 1 ≤ k) (hi : k ≤ 16) (here : known (rest k) ≡ true) where
-  -- the agent is above, and its value one that a word of bans has room for
-  pub near : (k ≤ length words) × (1 ≤ rest k) × (rest k ≤ 8)
-  unfolding max_named max_domain
-  near =
-      let e = w.left k here in
-      let f = fits k lo hi (rw e at here) in
-      (omega (arith, f.0, able.bans), known-true (rest k) here, rw e f.1)
-
   one_less : at (less view rest) k (rest k) ≡ less view (at rest k 0)
   unfolding less known
   one_less =
@@ -59,15 +77,13 @@ module _ (own : Own) (words : List ℕ) (view : Assignment) (b : Bars) (rest : A
 
   pub walk-goes : (b' : Bars) → ((j : ℕ) → 1 ≤ j → j ≤ 16 → byte_of b' j ≡ at (byte_of b) k (barred_at (get_or words (k - 1) 0) (rest k)) j)
       → Walked words view b' (at rest k 0)
-  unfolding known max_domain
+  unfolding max_domain
   walk-goes b' changed =
+      let (bound, some, few) = near own words view rest able fits w.left k lo hi here in
       record {
-        left = λ j e.
-            eq_test j k
-            (λ q. absurd (omega (arith, known-true (at rest k 0 j) e, ap (at rest k 0) q ∙ at_same rest k 0)))
-            (λ n. at_other rest k 0 j n ∙ w.left j (rw (at_other rest k 0 j n) at e));
+        left = left_then view rest k w.left;
         barring =
             subst (λ (v : Assignment). Barring (bans_in words) v b') one_less
             (seen (bans_in words) (less view rest) b b' k (rest k) (barred_at (get_or words (k - 1) 0) (rest k)) w.barring changed
-            (λ u l h. barred-at-bits words k (rest k) lo near.0 near.1 near.2 u l h));
+            (λ u l h. barred-at-bits words k (rest k) lo bound some few u l h));
       }

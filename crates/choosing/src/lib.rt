@@ -1,4 +1,6 @@
 // What a view bars, and the rule 'Choosing' as far as it works on words: the lowest own value that is free, with reasons for those below it.
+// The mask of the stored reasons is handed over beside their words and what is barred, and is in no struct with either: an agent's record has it apart
+// from its nogoods, some of these functions need one and not the other, and the mask changes from one turn to the next while the words stay where they are.
 #![tactic(auto)]
 
 ghost use Rattle.std.specs.Prelude.{◌≡◌, true, not, ℕ, pred, ◌≤◌, length, get_or};
@@ -16,7 +18,10 @@ pub mod barring;
 use packed::{digit, with_digit};
 
 // An agent's number and domain (slot count), and the network's rule. The rule is its number, 1 or 2, and no enum: it is put here as a rail's record has it,
-// where it may be any number until the shape is tested, and a type of its own would ask each caller for a choice.
+// where it may be any number until the shape is tested, and a type of its own would ask each caller for a choice. Number and domain are within their bounds
+// wherever one is made; that is asked by clauses (`OwnFits`), since the bounds are of use to four functions here, and as an invariant they would be owed at the
+// literals of two crates above. The bans are lent beside it, and not in it: choosing and backing up (`choose`, `settle`) and the start (`begin`) have an `Own`
+// and look at no ban.
 #[derive(Clone, Copy, Debug, PartialEq, Eq)]
 pub struct Own {
     pub number: u8,
@@ -26,14 +31,15 @@ pub struct Own {
 
 // What an agent's view bars, worked out from the view and the bans: bit w - 1 of byte k - 1 says that agent k has a known value that bans own
 // value w. Agents 1 to 8 stand in `low`, 9 to 16 in `high`.
-#[derive(Clone, Copy, Debug, PartialEq, Eq)]
+#[derive(Clone, Copy, Debug, PartialEq, Eq, Default)]
 pub struct Bars {
     pub low: u64,
     pub high: u64,
 }
 
 // What choosing comes to: the value taken, if one is free, with what going through the own values comes to, the mask of those that have a reason then and
-// the join of the left sides met.
+// the join of the left sides met. The join stands beside the value, though only the other case needs it: as an enum the long run took 5.8 percent more
+// instructions.
 #[derive(Clone, Copy, Debug, PartialEq, Eq)]
 pub struct Choice {
     pub value: Option<u8>,
@@ -69,9 +75,9 @@ fn naming(nogoods: &[u64; 8], domain: u8, stored: u8) -> u64
 {
     let mut all = 0;
     let mut rest = stored;
-    for i in 0..domain {
+    for nogood in &nogoods[..domain as usize] {
         if rest % 2 == 1 {
-            all |= nogoods[i as usize];
+            all |= *nogood;
         }
         rest /= 2;
     }
@@ -97,7 +103,8 @@ fn blamed(nogoods: &[u64; 8], own: Own, bars: Bars, stored: u8, w: u8) -> u8
 // The own values 1 to `tried` are gone through upward, none of which is free: "A slot with a stored reason is skipped. A slot that is banned against a
 // known slot of the view gets the reason "that scanner has that slot"." The reasons are read as they stand when that value is tried. The left sides met,
 // stored ones and given ones, are joined on the way: after any number of values `whole` is the union of that many. Handed back are the mask of the own
-// values that have a reason then, and that join.
+// values that have a reason then, and that join. The loop goes by number, and over no iterator that lends the words: whom to blame is read off all of
+// them between two writes.
 fn give_reasons(
     nogoods: &mut [u64; 8],
     own: Own,

@@ -1,6 +1,6 @@
 -- The 132 channels: which pairs of agents have one, and its number as the code computes it.
-use Prim.Native.Nat.{ℕ, ◌+◌, ◌*◌, ◌-◌, ◌≤◌, ◌<◌}
-use mathlib.Core.Path.{◌≡◌}
+use Prim.Native.Nat.{ℕ, ◌+◌, ◌*◌, ◌-◌, ◌/◌, ◌%◌, ◌≤◌, ◌<◌}
+use mathlib.Core.Path.{◌≡◌, sym, ◌∙◌}
 use mathlib.Core.Bool.{true, not, ◌&&◌}
 use native.Mathlib.Omega.{arith}
 use lib.Dec.{eqb, ltb}
@@ -57,3 +57,15 @@ channel-below i j e =
     test (ltb j i)
     (λ s. rw (s, channel_at) (omega (arith, ltb-true j i s, b.to_low)))
     (λ s. rw (s, channel_at) (omega (arith, ltb-false j i s, n, b.from_low)))
+
+-- ---- and back: each sender has eleven, and is passed over itself
+
+pub ends_low : (c : ℕ) → c < 132 → c % 11 + 1 < c / 11 + 1 → (is_channel (c / 11 + 1) (c % 11 + 1) ≡ true) × (channel_at (c / 11 + 1) (c % 11 + 1) ≡ c)
+ends_low c l h =
+    let number : 11 * (c / 11 + 1 - 1) + (c % 11 + 1) - 1 ≡ c = omega arith in
+    (to-channel _ _ (omega arith) (omega arith) (omega arith) (omega arith) (λ e. omega arith), sym (channel-up (c / 11 + 1) (c % 11 + 1) (omega arith) h) ∙ number)
+
+pub ends-high : (c : ℕ) → c < 132 → c / 11 + 1 ≤ c % 11 + 1 → (is_channel (c / 11 + 1) (c % 11 + 1 + 1) ≡ true) × (channel_at (c / 11 + 1) (c % 11 + 1 + 1) ≡ c)
+ends-high c l h =
+    let number : 11 * (c / 11 + 1 - 1) + (c % 11 + 1 + 1) - 2 ≡ c = omega arith in
+    (to-channel _ _ (omega arith) (omega arith) (omega arith) (omega arith) (λ e. omega arith), sym (channel-down (c / 11 + 1) (c % 11 + 1 + 1) (omega arith) (omega arith)) ∙ number)

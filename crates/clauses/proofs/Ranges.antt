@@ -1,12 +1,14 @@
 -- The parts of `inRange` as the code tests them: n, and the domains, also as the digits of a word.
 use Prim.Native.Nat.{ℕ, zero, suc, ◌+◌, ◌*◌, ◌-◌, ◌/◌, ◌%◌, ◌^◌, ◌≤◌, ◌<◌}
-use mathlib.Core.Path.{◌≡◌, refl, ap, ◌∙◌}
+use mathlib.Core.Path.{◌≡◌, refl, sym, ap, ◌∙◌}
 use mathlib.Core.Bool.{true, false, ◌&&◌, and-false}
-use mathlib.Core.List.{List}
+use mathlib.Core.List.{List, [], ◌∷◌, ◌++◌}
 use native.Mathlib.Nat.{not-suc-le-zero, pow-suc, mod-lt, lt_of_lt_of_le, pow-le-pow_right}
 use native.Mathlib.Omega.{arith}
 use lib.Dec.{eqb, ltb, leb}
-use lib.ListN.{length, get_or, get_or-eq_default}
+use lib.ListN.{length, get_or, take, get_or-eq_default, length-append}
+use lib.Seq.{get_or-append_seam, take-append_seam}
+use Rattle.std.proofs.lemmas.List.{get_or-take, take-take}
 use borrow.Author.Tests.{lt-ltb, le-leb, lt-leb, ltb-true, ltb-false, leb-true, leb-false}
 use Rattle.base.specs.Finite.{from_one, within, all_to}
 use Rattle.base.proofs.Tests.{test, eq_test, to-within, not_within}
@@ -95,6 +97,18 @@ all_digits p domains i word s z e l (suc k) =
     ap (assignment word) h ∙ s.are (suc k) (omega arith) (ltb-true k 12 t) ∙ rw (e, g))
     (λ t. let h : word < 16 ^ 12 = rw z at s.small in
     rw (digit-above 12 word k h (ltb-false k 12 t), get_or-eq_default p.domains 0 {n = k} (omega (arith, ltb-false k 12 t))))
+
+-- going through a list from its end: of a stretch left, which is the list's front, the last is the list's item behind the others
+pub from-end : (l left others : List ℕ) (x : ℕ) → take (length left) l ≡ left → left ≡ others ++ (x ∷ [])
+    → (take (length others) l ≡ others) × (get_or l (length left - 1) 0 ≡ x) × (length left ≡ suc (length others))
+from-end l left others x e q =
+    let n = length others in
+    let more : length left ≡ suc n = omega (arith, ap length q, length-append others (x ∷ [])) in
+    let place : length left - 1 ≡ n = omega (arith, more) in (
+      sym (take-take n (length left) l (omega (arith, more))) ∙ ap (take n) (e ∙ q) ∙ take-append_seam others (x ∷ []),
+      rw place (sym (get_or-take (length left) l n 0 (omega (arith, more))) ∙ ap (λ (m : List ℕ). get_or m n 0) (e ∙ q) ∙ get_or-append_seam others x [] 0),
+      more,
+    )
 
 -- a problem in range has domains below 16
 pub small-domain : (p : Problem) → Ranged p → (k : ℕ) → domain p k % 16 ≡ domain p k

@@ -53,6 +53,7 @@ fn view_listened(domains: u64, listens: u16, view: Lhs) -> bool
 fn nogoods_fit(d: u8, a: Agent) -> bool
     ensures { (w : Network') (i : ℕ) → domain w.problem i ≡ d → w.agents i ≡ agent_of a → result ≡ nogoods_fit w i }
 {
+    // by number: it is the place of a bit and of a word, and a value
     for v in (0..8u8).rev() {
         if (a.stored >> v) % 2 == 1 && (d <= v || !within(a.nogoods[v as usize], a.view.digits)) {
             return false;
@@ -82,6 +83,7 @@ impl Frame {
         ensures { (w : Network') → w.problem.bans ≡ bans.now → ((k x : ℕ) → (w.agents k).informs x ≡ set_of self.now.informs k x) → (w.agents j).listens ≡ members listens → result ≡ heard w j }
     {
         let words = words_before(j);
+        // by number: it is an agent of three sets, and the place of a ban word
         for i in (1..j).rev() {
             let fits = if has(self.informs[i as usize - 1], j) {
                 has(listens, i)

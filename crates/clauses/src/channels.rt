@@ -1,5 +1,5 @@
 // The shape of one message.
-ghost use Rattle.std.specs.Prelude.{◌≡◌, true, ℕ, ◌≤◌};
+ghost use Rattle.std.specs.Prelude.{◌≡◌, true, ◌≤◌};
 ghost use Rattle.problem.specs.Problem.{Problem};
 ghost use Rattle.protocol.specs.Network.{Network as Network'};
 ghost use Rattle.protocol.specs.Shape.{lhs_fits};

@@ -13,8 +13,8 @@ pub fn domain_digits(domains: &[u8; 12]) -> u64
     ensures { (p : Problem) → p.domains ≡ domains.now → length p.domains ≡ 12 → (k : ℕ) → assignment result k ≡ domain p k % 16 }
 {
     let mut word: u64 = 0;
-    for i in (0..12).rev() {
-        word = word * 16 + (domains[i] % 16) as u64;
+    for d in domains.iter().rev() {
+        word = word * 16 + (*d % 16) as u64;
     }
     word
 }
@@ -35,6 +35,7 @@ fn domain_in_range(count: u8, i: u8, d: u8) -> bool
     if i <= count { 0 < d && d <= 8 } else { d == 0 }
 }
 
+#[tactic(auto, unfolding(base::specs::Finite::all_to, problem::specs::Problem::max_agents))]
 fn domains_in_range(count: u8, domains: &[u8; 12]) -> bool
     ensures { (p : Problem) → p.count ≡ count → p.domains ≡ domains.now → result ≡ all_to max_agents (domain_in_range p) }
 {
@@ -79,6 +80,8 @@ fn bans_of_owned(rows: &[u64; 12], columns: u64, bans: &[u64; 66], j: u8) -> boo
 {
     let words = words_before(j);
     let mut over: u64 = 0;
+    // by number: it is the place of a lower agent in both, in the rows and in the words behind those of the agents before; two iterators, cut to the same
+    // length and drawn together, would say no more
     for k in (0..j as usize - 1).rev() {
         over |= unowned(rows[k], columns, bans[words + k]);
     }
@@ -89,13 +92,10 @@ fn bans_of_owned(rows: &[u64; 12], columns: u64, bans: &[u64; 66], j: u8) -> boo
 fn all_beyond(domains: &[u8; 12]) -> [u64; 12]
     ensures { (length result ≡ 12) × ((i : ℕ) → i < 12 → Beyond (get_or domains.now i 0) (get_or result i 0)) }
 {
-    let mut rows = [0u64; 12];
-    for (k, d) in domains.iter().enumerate() {
-        rows[k] = beyond(*d);
-    }
-    rows
+    domains.map(beyond)
 }
 
+#[tactic(auto, unfolding(base::specs::Finite::all_to, problem::specs::Problem::max_agents, problem::specs::Problem::bans_owned))]
 fn bans_owned(domains: &[u8; 12], bans: &[u64; 66]) -> bool
     ensures { (p : Problem) → p.domains ≡ domains.now → p.bans ≡ bans.now → result ≡ bans_owned p }
 {

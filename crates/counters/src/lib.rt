@@ -10,6 +10,7 @@ pub struct Count {
 }
 
 impl Count {
+    // No `Default`: most tallies hold an output (`Out`) beside their counts, which has none, and would be made field by field all the same.
     pub fn none() -> Count
         ensures { result.n ≡ 0 }
     {

@@ -17,7 +17,7 @@ use refusals::Refusal;
 use turns::{Found, in_turn};
 
 // A line, by its ends: from one scanner to another. Any two numbers may stand here, as a host may wish or store them; 0 and 0 is no line.
-#[derive(Clone, Copy, PartialEq, Eq)]
+#[derive(Clone, Copy, Debug, PartialEq, Eq)]
 pub struct Line {
     pub from: u8,
     pub to: u8,
@@ -26,8 +26,9 @@ pub struct Line {
 // 0 and 0.
 pub const NO_LINE: Line = Line { from: 0, to: 0 };
 
-// The network, the count of picks, and the place: the line that an even pick served last, no line at first.
-#[derive(Clone, Copy)]
+// The network, the count of picks, and the place: the line that an even pick served last, no line at first. `place` is no `Option`: the record is handed over by
+// value, and the host may have put any two numbers there.
+#[derive(Clone, Copy, Debug, PartialEq, Eq)]
 pub struct Dispatcher {
     pub network: Network,
     pub picks: u64,
@@ -35,7 +36,7 @@ pub struct Dispatcher {
 }
 
 // The line served, or why the pick is refused; and the state.
-#[derive(Clone, Copy)]
+#[derive(Clone, Copy, Debug, PartialEq, Eq)]
 pub struct Picked {
     pub answer: Result<Line, Refusal>,
     pub state: Dispatcher,

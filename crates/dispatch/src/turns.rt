@@ -1,31 +1,24 @@
-// Going round the lines: the first in turn that can be delivered.
-ghost use Rattle.std.specs.Prelude.{◌≡◌, ◌≢◌, not, ◌&&◌, ◌≤◌, eqb, IfSome};
-ghost use Rattle.base.specs.Finite.{within};
+// Going round the lines: the first in turn that can be delivered. That a rail has at most 12 agents is asked by clauses, and is no invariant of the type:
+// a forged rail may say any number.
+ghost use Rattle.std.specs.Prelude.{◌≡◌, ◌≢◌, ◌≤◌, IfSome};
 ghost use Rattle.dispatch_rules.specs.Dispatch.{up_to, turn, first_of};
 ghost use Rattle.network.specs.Abstract.{network_of};
 ghost use Rattle.dispatch.specs.Abstract.{line_of, DeliveredAs};
 ghost use Rattle.dispatch.specs.Walking.{ahead_of, last_line, Stands, NextOf, SearchedAs};
 
 use crate::{Line, delivered};
+use clauses::places::is_line;
 use network::Network;
 use packed::digit;
 
 // The line that a search served, and the network behind it.
-#[derive(Clone, Copy)]
+#[derive(Clone, Copy, Debug, PartialEq, Eq)]
 pub struct Found {
     pub line: Line,
     pub network: Network,
 }
 
 impl Line {
-    // The numbers are 1 to n, and different.
-    #[tactic(auto, unfolding(base::specs::Finite::within))]
-    fn is_line(self, n: u8) -> bool
-        ensures { result ≡ within n self.from && within n self.to && not (eqb self.from self.to) }
-    {
-        0 < self.from && self.from <= n && (0 < self.to && self.to <= n) && self.from != self.to
-    }
-
     // By sender, then receiver: one receiver further, or one sender further, or over.
     fn next(self, n: u8) -> Option<Line>
         requires { Stands n self × (n ≤ 12) }
@@ -59,7 +52,8 @@ fn tried(r: Network, line: Line) -> Option<Network>
     }
 }
 
-// The first line that can be delivered, from one on, up to a last one where there is such.
+// The first line that can be delivered, from one on, up to a last one where there is such. A `while let`: the order of the lines shows that the walk ends. A
+// `for` over `successors` would owe the same of the runs of a closure, and its end as well.
 fn first_from(r: Network, first: Option<Line>, last: Option<Line>) -> Option<Found>
     requires stands { IfSome first (λ l. Stands r.count l) }
     requires apart { IfSome last (λ l. l.from ≢ l.to) }
@@ -85,7 +79,7 @@ pub fn in_turn(r: Network, place: Line) -> Option<Found>
     ensures { SearchedAs r (first_of (network_of r) (turn (network_of r) (line_of place))) result }
 {
     let start = Some(Line { from: 1, to: 1 });
-    if place.is_line(r.count) {
+    if is_line(r.count, place.from, place.to) {
         let behind = first_from(r, place.next(r.count), None);
         if behind.is_some() {
             behind

@@ -30,6 +30,8 @@ pub fn settle(sheet: &[u8], rounds: u64) -> Result<Answer, Refusal>
 
 // ---- the text
 
+// A rail may say any number of scanners, so that a clause asks for at most 12.
+
 // A line for scanner i.
 fn append_slot(out: &mut Cursor<'_>, i: u8, v: u8)
     requires { Room out.old 55 }

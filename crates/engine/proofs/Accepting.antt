@@ -4,6 +4,7 @@ use mathlib.Core.Bool.{Bool, true, false}
 use mathlib.Core.Path.{◌≡◌, sym, ◌∙◌}
 use mathlib.Core.List.{List, []}
 use lib.ListN.{length, set, length-set}
+use Rattle.std.specs.Prelude.{Option, Some}
 use Rattle.base.specs.Finite.{at}
 use Rattle.problem.specs.Problem.{pairs_before}
 use Rattle.agent_rules.specs.Message.{Post as Post'}
@@ -24,22 +25,22 @@ use Rattle.network_laws.proofs.Posting.{Posting}
 use Rattle.engine.proofs.Storing.{stays-clean}
 use Rattle.engine.proofs.Visiting.{line-channel, line-ends, jams, accepts}
 
-module _ {once : Bool} {whole : Worked} {o : Network} {n : ℕ} {domains bans : List ℕ} {bars : List Bars} {ready : ℕ}
+module _ {once : Bool} {whole : Worked} {o : Network} {n : ℕ} {domains bans : List ℕ} {bars : List (Option Bars)}
     {quota : List ℕ} {missed : Bool} {left made : ℕ} {stuck : Bool} {i rest : ℕ}
-    (h : Here once whole o n domains bans bars ready quota missed left made stuck i rest)
+    (h : Here once whole o n domains bans bars quota missed left made stuck i rest)
     (v : Visit) (nv : NextVisit quota n i rest v) (g : o.verdict ≡ false) where
-  abbrev L : Live o n domains bans bars ready
+  abbrev L : Live o n domains bans bars
   L = h.live
 
-  module _ (bars' : List Bars) (ready' : ℕ) (wide : length bars' ≡ 12) (barred : Barred bans o.agents bars' ready') {x : ℕ} {step : Step}
+  module _ (bars' : List (Option Bars)) (wide : length bars' ≡ 12) (barred : Barred bans o.agents bars') {x : ℕ} {step : Step}
       (s : Stepped o v.from v.to x step) {p : Network} {unsent : List Post'} {now : ℕ}
       (st : Posting o v.to (posts_left step.posts step.backs) unsent p now) where
     -- no room
     pub stored-jams : row_fits (held_at o.counts v.to) (posts_left step.posts step.backs) ≡ false → {rest' : ℕ} → assignment rest' ≡ at (assignment v.rest) v.to 0
-        → Here once whole p n domains bans bars' ready' quota true left made stuck v.from rest'
+        → Here once whole p n domains bans bars' quota true left made stuck v.from rest'
     stored-jams f {rest'} cut =
         let k = st.kept in
-        jams h v nv g p bars' ready' rest' (finds-no-room s f) st.network st.sized
+        jams h v nv g p bars' rest' (finds-no-room s f) st.network st.sized
         (record {
           shape = rw st.network L.shape;
           count = L.count ∙ sym k.count;
@@ -55,13 +56,13 @@ module _ {once : Bool} {whole : Worked} {o : Network} {n : ℕ} {domains bans : 
     pub stored-goes : unsent ≡ [] → {heads counts : ℕ} → Taken (rowed p v.to now) v.from v.to heads counts
         → (a : ℕ) → a ≡ pairs_before (pred v.to) → BarsOf bans v.to a step.agent step.bars
         → Here once whole (arrived (rowed p v.to now) v.from v.to heads counts step.agent step.verdict) n domains bans
-        (set bars' (v.to - 1) step.bars) ready' quota missed left made false v.from v.rest
+        (set bars' (v.to - 1) (Some step.bars)) quota missed left made false v.from v.rest
     stored-goes none {heads} {counts} t a e b =
         let P = st in
         let k = P.kept in
         let E = line-ends h v nv in
         accepts h v nv g (arrived (rowed p v.to now) v.from v.to heads counts step.agent step.verdict)
-        (set bars' (v.to - 1) step.bars) ready' _ (delivers s P none t)
+        (set bars' (v.to - 1) (Some step.bars)) _ (delivers s P none t)
         (arrived-sized (rowed p v.to now) v.from v.to heads counts step.agent step.verdict (counted-sized p _ P.sized (rw length-set P.sized.counts)))
         (λ shape.
         record {
@@ -73,5 +74,5 @@ module _ {once : Bool} {whole : Worked} {o : Network} {n : ℕ} {domains bans : 
           beside = rw length-set wide;
           barred =
               rw k.agents
-              (bars-stored bans v.to a E.to_low E.to_high e o.agents bars' ready' wide barred step.agent step.bars h.sized.agents b);
+              (bars-stored bans v.to a E.to_low E.to_high e o.agents bars' wide barred step.agent step.bars h.sized.agents b);
         })

@@ -1,7 +1,7 @@
 -- A sender's row of counts, less the digits that are no channel's, is what it holds for each receiver; nothing waits where it is 0.
 use Prim.Native.Nat.{ℕ, zero, suc, ◌+◌, ◌-◌, ◌^◌, ◌≤◌, ◌<◌}
 use mathlib.Core.Bool.{Bool, true, false}
-use mathlib.Core.Path.{◌≡◌, refl, sym, ap, ◌∙◌}
+use mathlib.Core.Path.{◌≡◌, sym, ap, ◌∙◌}
 use mathlib.Core.Logic.{◌≢◌}
 use mathlib.Core.List.{List}
 use native.Mathlib.Omega.{arith}
@@ -42,9 +42,6 @@ pub record Cleaning (counts rows : List ℕ) (m : ℕ) : Type 0 where
   pub width : length rows ≡ 12
   pub done : (i j : ℕ) → 1 ≤ i → i ≤ m → row_of rows i j ≡ held_at counts i j
   pub ahead : (i : ℕ) → m < i → row_of rows i ≡ row_of counts i
-
-pub cleaning-starts : (counts : List ℕ) → length counts ≡ 12 → Cleaning counts counts 0
-cleaning-starts counts e = record { high = omega arith; width = e; done = λ i j l h. absurd (omega arith); ahead = λ i h. refl }
 
 pub one-cleaned : (counts rows : List ℕ) (m r : ℕ) → Cleaning counts rows m → m < 12 → Lines rows m r → Cleaning counts (set rows m r) (m + 1)
 unfolding held_at

@@ -6,6 +6,7 @@ use mathlib.Core.Path.{◌≡◌}
 use mathlib.Core.List.{List, []}
 use lib.Dec.{eqb}
 use lib.ListN.{length}
+use Rattle.std.specs.Prelude.{Option}
 use Rattle.base.specs.Finite.{any}
 use Rattle.base.proofs.Lists.{All}
 use Rattle.choosing.specs.declared.Bars.{Bars}
@@ -42,24 +43,24 @@ pub data Kind (once missed : Bool) (left made waited : ℕ) (end : Sweep → Wor
       → Kind once missed left made waited end
 
 -- what a network in shape has
-pub record Live (o : Network) (n : ℕ) (domains bans : List ℕ) (bars : List Bars) (ready : ℕ) : Type 0 where
+pub record Live (o : Network) (n : ℕ) (domains bans : List ℕ) (bars : List (Option Bars)) : Type 0 where
   pub shape : in_shape (network_of o) ≡ true
   pub count : n ≡ o.count
   pub clean : Clean o.counts
   pub owned : domains ≡ o.domains
   pub table : bans ≡ o.bans
   pub beside : length bars ≡ 12
-  pub barred : Barred bans o.agents bars ready
+  pub barred : Barred bans o.agents bars
 
 -- what was delivered and what is ahead is all that waited when the round began, exactly if nothing was missed; the round is stuck if it has delivered
 -- nothing; no line ahead is passed over
-pub record Here (once : Bool) (whole : Worked) (o : Network) (n : ℕ) (domains bans : List ℕ) (bars : List Bars) (ready : ℕ) (quota : List ℕ)
+pub record Here (once : Bool) (whole : Worked) (o : Network) (n : ℕ) (domains bans : List ℕ) (bars : List (Option Bars)) (quota : List ℕ)
     (missed : Bool) (left made : ℕ) (stuck : Bool) (i rest : ℕ) : Type 0 where
   pub sized : FullArrays o
   pub agents : n ≤ 12
   pub high : i ≤ n
   pub few : made + left ≤ 1000000
-  pub live : Live o n domains bans bars ready
+  pub live : Live o n domains bans bars
   pub waited : ℕ
   pub delivered : ℕ
   pub tried : List Try

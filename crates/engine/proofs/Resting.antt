@@ -71,9 +71,9 @@ stop-test {verdict} {stuck} {waits} {left} (round-stuck e) = or_left (verdict ||
 stop-test {verdict} {stuck} {waits} {left} (nothing-waits e) = or_left (verdict || stuck || not waits) (eqb left 0) (or_right (verdict || stuck) (not waits) (rw e))
 stop-test {verdict} {stuck} {waits} {left} (rounds-used e) = or_right (verdict || stuck || not waits) (eqb left 0) (eq-eqb left 0 e)
 
-module _ {once : Bool} {whole : Worked} {o : Network} {n : ℕ} {domains bans : List ℕ} {bars : List Bars} {ready : ℕ}
+module _ {once : Bool} {whole : Worked} {o : Network} {n : ℕ} {domains bans : List ℕ} {bars : List (Option Bars)}
     {quota : List ℕ} {missed : Bool} {left made : ℕ} {stuck : Bool} {i rest : ℕ}
-    (h : Here once whole o n domains bans bars ready quota missed left made stuck i rest)
+    (h : Here once whole o n domains bans bars quota missed left made stuck i rest)
     (none_ahead : ahead quota n i rest ≡ []) where
   abbrev now : Sweep
   now = sweep_of o h.delivered h.tried
@@ -157,12 +157,12 @@ module _ {once : Bool} {whole : Worked} {o : Network} {n : ℕ} {domains bans : 
       unvisited [] = tt
       unvisited (l ∷ ls) = (refl, unvisited ls)
 
-      pub round-begins : Here once whole o n domains bans bars ready o.counts false (left - 1) m true 0 0
+      pub round-begins : Here once whole o n domains bans bars o.counts false (left - 1) m true 0 0
       unfolding begin_round
       round-begins = go h.kind
         where
           go : Kind once missed left made h.waited h.end
-              → Here once whole o n domains bans bars ready o.counts false (left - 1) m true 0 0
+              → Here once whole o n domains bans bars o.counts false (left - 1) m true 0 0
           go (single b y z f q) = absurd (more z)
           go (rounds b after q) =
               record {

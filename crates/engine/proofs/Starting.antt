@@ -1,26 +1,24 @@
 -- The work as it begins: it ends at once where the shape is broken or a delivery is refused by its numbers, a verdict or an empty line; nothing is ahead before
 -- a run's first round, and one line where a delivery has found a message.
-use Prim.Native.Nat.{ℕ, zero, suc, ◌+◌, ◌-◌, ◌≤◌}
+use Prim.Native.Nat.{ℕ, ◌+◌, ◌-◌, ◌≤◌}
 use mathlib.Core.Bool.{Bool, true, false, not, ◌&&◌, false≢true}
 use mathlib.Core.Path.{◌≡◌, refl, sym, ap, ◌∙◌}
 use mathlib.Core.Logic.{◌≢◌}
-use Rattle.std.specs.Prelude.{Some}
+use Rattle.std.specs.Prelude.{Some, Option, None}
 use mathlib.Core.List.{List, [], ◌∷◌}
 use native.Mathlib.Omega.{arith}
 use lib.Dec.{eqb}
 use lib.ListN.{length, replicate}
 use borrow.Author.Tests.{eqb-true, ne_eqb}
-use Rattle.base.specs.Finite.{at, from_one, within, any}
+use Rattle.base.specs.Finite.{at, within, any}
 use Rattle.base.proofs.Arrays.{get_or-same}
 use Rattle.base.proofs.Gathers.{gather-one, gather_none}
 use Rattle.base.proofs.Search.{at_same, at_other}
 use Rattle.base.proofs.Tests.{test, to-within, both, to_both}
-use Rattle.problem.specs.Problem.{max_agents}
 use Rattle.agent_rules.specs.Message.{Message as Message', nobody}
 use Rattle.agent_rules.specs.Shape.{max_named}
 use Rattle.packed.specs.Packed.{assignment}
 use Rattle.packed.proofs.Digits.{nobody-assigned}
-use Rattle.packed.proofs.Sets.{no-members}
 use Rattle.choosing.specs.declared.Bars.{Bars}
 use Rattle.protocol.specs.Shape.{in_shape}
 use Rattle.protocol.specs.Delivery.{
@@ -36,16 +34,20 @@ use Rattle.protocol.specs.Delivery.{
   deliver,
 }
 use Rattle.protocol.specs.Run.{idle, stopped as stopped', passed_over, tally, sweep, one_if, is_line, is_stuck}
-use Rattle.shape_laws.proofs.ShapeClauses.{shaped}
 use Rattle.shape_laws.proofs.RunFaults.{Tried, tried}
 use Rattle.base.proofs.Counting.{count_if}
 use Rattle.network.specs.declared.Network.{Network}
 use Rattle.network.specs.Abstract.{is_channel, row_of, problem_of, network_of}
+use Rattle.network.proofs.Zeros.{zero_row}
 use Rattle.network_laws.specs.Held.{held_at, Clean}
 use Rattle.network_laws.proofs.Changes.{FullArrays, counted, counted-sized, counted-channel, channel-held}
+use Rattle.network_laws.proofs.Stepping.{few-agents}
 use Rattle.network_laws.proofs.Rejecting.{bad-shape, bad-numbers, stands, tries as finds}
 use Rattle.engine.specs.Lines.{line, cell, row, ahead}
-use Rattle.engine.specs.Working.{ends_by, tested_by, Worked, stopped_with, delivered_as, ran_as, work_by}
+use Rattle.engine.specs.Working.{ends_by, tested_by, Worked, stopped_with, delivered_as, ran_as}
+use Rattle.engine.specs.Tasks.{allowed_of, work_by}
+use Rattle.engine.specs.declared.Task.{Task}
+use Rattle.engine.specs.declared.Task.TheVariants.{Deliver, Run}
 use Rattle.refusals.proofs.Numbers.{refusal-some}
 use Rattle.refusals.specs.Refusals.{refusal_number}
 use Rattle.refusals.specs.declared.Refusal.{Refusal}
@@ -67,11 +69,12 @@ pub record Rows (counts rows : List ℕ) : Type 0 where
   pub width : length rows ≡ 12
   pub held : (i j : ℕ) → row_of rows i j ≡ held_at counts i j
 
--- how the work begins on n agents: a run with no line ahead, a delivery with the one that it has found a message on
-pub data Began (once : Bool) (i j n : ℕ) (verdict : Bool) (rows : List ℕ) (from rest : ℕ) : Type 0 where
-  running : once ≡ false → from ≡ n → rest ≡ 0 → Began once i j n verdict rows from rest
-  found : once ≡ true → 0 ≡ tested_by n verdict rows i j → from ≡ i
-      → assignment rest ≡ at (assignment 0) j (assignment 0 j + 1) → Began once i j n verdict rows from rest
+-- how the work on a task begins on n agents: whether it is a delivery, the sender, its lines ahead and the rounds left. A run has no line ahead, a delivery the
+-- one that it has found a message on
+pub data Began (task : Task) (n : ℕ) (verdict : Bool) (rows : List ℕ) (begin : Bool × ℕ × ℕ × ℕ) : Type 0 where
+  running : (allowed : ℕ) → task ≡ Run allowed → begin ≡ (false, n, 0, allowed) → Began task n verdict rows begin
+  found : (i j rest : ℕ) → task ≡ Deliver i j → begin ≡ (true, i, rest, 0) → 0 ≡ tested_by n verdict rows i j
+      → assignment rest ≡ at (assignment 0) j (assignment 0 j + 1) → Began task n verdict rows begin
 
 -- ---- clean rows
 
@@ -92,14 +95,6 @@ module _ (r : Network) (rows : List ℕ) (h : Rows r.counts rows) where
 
 -- ---- no bars are worked out, and no line has a quota
 
-abbrev zeros : List ℕ
-zeros = replicate 12 0
-
-zero_row : (x j : ℕ) → row_of (replicate 12 0) x j ≡ 0
-unfolding row_of from_one nobody
-zero_row zero j = rw nobody-assigned
-zero_row (suc x) j = rw (get_or-same {A = ℕ} 12 0 x, nobody-assigned)
-
 -- one line alone
 one-ahead : (n i j rest : ℕ) → 1 ≤ j → j ≤ 16 → assignment rest ≡ at (assignment 0) j (assignment 0 j + 1)
     → ahead (replicate 12 0) n i rest ≡ line i j ∷ []
@@ -107,7 +102,7 @@ unfolding nobody max_named
 one-ahead n i j rest lo hi e =
     let one : assignment rest j ≡ 1 = rw (e, at_same (assignment 0) j (assignment 0 j + 1), nobody-assigned) in
     let others : (k : ℕ) → k ≢ j → assignment rest k ≡ 0 = λ k d. rw (e, at_other (assignment 0) j (assignment 0 j + 1) k d, nobody-assigned) in
-    rw (gather-one 16 1 j (cell (assignment rest) i) lo (omega arith) (λ k d. ap (λ (v : ℕ). replicate v (line i k)) (others k d)), one, gather_none (n - i) (i + 1) (λ x. row (row_of (replicate 12 0) x) x) (λ x l u. gather_none 16 1 (cell (row_of (replicate 12 0) x) x) (λ y a b. ap (λ (v : ℕ). replicate v (line x y)) (zero_row x y))))
+    rw (gather-one 16 1 j (cell (assignment rest) i) lo (omega arith) (λ k d. ap (λ (v : ℕ). replicate v (line i k)) (others k d)), one, gather_none (n - i) (i + 1) (λ x. row (row_of (replicate 12 0) x) x) (λ x l u. gather_none 16 1 (cell (row_of (replicate 12 0) x) x) (λ y a b. ap (λ (v : ℕ). replicate v (line x y)) (zero_row 12 x y))))
 
 -- ---- the work begins, or ends at once
 
@@ -125,15 +120,13 @@ stopped o r x e s =
     }
 
 -- the shape is broken
-pub breaks : (once : Bool) (i j allowed : ℕ) (r : Network) → in_shape (network_of r) ≡ false
-    → WorksAs (work_by once i j allowed (network_of r)) (record { network = r; rounds = 0; refusal = Some Shapeless; ending = Broken })
+pub breaks : (task : Task) (r : Network) → in_shape (network_of r) ≡ false
+    → WorksAs (work_by task (network_of r)) (record { network = r; rounds = 0; refusal = Some Shapeless; ending = Broken })
 unfolding work_by delivered_as rejecting answer_number rejection_number ending_of ends_by
-breaks once i j allowed r s =
-    stopped r Shapeless Broken
-    (test once (λ b. rw (b, work_by) (ap delivered_as (bad-shape (network_of r) i j s))) (λ b. rw (b, work_by, s)))
-    refl
+breaks (Deliver i j) r s = stopped r Shapeless Broken (ap delivered_as (bad-shape (network_of r) i j s)) refl
+breaks (Run allowed) r s = stopped r Shapeless Broken (rw (s, work_by)) refl
 
-module _ (once : Bool) (i j allowed : ℕ) (r : Network) (rows : List ℕ) (h : Rows r.counts rows) (s : in_shape (network_of r) ≡ true) where
+module _ (r : Network) (rows : List ℕ) (h : Rows r.counts rows) (s : in_shape (network_of r) ≡ true) where
   abbrev o : Network
   o = counted r rows
 
@@ -144,128 +137,129 @@ module _ (once : Bool) (i j allowed : ℕ) (r : Network) (rows : List ℕ) (h : 
   o-shape = rw same-network s
 
   o-few : r.count ≤ 12
-  unfolding network_of problem_of max_agents
-  o-few = (shaped (network_of r) s).range.high
+  o-few = few-agents r s
 
-  o-live : (bars : List Bars) → length bars ≡ 12 → Live o r.count o.domains o.bans bars 0
-  o-live bars wide =
+  o-live : Live o r.count o.domains o.bans (replicate 12 None)
+  o-live =
       record {
         shape = o-shape;
         count = refl;
         clean = rows-clean r rows h;
         owned = refl;
         table = refl;
-        beside = wide;
-        barred = λ k l u t. absurd (false≢true (sym (no-members k) ∙ t));
+        beside = refl;
+        barred = λ i l u. rw (get_or-same {A = Option Bars} 12 None (i - 1)) tt;
       }
-
-  numbers-bad : within r.count i && within r.count j && not (eqb i j) ≡ false → numbers_good (network_of o) i j ≡ false
-  unfolding numbers_good network_of problem_of
-  numbers-bad e = e
 
   verdict-is : (b : Bool) → r.verdict ≡ b → (network_of o).verdict ≡ b
   unfolding network_of
   verdict-is b e = e
 
-  good-numbers : Good r.count i j → numbers_good (network_of o) i j ≡ true
-  unfolding numbers_good network_of problem_of
-  good-numbers good =
-      to_both _ _ (to_both _ _ (to-within r.count i good.from_low good.from-high) (to-within r.count j good.to_low good.to_high))
-      (rw (ne_eqb i j good.apart))
+  -- what the tests of a delivery mean
+  module _ (i j : ℕ) where
+    numbers-bad : within r.count i && within r.count j && not (eqb i j) ≡ false → numbers_good (network_of o) i j ≡ false
+    unfolding numbers_good network_of problem_of
+    numbers-bad e = e
 
-  nothing : row_of rows i j ≡ 0 → (network_of o).channel i j ≡ []
-  nothing e = empty ((network_of o).channel i j) (channel-held o i j ∙ sym (rows-clean r rows h i j) ∙ e)
-    where
-      empty : (ms : List Message') → length ms ≡ 0 → ms ≡ []
-      empty [] q = refl
-      empty (m ∷ ms) q = absurd (omega arith)
+    good-numbers : Good r.count i j → numbers_good (network_of o) i j ≡ true
+    unfolding numbers_good network_of problem_of
+    good-numbers good =
+        to_both _ _ (to_both _ _ (to-within r.count i good.from_low good.from-high) (to-within r.count j good.to_low good.to_high))
+        (rw (ne_eqb i j good.apart))
 
-  finds-nothing : Good r.count i j → r.verdict ≡ false → row_of rows i j ≡ 0 → deliver (network_of o) i j ≡ rejecting EmptyChannel (network_of o)
-  unfolding deliver_head
-  finds-nothing x v y = finds (network_of o) i j o-shape (good-numbers x) (verdict-is false v) [] (nothing y)
+    nothing : row_of rows i j ≡ 0 → (network_of o).channel i j ≡ []
+    nothing e = empty ((network_of o).channel i j) (channel-held o i j ∙ sym (rows-clean r rows h i j) ∙ e)
+      where
+        empty : (ms : List Message') → length ms ≡ 0 → ms ≡ []
+        empty [] q = refl
+        empty (m ∷ ms) q = absurd (omega arith)
 
-  -- a delivery that is refused
-  refuses : (x : Rejection) (number : ℕ) → number ≡ rejection_number x → once ≡ true → deliver (network_of o) i j ≡ rejecting x (network_of o)
-      → work_by once i j allowed (network_of r) ≡ stopped_with (network_of o) number
-  unfolding work_by delivered_as rejecting answer_number
-  refuses x number e b d = ap (work_by once i j allowed) (sym same-network) ∙ rw (b, work_by, e) (ap delivered_as d)
+    finds-nothing : Good r.count i j → r.verdict ≡ false → row_of rows i j ≡ 0 → deliver (network_of o) i j ≡ rejecting EmptyChannel (network_of o)
+    unfolding deliver_head
+    finds-nothing x v y = finds (network_of o) i j o-shape (good-numbers x) (verdict-is false v) [] (nothing y)
 
-  pub refused : once ≡ true → (why : Refusal) → refusal_number why ≡ tested_by r.count r.verdict rows i j → (w : Bool) → Waits o r.count w
+    -- a delivery that is refused
+    refuses : (x : Rejection) (number : ℕ) → number ≡ rejection_number x → deliver (network_of o) i j ≡ rejecting x (network_of o)
+        → work_by (Deliver i j) (network_of r) ≡ stopped_with (network_of o) number
+    unfolding work_by delivered_as rejecting answer_number
+    refuses x number e d = ap (work_by (Deliver i j)) (sym same-network) ∙ rw e (ap delivered_as d)
+
+  pub refused : (i j : ℕ) (why : Refusal) → refusal_number why ≡ tested_by r.count r.verdict rows i j → (w : Bool) → Waits o r.count w
       → (x : Ending) → ending_of x ≡ ends_by false r.verdict (not w) 0
-      → WorksAs (work_by once i j allowed (network_of r)) (record { network = o; rounds = 0; refusal = Some why; ending = x })
+      → WorksAs (work_by (Deliver i j) (network_of r)) (record { network = o; rounds = 0; refusal = Some why; ending = x })
   unfolding rejection_number
-  refused b why t w ew x e =
+  refused i j why t w ew x e =
       stopped o why x (go (tests r.count r.verdict rows i j (refusal_number why) t))
       (e ∙ ap (λ (z : Bool). ends_by false r.verdict z 0) (idle-by o o-shape (rows-clean r rows h) r.count refl w ew)
       ∙ sym (word-once r.verdict (idle (network_of o)) (refusal_number why) (never-five r.count r.verdict rows i j (refusal_number why) t)))
     where
       go : Tested r.count r.verdict rows i j (refusal_number why)
-          → work_by once i j allowed (network_of r) ≡ stopped_with (network_of o) (refusal_number why)
-      go (is-bad g q) = refuses BadNumbers (refusal_number why) q b (bad-numbers (network_of o) i j o-shape (numbers-bad g))
-      go (is-over g v q) = refuses VerdictStands (refusal_number why) q b (stands (network_of o) i j o-shape (good-numbers g) (verdict-is true v))
-      go (is-empty g v y q) = refuses EmptyChannel (refusal_number why) q b (finds-nothing g v y)
+          → work_by (Deliver i j) (network_of r) ≡ stopped_with (network_of o) (refusal_number why)
+      go (is-bad g q) = refuses i j BadNumbers (refusal_number why) q (bad-numbers (network_of o) i j o-shape (numbers-bad i j g))
+      go (is-over g v q) = refuses i j VerdictStands (refusal_number why) q (stands (network_of o) i j o-shape (good-numbers i j g) (verdict-is true v))
+      go (is-empty g v y q) = refuses i j EmptyChannel (refusal_number why) q (finds-nothing i j g v y)
       go (is_found g v y q) = absurd (refusal-some why q)
 
-  module _ (few : allowed ≤ 1000000) (bars : List Bars) (wide : length bars ≡ 12) (z : FullArrays r) where
+  module _ (z : FullArrays r) where
     -- the head of the loop
-    abbrev Head : ℕ → ℕ → Type 0
-    Head from rest =
-        Here once (work_by once i j allowed (network_of r)) o r.count o.domains o.bans bars 0 (replicate 12 0) true allowed 0 once from rest
+    abbrev Head : Task → Bool → ℕ → ℕ → ℕ → Type 0
+    Head task once from rest left =
+        Here once (work_by task (network_of r)) o r.count o.domains o.bans (replicate 12 None) (replicate 12 0) true left 0 once from rest
         × Settled o (replicate 12 0) r.count from rest
 
     o-sized : FullArrays o
     o-sized = counted-sized r rows z h.width
 
-    runs : once ≡ false → Head r.count 0
+    runs : (allowed : ℕ) → allowed ≤ 1000000 → Head (Run allowed) false r.count 0 allowed
     unfolding sweep count_if work_by onward one_if is_stuck
-    runs e =
+    runs allowed few =
         let none_ahead : ahead (replicate 12 0) r.count r.count 0 ≡ [] = ahead_none (replicate 12 0) r.count r.count 0 refl (omega arith) in (
           record {
             sized = o-sized;
             agents = o-few;
             high = omega arith;
             few = omega arith;
-            live = o-live bars wide;
+            live = o-live;
             waited = 2;
             delivered = 1;
             tried = [];
-            stuck_is = e;
+            stuck_is = refl;
             most = rw none_ahead (omega arith);
             missing = rw none_ahead;
             supplied = rw none_ahead (record { lines = tt; enough = λ x y. omega arith });
             fresh = rw none_ahead tt;
             end = λ t. ran_as (further allowed 0 2 (λ _. []) t);
-            kind = rounds e (λ _. []) (λ t. refl);
-            same = ap (work_by once i j allowed) (sym same-network) ∙ rw (e, work_by, o-shape, none_ahead);
+            kind = rounds refl (λ _. []) (λ t. refl);
+            same = ap (work_by (Run allowed)) (sym same-network) ∙ rw (o-shape, work_by, none_ahead);
           },
           λ _. none_ahead,
         )
 
     -- a delivery that has found a message
-    delivers : (rest : ℕ) → allowed ≡ 0 → once ≡ true → Good r.count i j → r.verdict ≡ false → row_of rows i j ≢ 0
-        → assignment rest ≡ at (assignment 0) j (assignment 0 j + 1) → Head i rest
+    delivers : (i j rest : ℕ) → Good r.count i j → r.verdict ≡ false → row_of rows i j ≢ 0
+        → assignment rest ≡ at (assignment 0) j (assignment 0 j + 1) → Head (Deliver i j) true i rest 0
     unfolding sweep count_if round_number work_by delivered_as is_line one_if network_of tally stopped' passed_over any
-    delivers rest a b good v some-held er =
+    delivers i j rest good v some-held er =
         let one : ahead (replicate 12 0) r.count i rest ≡ line i j ∷ [] = one-ahead r.count i j rest good.to_low (omega (arith, good.to_high, o-few)) er in (
           record {
             sized = o-sized;
             agents = o-few;
             high = good.from-high;
             few = omega arith;
-            live = o-live bars wide;
+            live = o-live;
             waited = 2;
             delivered = 0;
             tried = [];
-            stuck_is = b;
+            stuck_is = refl;
             most = rw one (omega arith);
             missing = rw one;
-            supplied = rw one (record { lines = (good-numbers good, tt); enough = λ x y. enough x y });
+            supplied = rw one (record { lines = (good-numbers i j good, tt); enough = λ x y. enough x y });
             fresh = rw one (refl, tt);
             end = stopped_as;
-            kind = single b refl a refl (λ t. refl);
+            kind = single refl refl refl refl (λ t. refl);
             same =
-                ap (work_by once i j allowed) (sym same-network)
-                ∙ rw (b, work_by, one)
+                ap (work_by (Deliver i j)) (sym same-network)
+                ∙ rw one
                 (ap (stopped_with (deliver (network_of o) i j).network) (sym (one_number (network_of o) i j (deliver (network_of o) i j) answered))
                 ∙ ap stopped_as (sym (tries (sweep_of o 0 []) (line i j) v refl)));
           },
@@ -276,7 +270,7 @@ module _ (once : Bool) (i j allowed : ℕ) (r : Network) (rows : List ℕ) (h : 
         waits = omega (arith, channel-held o i j, rows-clean r rows h i j, some-held)
 
         answered : Tried (network_of o) i j (deliver (network_of o) i j)
-        answered = tried (network_of o) i j o-shape (good-numbers good) v waits
+        answered = tried (network_of o) i j o-shape (good-numbers i j good) v waits
 
         enough : (x y : ℕ) → count_if (is_line x y) (line i j ∷ []) ≤ length ((network_of o).channel x y)
         enough x y =
@@ -284,12 +278,14 @@ module _ (once : Bool) (i j allowed : ℕ) (r : Network) (rows : List ℕ) (h : 
             (λ t. let q = both (eqb x i) (eqb y j) t in rw (t, eqb-true x i q.0, eqb-true y j q.1) (omega (arith, waits)))
             (λ t. rw t (omega arith))
 
-    pub begins : {from rest : ℕ} → Began once i j r.count r.verdict rows from rest → (once ≡ true → allowed ≡ 0) → Head from rest
-    begins (running b f d) a = rw (f, d) (runs b)
-    begins {from} {rest} (found b t f d) a = rw f (go (tests r.count r.verdict rows i j 0 t))
+    pub begins : {task : Task} {b : Bool × ℕ × ℕ × ℕ} → Began task r.count r.verdict rows b → allowed_of task ≤ 1000000
+        → Head task b.0 b.1 b.2 b.3
+    unfolding allowed_of
+    begins (running allowed e b) few = rw (e, b) (runs allowed (rw e at few))
+    begins (found i j rest e b t d) few = rw (e, b) (go (tests r.count r.verdict rows i j 0 t))
       where
-        go : Tested r.count r.verdict rows i j 0 → Head i rest
+        go : Tested r.count r.verdict rows i j 0 → Head (Deliver i j) true i rest 0
         go (is-bad g x) = absurd (omega arith)
         go (is-over g v x) = absurd (omega arith)
         go (is-empty g v y x) = absurd (omega arith)
-        go (is_found g v y x) = delivers rest (a b) b g v y d
+        go (is_found g v y x) = delivers i j rest g v y d

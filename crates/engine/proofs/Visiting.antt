@@ -47,9 +47,9 @@ kind-missed m f (single b y z e t) = single b (f y) z e t
 kind-missed m f (rounds b k t) = rounds b k t
 
 -- after a verdict all visits ahead are passed over, and something was missed if there was one
-module _ {once : Bool} {whole : Worked} {o : Network} {n : ℕ} {domains bans : List ℕ} {bars : List Bars} {ready : ℕ}
+module _ {once : Bool} {whole : Worked} {o : Network} {n : ℕ} {domains bans : List ℕ} {bars : List (Option Bars)}
     {quota : List ℕ} {missed : Bool} {left made : ℕ} {stuck : Bool} {i rest : ℕ}
-    (h : Here once whole o n domains bans bars ready quota missed left made stuck i rest)
+    (h : Here once whole o n domains bans bars quota missed left made stuck i rest)
     (r : Option Visit) (nv : MatchOption r (ahead quota n i rest ≡ []) (NextVisit quota n i rest)) (some : Bool) (e : some ≡ is_some r) (g : o.verdict ≡ true) where
   missed-now : missed || some ≡ not (eqb (h.delivered + 0) h.waited)
   missed-now = rw e (go r nv)
@@ -61,7 +61,7 @@ module _ {once : Bool} {whole : Worked} {o : Network} {n : ℕ} {domains bans : 
           or_right missed true refl
           ∙ fewer h.delivered 0 h.waited (let z = ap length e.some in omega (arith, h.most))
 
-  pub passes-all : Here once whole o n domains bans bars ready quota (missed || some) left made stuck n 0
+  pub passes-all : Here once whole o n domains bans bars quota (missed || some) left made stuck n 0
   unfolding sweep stopped network_of count_if
   passes-all =
       let none_ahead : ahead quota n n 0 ≡ [] = ahead_none quota n n 0 refl (omega arith) in
@@ -84,9 +84,9 @@ module _ {once : Bool} {whole : Worked} {o : Network} {n : ℕ} {domains bans : 
         same = rw none_ahead (h.same ∙ ap h.end (sweep-stopped (sweep_of o h.delivered h.tried) g (ahead quota n i rest)));
       }
 
-module _ {once : Bool} {whole : Worked} {o : Network} {n : ℕ} {domains bans : List ℕ} {bars : List Bars} {ready : ℕ}
+module _ {once : Bool} {whole : Worked} {o : Network} {n : ℕ} {domains bans : List ℕ} {bars : List (Option Bars)}
     {quota : List ℕ} {missed : Bool} {left made : ℕ} {stuck : Bool} {i rest : ℕ}
-    (h : Here once whole o n domains bans bars ready quota missed left made stuck i rest)
+    (h : Here once whole o n domains bans bars quota missed left made stuck i rest)
     (v : Visit) (nv : NextVisit quota n i rest v) where
   abbrev l : Line
   l = line v.from v.to
@@ -148,9 +148,9 @@ module _ {once : Bool} {whole : Worked} {o : Network} {n : ℕ} {domains bans : 
     tried-now d e = tries now l g fresh.0 ∙ ap (tally now l) e
 
     -- a delivery with this answer leaves the network p
-    module _ (p : Network) (bars' : List Bars) (ready' : ℕ) (m : Bool) (a : Answer) (stuck' : Bool) (d : Delivery)
+    module _ (p : Network) (bars' : List (Option Bars)) (m : Bool) (a : Answer) (stuck' : Bool) (d : Delivery)
         (tried : deliver (network_of o) v.from v.to ≡ d) (net : d.network ≡ network_of p) (ans : d.answer ≡ a)
-        (sized : FullArrays p) (live : in_shape (network_of p) ≡ true → Live p n domains bans bars' ready')
+        (sized : FullArrays p) (live : in_shape (network_of p) ≡ true → Live p n domains bans bars')
         (misses : missed ≡ true → m ≡ true) (still : stuck' ≡ eqb (h.delivered + counts a) 0) where
       abbrev try : Try
       try = record { line = l; answer = a }
@@ -171,7 +171,7 @@ module _ {once : Bool} {whole : Worked} {o : Network} {n : ℕ} {domains bans : 
           (others : All (λ x. (any (passed_by x) h.tried ≡ false) × (passed_by x try ≡ false)) (ahead quota n v.from rest'))
           (counted : (m ≡ not (eqb (h.delivered + counts a + length (ahead quota n v.from rest')) h.waited))
           × (h.delivered + counts a + length (ahead quota n v.from rest') ≤ h.waited)) where
-        tried-one : Here once whole p n domains bans bars' ready' quota m left made stuck' v.from rest'
+        tried-one : Here once whole p n domains bans bars' quota m left made stuck' v.from rest'
         tried-one =
             record {
               sized = sized;
@@ -193,8 +193,8 @@ module _ {once : Bool} {whole : Worked} {o : Network} {n : ℕ} {domains bans : 
             }
 
     -- no room: the rest of the line's visits are passed over. Places beyond the channels' ends are free to have changed.
-    module _ (p : Network) (bars' : List Bars) (ready' : ℕ) (rest' : ℕ) (tried : deliver (network_of o) v.from v.to ≡ rejecting NoRoom (network_of o))
-        (net : network_of p ≡ network_of o) (sized : FullArrays p) (live : Live p n domains bans bars' ready')
+    module _ (p : Network) (bars' : List (Option Bars)) (rest' : ℕ) (tried : deliver (network_of o) v.from v.to ≡ rejecting NoRoom (network_of o))
+        (net : network_of p ≡ network_of o) (sized : FullArrays p) (live : Live p n domains bans bars')
         (cut : assignment rest' ≡ at (assignment v.rest) v.to 0) where
       abbrev more : List Line
       more = ahead quota n v.from rest'
@@ -221,10 +221,10 @@ module _ {once : Bool} {whole : Worked} {o : Network} {n : ℕ} {domains bans : 
           All-map _ _ (λ x e. rw e) more
           (ahead_apart quota n v.from rest' v.to (rw cut (at_same (assignment v.rest) v.to 0)))
 
-      pub jams : Here once whole p n domains bans bars' ready' quota true left made stuck v.from rest'
+      pub jams : Here once whole p n domains bans bars' quota true left made stuck v.from rest'
       unfolding rejecting counts
       jams =
-          tried-one p bars' ready' true (Rejected NoRoom) stuck (rejecting NoRoom (network_of o)) tried (sym net) refl sized
+          tried-one p bars' true (Rejected NoRoom) stuck (rejecting NoRoom (network_of o)) tried (sym net) refl sized
           (λ _. live) (λ _. refl) (h.stuck_is ∙ ap (λ (k : ℕ). eqb k 0) (sym (add-zero h.delivered))) rest'
           (ap (sweep jammed) visits-left ∙ sweep-over jammed l passed (assignment v.rest v.to) more)
           (λ s. supplied-over jammed l passed (assignment v.rest v.to) more live.shape (rw visits-left at s))
@@ -232,13 +232,13 @@ module _ {once : Bool} {whole : Worked} {o : Network} {n : ℕ} {domains bans : 
           (rw (add-zero h.delivered) (fewer h.delivered (length more) h.waited (omega (arith, least, few-left)), omega (arith, least, few-left)))
 
     -- accepted
-    module _ (p : Network) (bars' : List Bars) (ready' : ℕ) (posts : List Post')
+    module _ (p : Network) (bars' : List (Option Bars)) (posts : List Post')
         (tried : deliver (network_of o) v.from v.to ≡ record { network = network_of p; answer = Accepted; sent = posts })
-        (sized : FullArrays p) (live : in_shape (network_of p) ≡ true → Live p n domains bans bars' ready') where
-      pub accepts : Here once whole p n domains bans bars' ready' quota missed left made false v.from v.rest
+        (sized : FullArrays p) (live : in_shape (network_of p) ≡ true → Live p n domains bans bars') where
+      pub accepts : Here once whole p n domains bans bars' quota missed left made false v.from v.rest
       unfolding passed_by is_no_room counts
       accepts =
-          tried-one p bars' ready' missed Accepted false _ tried refl refl sized live (λ y. y) taken v.rest refl (λ s. s)
+          tried-one p bars' missed Accepted false _ tried refl refl sized live (λ y. y) taken v.rest refl (λ s. s)
           (All-map _ _ (λ x f. (f, and-false (is_line x.from x.to l))) ls fresh.1)
           (let e : h.delivered + 1 + length ls ≡ h.delivered + suc (length ls) = omega arith in
           let q : h.delivered + length (ahead quota n i rest) ≡ h.delivered + 1 + length ls = ap (λ (x : List Line). h.delivered + length x) first ∙ sym e in

@@ -1,4 +1,5 @@
 pub mod Lines
 pub mod Working
+pub mod Tasks
 pub mod Refused
 pub mod Answers

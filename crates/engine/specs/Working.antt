@@ -1,10 +1,9 @@
 -- What the engine works out, as one record for a delivery and for a run.
-use Rattle.std.specs.Prelude.{ℕ, Bool, true, false, not, ◌&&◌, List, [], eqb}
+use Rattle.std.specs.Prelude.{ℕ, Bool, true, false, not, ◌&&◌, List, eqb}
 use Rattle.base.specs.Finite.{within}
 use Rattle.protocol.specs.Network.{Network}
-use Rattle.protocol.specs.Shape.{in_shape}
-use Rattle.protocol.specs.Delivery.{BadShape, NoRoom, rejection_number, answer_number, Delivery, deliver}
-use Rattle.protocol.specs.Run.{idle, Ending, None, Plan, Jammed, Open, Broken, ending_number, Ran, run_from}
+use Rattle.protocol.specs.Delivery.{BadShape, NoRoom, rejection_number, answer_number, Delivery}
+use Rattle.protocol.specs.Run.{idle, Ending, None, Plan, Jammed, Open, Broken, ending_number, Ran}
 use Rattle.network.specs.Abstract.{row_of}
 
 -- How a network stands, by the number of the rejection that the work ends with: a broken shape comes first, then the verdict, then nothing waiting. A run
@@ -50,10 +49,3 @@ delivered_as d = stopped_with d.network (answer_number d.answer)
 unfoldable pub ran_as : Ran → Worked
 ran_as x =
     record { network = x.network; made = x.made; number = ending_number x.ending; ending = x.ending }
-
-unfoldable pub work_by : Bool → ℕ → ℕ → ℕ → Network → Worked
-work_by once i j allowed w =
-    elim once [
-      | true ↦ delivered_as (deliver w i j)
-      | false ↦ elim (in_shape w) [ true ↦ ran_as (run_from allowed 0 [] w) | false ↦ stopped_with w (rejection_number BadShape) ]
-    ]

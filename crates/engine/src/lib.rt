@@ -1,9 +1,11 @@
 // The work on a network (rail): one delivery, or rounds. All of it is done here; the entries `deliver` and `run` stand over it.
+// The count of agents is a plain number in the contracts (`n ≤ 12`): it is the network's own, which may hold any until the shape is tested.
+// It goes beside the rows, which lie in arrays of fixed length, as the network's do.
 #![tactic(auto)]
 
-ghost use Rattle.std.specs.Prelude.{◌≡◌, true, ◌≤◌};
+ghost use Rattle.std.specs.Prelude.{◌≡◌, ◌≤◌};
 ghost use Rattle.network.specs.Abstract.{network_of};
-ghost use Rattle.engine.specs.Working.{work_by};
+ghost use Rattle.engine.specs.Tasks.{allowed_of, work_by};
 ghost use Rattle.engine.specs.Answers.{WorksAs};
 ghost use Rattle.engine.specs.Refused.{refused_number};
 
@@ -16,7 +18,7 @@ use agent::Letters;
 use choosing::{Bars, Own};
 use clauses::places::{channel_at, place_at, words_before};
 use network::{Network, Place};
-use packed::{add, digit, has, one_less, one_more, with_digit};
+use packed::{digit, one_less, one_more, with_digit};
 use refusals::Refusal;
 
 // How a run ends.
@@ -29,8 +31,9 @@ pub enum Ending {
     Broken,
 }
 
-// What a call hands back: the network, the full rounds made, why it was refused, if it was, and how the network stands.
-#[derive(Clone, Copy)]
+// What a call hands back: the network, the full rounds made, why it was refused, if it was, and how the network stands; no `Result`, since what is refused is
+// handed back too.
+#[derive(Clone, Copy, Debug, PartialEq, Eq)]
 pub struct Answer {
     pub network: Network,
     pub rounds: u64,
@@ -38,50 +41,58 @@ pub struct Answer {
     pub ending: Ending,
 }
 
-// The network is one local, changed where it stands. Its shape is tested first, where it lies. With `once`, the head of the
-// line between two agents is delivered, and that is all; else rounds are made. Rounds left and full rounds made are two figures; a round is full if nothing
-// that waited when it began was missed. A line that meets a 10 is passed over for the rest of the round, and after a verdict all lines are: it is looked at
-// where it falls, and then none is ahead. A round in which nothing was delivered ends the work: a delivery with 10, a run with `jammed`.
-pub fn work(r: Network, once: bool, sender: u8, receiver: u8, allowed: u64) -> Answer
-    requires allowed_bound { allowed ≤ 1000000 }
-    requires allowed_value { once ≡ true → allowed ≡ 0 }
-    ensures works_as { WorksAs (work_by once sender receiver allowed (network_of r)) result }
+// What is to be done: the head of the line between two agents is delivered, and that is all; or rounds are made, at most so many.
+#[derive(Clone, Copy, Debug, PartialEq, Eq)]
+pub enum Task {
+    Deliver { from: u8, to: u8 },
+    Run { allowed: u64 },
+}
+
+// The network is one local, changed where it stands. Its shape is tested first, where it lies. Rounds left and full rounds made are two figures; a round is
+// full if nothing that waited when it began was missed. A line that meets a 10 is passed over for the rest of the round, and after a verdict all lines are: it
+// is looked at where it falls, and then none is ahead. A round in which nothing was delivered ends the work: a delivery with 10, a run with `jammed`.
+pub fn work(r: Network, task: Task) -> Answer
+    requires allowed_bound { allowed_of task ≤ 1000000 }
+    ensures works_as { WorksAs (work_by task (network_of r)) result }
     ensures network_value { refused_number result.refusal ≡ 5 → result.network ≡ r }
 {
     let mut o = r;
-    // one answer is put together, at the end: with one at each of the three places the network is copied once more
+    // one answer is put together, at the end: with one at each of the three places the network is copied once more, and a delivery takes a third
+    // longer
     let (rounds, refusal, ending) = 'answer: {
         if !o.is_in_shape() {
             break 'answer (0, Some(Refusal::BadShape), Ending::Broken);
         }
         o.counts = cleaned(o.counts);
         let n = o.count;
-        // the sender whose lines are visited, and those of them yet to be visited, a digit for each receiver; before its first round a run has none
-        let mut from = n;
-        let mut rest: u64 = 0;
-        if once {
-            if let Some(refusal) = tested(n, o.verdict, &o.counts, sender, receiver) {
-                break 'answer (
-                    0,
-                    Some(refusal),
-                    ending_at(o.verdict, waits(&o.counts, n), false),
-                );
+        // the sender whose lines are visited, and those of them yet to be visited, a digit for each receiver: before its first round a run has none; and how
+        // many rounds are left. A delivery is one round of one visit, by the same loop: its body is most of this function, and `once` is looked at only before
+        // the first round and where a round ends, where a delivery that found no room is refused and a run is jammed
+        let (once, mut from, mut rest, mut left) = match task {
+            Task::Deliver { from, to } => {
+                if let Some(refusal) = tested(n, o.verdict, &o.counts, from, to) {
+                    break 'answer (
+                        0,
+                        Some(refusal),
+                        ending_at(o.verdict, waits(&o.counts, n), false),
+                    );
+                }
+                (true, from, one_more(0, to), 0)
             }
-            from = sender;
-            rest = one_more(0, receiver);
-        }
+            Task::Run { allowed } => (false, n, 0, allowed),
+        };
         let domains = o.domains;
         let bans = o.bans;
-        // what the agents' views bar, for those of the set `ready`; what each line held when the round began, whether something of it was missed, and whether
-        // nothing was delivered
-        let mut bars = [Bars { low: 0, high: 0 }; 12];
-        let mut ready: u16 = 0;
+        // what the agents' views bar, where it was worked out; what each line held when the round began, whether something of it was missed, and whether nothing
+        // was delivered
+        let mut bars: [Option<Bars>; 12] = [None; 12];
         let mut quota = [0u64; 12];
         let mut missed = true;
         let mut stuck = once;
-        let mut left = allowed;
         let mut made: u64 = 0;
+        // a round ends in its midst, where it is known whether the work ends with it
         'rounds: loop {
+            // a visit may cut those that are ahead, so what is left of the round is no iterator that a `for` could hold
             'visits: while let Some(visit) = next_visit(from, rest, &quota, n) {
                 from = visit.from;
                 rest = visit.rest;
@@ -98,11 +109,11 @@ pub fn work(r: Network, once: bool, sender: u8, receiver: u8, allowed: u64) -> A
                     rule: o.rule,
                 };
                 let mine = &bans[words..words + at];
-                if !has(ready, to) {
-                    bars[at] = Bars::of(agent.view.digits, own, mine);
-                    ready = add(ready, to);
-                }
-                let step = agent.receive(own, mine, bars[at], from, message);
+                let barred = match bars[at] {
+                    Some(known) => known,
+                    None => Bars::of(agent.view.digits, own, mine),
+                };
+                let step = agent.receive(own, mine, barred, from, message);
                 let mut now = o.counts[at];
                 // beside the step, and not by `step.letters()`: a step that is lent stays in memory, and the long run takes a sixth longer
                 let backs = step.backs;
@@ -132,7 +143,7 @@ pub fn work(r: Network, once: bool, sender: u8, receiver: u8, allowed: u64) -> A
                 o.heads[row] = with_digit(heads, to, (digit(heads, to) + 1) % 8);
                 o.counts[row] = one_less(o.counts[row], to);
                 o.agents[at] = step.agent;
-                bars[at] = step.bars;
+                bars[at] = Some(step.bars);
                 o.verdict = step.verdict;
                 stuck = false;
                 if step.verdict {

@@ -5,7 +5,7 @@ ghost use Rattle.engine.specs.Lines.{ahead, NextVisit};
 use packed::{first_digit, one_less};
 
 // The line to visit, and what is left to visit after it: of its sender's channels a digit for each receiver, then those of the senders after it.
-#[derive(Clone, Copy)]
+#[derive(Clone, Copy, Debug, PartialEq, Eq)]
 pub struct Visit {
     pub from: u8,
     pub to: u8,
@@ -33,6 +33,7 @@ pub fn next_visit(sender: u8, left: u64, quota: &[u64; 12], n: u8) -> Option<Vis
     if left != 0 {
         return Some(first_of(sender, left));
     }
+    // by number: it is the sender, and the rows before it are passed over unseen
     for from in sender..n {
         let row = quota[from as usize];
         if row != 0 {

@@ -1,6 +1,6 @@
 // What is tested before a delivery, and what waits after it.
-ghost use Rattle.std.specs.Prelude.{◌≡◌, false, cond, not, ◌&&◌, ℕ, ◌≤◌, eqb, length};
-ghost use Rattle.base.specs.Finite.{within, all_to};
+ghost use Rattle.std.specs.Prelude.{◌≡◌, false, cond, not, ℕ, ◌≤◌, eqb, length};
+ghost use Rattle.base.specs.Finite.{all_to};
 ghost use Rattle.problem.specs.Problem.{max_agents};
 ghost use Rattle.agent_rules.specs.Shape.{max_named};
 ghost use Rattle.packed.specs.Packed.{assignment};
@@ -12,7 +12,7 @@ ghost use Rattle.engine.specs.Refused.{refused_number};
 ghost use Rattle.engine.specs.Working.{ends_by, tested_by};
 
 use crate::Ending;
-use clauses::places::lines_of;
+use clauses::places::{is_line, lines_of};
 use packed::digit;
 use refusals::Refusal;
 
@@ -27,20 +27,13 @@ pub fn cleaned(counts: [u64; 12]) -> [u64; 12]
     rows
 }
 
-// The numbers are 1 to n, and different.
-#[tactic(auto, unfolding(base::specs::Finite::within))]
-fn numbers_good(n: u8, from: u8, to: u8) -> bool
-    ensures { result ≡ within n from && within n to && not (eqb from to) }
-{
-    0 < from && from <= n && 0 < to && to <= n && from != to
-}
-
 // The first of the refusals 6, 7 and 8 that a delivery in a network in shape meets, if it meets one.
+#[tactic(auto, using(crate::proofs::Testing::good))]
 pub fn tested(n: u8, verdict: bool, counts: &[u64; 12], from: u8, to: u8) -> Option<Refusal>
     requires { n ≤ 12 }
     ensures { refused_number result ≡ tested_by n verdict counts.now from to }
 {
-    if !numbers_good(n, from, to) {
+    if !is_line(n, from, to) {
         Some(Refusal::BadNumbers)
     } else if verdict {
         Some(Refusal::VerdictStands)
@@ -56,8 +49,8 @@ pub fn waits(counts: &[u64; 12], n: u8) -> bool
     requires { n ≤ 12 }
     ensures { Clean counts.now → result ≡ not (all_to n (λ i. all_to max_agents (λ j. eqb (held_at counts.now i j) 0))) }
 {
-    for i in (0..n).rev() {
-        if counts[i as usize] != 0 {
+    for row in counts[..n as usize].iter().rev() {
+        if *row != 0 {
             return true;
         }
     }

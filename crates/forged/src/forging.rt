@@ -1,6 +1,8 @@
 // Networks to be tried: one in shape, and what changes it in one place.
 ghost use Rattle.std.specs.Prelude.{◌≤◌, ◌<◌};
 
+use Part::{Domain, Informs, Last, Listens, Received, Sent, Settled, Value, View};
+use Row::{Head, Held};
 use agent::{Agent, Carried, Counts, Lhs, Message};
 use network::{Network, Place};
 use packed::with_digit;
@@ -20,13 +22,6 @@ pub fn judged(r: Network) -> Network {
     Network { verdict: true, ..r }
 }
 
-pub fn with_domain(mut r: Network, i: usize, d: u8) -> Network
-    requires { i < 12 }
-{
-    r.domains[i] = d;
-    r
-}
-
 pub fn with_bans(mut r: Network, at: usize, word: u64) -> Network
     requires { at < 66 }
 {
@@ -34,61 +29,49 @@ pub fn with_bans(mut r: Network, at: usize, word: u64) -> Network
     r
 }
 
-// Agent i + 1, changed.
-fn with_agent<F: Fn(Agent) -> Agent>(mut r: Network, i: usize, change: F) -> Network
-    requires inside { i < 12 }
-    requires callable { F.IsAlwaysCallable change }
+// What one agent has, beside its nogoods.
+#[derive(Clone, Copy)]
+pub enum Part {
+    Domain(u8),
+    // The value that it holds.
+    Value(u8),
+    // The last value that it took.
+    Last(u8),
+    // The value that it holds, and took last.
+    Settled(u8),
+    Listens(u16),
+    Informs(u16),
+    // The digits of its view.
+    View(u64),
+    // How many messages it has sent, or received.
+    Sent(Counts),
+    Received(Counts),
+}
+
+// Agent i + 1 with this in place of what it has.
+pub fn with(mut r: Network, i: usize, part: Part) -> Network
+    requires { i < 12 }
 {
-    r.agents[i] = change(r.agents[i]);
+    let a = &mut r.agents[i];
+    match part {
+        Domain(d) => r.domains[i] = d,
+        Value(value) => a.value = value,
+        Last(last) => a.last = last,
+        Settled(value) => *a = Agent {
+            value,
+            last: value,
+            ..*a
+        },
+        Listens(listens) => a.listens = listens,
+        Informs(informs) => a.informs = informs,
+        View(digits) => a.view = Lhs { digits },
+        Sent(sent) => a.sent = sent,
+        Received(received) => a.received = received,
+    }
     r
 }
 
-pub fn holding(r: Network, i: usize, value: u8) -> Network
-    requires { i < 12 }
-{
-    with_agent(r, i, |a| Agent { value, ..a })
-}
-
-// The last value that agent i + 1 took.
-pub fn having_taken(r: Network, i: usize, last: u8) -> Network
-    requires { i < 12 }
-{
-    with_agent(r, i, |a| Agent { last, ..a })
-}
-
-// Agent i + 1 holds the last value that it took.
-pub fn settled(r: Network, i: usize, value: u8) -> Network
-    requires { i < 12 }
-{
-    having_taken(holding(r, i, value), i, value)
-}
-
-pub fn listening(r: Network, i: usize, listens: u16) -> Network
-    requires { i < 12 }
-{
-    with_agent(r, i, |a| Agent { listens, ..a })
-}
-
-pub fn informing(r: Network, i: usize, informs: u16) -> Network
-    requires { i < 12 }
-{
-    with_agent(r, i, |a| Agent { informs, ..a })
-}
-
-pub fn viewing(r: Network, i: usize, digits: u64) -> Network
-    requires { i < 12 }
-{
-    with_agent(
-        r,
-        i,
-        |a| Agent {
-            view: Lhs { digits },
-            ..a
-        },
-    )
-}
-
-// What agent i + 1 has beside its value k + 1.
+// What agent i + 1 has beside its value k + 1. Bit and left side are given apart: a forged network may have a left side where it stores none.
 pub fn keeping(mut r: Network, i: usize, k: u8, stored: bool, digits: u64) -> Network
     requires { (i < 12) × (k < 8) }
 {
@@ -107,34 +90,24 @@ pub fn counts(infos: u64, backs: u64, links: u64) -> Counts {
     }
 }
 
-// How many messages agent i + 1 has sent, or received.
-pub fn having_sent(r: Network, i: usize, sent: Counts) -> Network
-    requires { i < 12 }
-{
-    with_agent(r, i, |a| Agent { sent, ..a })
+// What a line has in a row of its sender.
+#[derive(Clone, Copy)]
+pub enum Row {
+    // Where its first message stands.
+    Head,
+    // How many messages it holds.
+    Held,
 }
 
-pub fn having_received(r: Network, i: usize, received: Counts) -> Network
-    requires { i < 12 }
-{
-    with_agent(r, i, |a| Agent { received, ..a })
-}
-
-// The head of a line.
-pub fn headed(mut r: Network, from: u8, to: u8, head: u8) -> Network
-    requires { (1 ≤ from) × (from ≤ 12) × (1 ≤ to) × (to ≤ 16) × (head < 16) }
-{
-    let row = &mut r.heads[from as usize - 1];
-    *row = with_digit(*row, to, head);
-    r
-}
-
-// How many messages a line holds.
-pub fn waiting(mut r: Network, from: u8, to: u8, n: u8) -> Network
+// The line with this in its row.
+pub fn with_row(mut r: Network, row: Row, from: u8, to: u8, n: u8) -> Network
     requires { (1 ≤ from) × (from ≤ 12) × (1 ≤ to) × (to ≤ 16) × (n < 16) }
 {
-    let row = &mut r.counts[from as usize - 1];
-    *row = with_digit(*row, to, n);
+    let i = from as usize - 1;
+    match row {
+        Head => r.heads[i] = with_digit(r.heads[i], to, n),
+        Held => r.counts[i] = with_digit(r.counts[i], to, n),
+    }
     r
 }
 
@@ -179,25 +152,29 @@ pub fn good() -> Network {
     r.domains[2] = 2;
     r.bans[1] = 1;
     r.bans[2] = 2;
-    r = informing(settled(r, 0, 1), 0, 0b100);
-    r = informing(settled(r, 1, 1), 1, 0b100);
-    r = viewing(listening(settled(r, 2, 2), 2, 0b11), 2, 0x11);
+    r = with(with(r, 0, Settled(1)), 0, Informs(0b100));
+    r = with(with(r, 1, Settled(1)), 1, Informs(0b100));
+    r = with(
+        with(with(r, 2, Settled(2)), 2, Listens(0b11)),
+        2,
+        View(0x11),
+    );
     r = keeping(r, 2, 0, true, 0x1);
-    r = waiting(headed(r, 1, 3, 3), 1, 3, 8);
+    r = with_row(with_row(r, Head, 1, 3, 3), Held, 1, 3, 8);
     r = with_message(with_message(r, 8, Message::Info(1)), 9, Message::Info(2));
     r = with_message(with_message(r, 10, Message::Info(1)), 11, Message::Info(2));
     r = with_message(with_message(r, 12, Message::Info(1)), 13, Message::Info(2));
     r = with_message(with_message(r, 14, Message::Info(1)), 15, Message::Info(2));
-    r = with_message(waiting(r, 2, 3, 1), 96, Message::Info(1));
-    r = with_message(waiting(r, 3, 2, 2), 184, back(0x1, 1));
+    r = with_message(with_row(r, Held, 2, 3, 1), 96, Message::Info(1));
+    r = with_message(with_row(r, Held, 3, 2, 2), 184, back(0x1, 1));
     r = with_message(r, 185, back(0x2, 1));
-    with_message(waiting(r, 3, 1, 1), 176, back(0x0, 1))
+    with_message(with_row(r, Held, 3, 1, 1), 176, back(0x0, 1))
 }
 
 // The same without bans: agent 3 still listens to both others, but nobody informs it.
 pub fn unlinked() -> Network {
     let r = with_bans(with_bans(good(), 1, 0), 2, 0);
-    informing(informing(r, 0, 0), 1, 0)
+    with(with(r, 0, Informs(0)), 1, Informs(0))
 }
 
 // Three agents without a ban, agent 2 with domain d. Agent 3 listens to agent 2, which does not inform it, and has sent it a Back of its value 1 with the
@@ -209,8 +186,8 @@ pub fn uninformed(rule: u8, d: u8) -> Network {
     r.domains[0] = 2;
     r.domains[1] = d;
     r.domains[2] = 2;
-    r = informing(settled(r, 0, 1), 0, 0b10);
-    r = viewing(listening(settled(r, 1, 1), 1, 0b1), 1, 0x1);
-    r = listening(settled(r, 2, 1), 2, 0b10);
-    with_message(waiting(r, 3, 2, 1), 184, back(0x1, 1))
+    r = with(with(r, 0, Settled(1)), 0, Informs(0b10));
+    r = with(with(with(r, 1, Settled(1)), 1, Listens(0b1)), 1, View(0x1));
+    r = with(with(r, 2, Settled(1)), 2, Listens(0b10));
+    with_message(with_row(r, Held, 3, 2, 1), 184, back(0x1, 1))
 }

@@ -1,5 +1,7 @@
 // Writes the image of the network that calls on a sheet leave, `image write [--rule N] [--small] SHEET [CALL ..]`, and the other form of an image,
 // `image move IMAGE`.
+//
+// The system and the place of the first call are handed on side by side: the one is lent to all, the other is known only where the file's name is read.
 #![tactic(auto)]
 
 ghost use Rattle.lent.specs.Abstract.{InBuffer};
@@ -7,31 +9,19 @@ ghost use Rattle.lent.specs.Abstract.{InBuffer};
 use board_text::options::{Options, Stage, goes_on, is_option, no_options, opens, option, rule_of};
 use board_text::quiet::follow;
 use dispatch::Dispatcher;
-use image_mover::{move_image, store_small};
-use image_writer::store;
+use image_mover::{Form, move_image, store_as};
 use network::{Network, is_rule};
 use refusals::Refusal;
 use std::rt::{Env, Files};
-use tool::{
-    LONGEST_ARGUMENT, argument, argument_count, read_file, say, say_refused, say_surplus, written,
-};
+use tool::{argument_count, read_file, say, say_refused, say_surplus, with_argument, written};
 
 // ---- the image
 
-fn stored(r: Network, small: bool, out: &mut [u8]) -> Result<usize, Refusal>
-    ensures { InBuffer result out.new }
+// All bytes written on standard output, or the refusal.
+fn put(length: Result<usize, Refusal>, image: &[u8])
+    requires { InBuffer length image.now }
 {
-    if small {
-        store_small(r, out)
-    } else {
-        store(r, out)
-    }
-}
-
-// The longest image has 19,744 bytes.
-fn write_image(r: Network, small: bool) {
-    let mut image = [0u8; 19744];
-    match stored(r, small, &mut image) {
+    match length {
         Ok(n) => {
             written(&image[..n]);
         }
@@ -39,32 +29,43 @@ fn write_image(r: Network, small: bool) {
     }
 }
 
+// The longest image has 19,744 bytes.
+fn write_image(r: Network, form: Form) {
+    let mut image = [0u8; 19744];
+    let length = store_as(form, r, &mut image);
+    put(length, &image);
+}
+
 // ---- calls
 
-// What the call that argument i says leaves, or one line that it is none.
-fn call_at(rt: &impl Env, d: Dispatcher, i: usize) -> Option<Dispatcher> {
-    let mut word = [0u8; LONGEST_ARGUMENT];
-    let n = argument(rt, i, &mut word);
-    let left = follow(d, &word[..n]);
+// What the call leaves that a word says, or one line that it is none.
+fn call(d: Dispatcher, word: &[u8]) -> Option<Dispatcher> {
+    let left = follow(d, word);
     if left.is_none() {
-        say(b"call not understood: ", &word[..n]);
+        say(b"call not understood: ", word);
     }
     left
 }
 
 // The calls from argument `first` on, and the image of what they leave; nothing where one of them is none.
-fn play(rt: &impl Env, begun: Dispatcher, small: bool, first: usize) {
+fn play(rt: &impl Env, begun: Dispatcher, form: Form, first: usize) {
     let mut d = begun;
     for i in first..argument_count(rt) {
-        let Some(left) = call_at(rt, d, i) else {
+        let Some(left) = with_argument(rt, i, |word| call(d, word)) else {
             return;
         };
         d = left;
     }
-    write_image(d.network, small);
+    write_image(d.network, form);
 }
 
-// One byte beyond the longest sheet tells that the file is too long.
+// The form that the options ask for.
+fn form_of(o: Options) -> Form {
+    if o.small { Form::Second } else { Form::First }
+}
+
+// One byte beyond the longest sheet tells that the file is too long. `board` opens its file likewise: the two share the reading, and neither what is said
+// where it fails nor what follows.
 fn open_and_play(rt: &(impl Env + Files), o: Options, name: &[u8], first: usize) {
     let mut sheet = [0u8; 33817];
     let Some(n) = read_file(rt, name, &mut sheet) else {
@@ -72,7 +73,7 @@ fn open_and_play(rt: &(impl Env + Files), o: Options, name: &[u8], first: usize)
         return;
     };
     match start::start(rule_of(o), &sheet[..n]) {
-        Ok(network) => play(rt, dispatch::begin(network), o.small, first),
+        Ok(network) => play(rt, dispatch::begin(network), form_of(o), first),
         Err(refusal) => say_refused(refusal),
     }
 }
@@ -91,7 +92,8 @@ fn say_ruled(rule: u8) {
     );
 }
 
-// The one line where no file is opened, with the word read last.
+// The one line where no file is opened, with the word read last. As `put_unopened` of `board_text`, on standard error and with another command: the two share
+// the stages and no line that is printed.
 fn say_unopened(o: Options, word: &[u8]) {
     match o.stage {
         Stage::Words | Stage::File => say_ruled(rule_of(o)),
@@ -100,35 +102,26 @@ fn say_unopened(o: Options, word: &[u8]) {
     }
 }
 
-fn option_at(rt: &impl Env, o: Options, i: usize) -> Options {
-    let mut word = [0u8; LONGEST_ARGUMENT];
-    let n = argument(rt, i, &mut word);
-    option(o, &word[..n])
-}
-
-// What the words up to argument i come to. Where it is the file, the calls begin at argument `first`.
-fn follow_options(rt: &(impl Env + Files), o: Options, i: usize, first: usize) {
-    let mut word = [0u8; LONGEST_ARGUMENT];
-    let n = argument(rt, i, &mut word);
+// What the options come to, with the word read last. Where it is the file, the calls begin at argument `first`.
+fn follow_options(rt: &(impl Env + Files), o: Options, word: &[u8], first: usize) {
     if opens(o) {
-        open_and_play(rt, o, &word[..n], first);
+        open_and_play(rt, o, word, first);
     } else {
-        say_unopened(o, &word[..n]);
+        say_unopened(o, word);
     }
 }
 
-// The options are read, up to the file, to a word that is not understood or to the end.
+// The options are read, up to the file, to a word that is not understood or to the end. `board` reads its own by the same steps: one loop for both would take
+// the number of the first word, the options and both ends, these as closures, and be as long as either.
 fn write(rt: &(impl Env + Files)) {
-    let end = argument_count(rt);
     let mut o = no_options(false);
-    for i in 2..end {
-        o = option_at(rt, o, i);
+    for i in 2..argument_count(rt) {
+        o = with_argument(rt, i, |word| option(o, word));
         if !goes_on(o) {
-            follow_options(rt, o, i, i + 1);
-            return;
+            return with_argument(rt, i, |word| follow_options(rt, o, word, i + 1));
         }
     }
-    follow_options(rt, o, end, end);
+    say_unopened(o, b"");
 }
 
 // ---- moving
@@ -141,31 +134,26 @@ fn move_file(rt: &impl Files, name: &[u8]) {
         return;
     };
     let mut image = [0u8; 19744];
-    match move_image(&given[..length], &mut image) {
-        Ok(n) => {
-            written(&image[..n]);
-        }
-        Err(refusal) => say_refused(refusal),
-    }
+    let moved = move_image(&given[..length], &mut image);
+    put(moved, &image);
 }
 
 // There are no options here, and nothing stands behind the image's name.
-fn move_given(rt: &(impl Env + Files)) {
-    if argument_count(rt) < 3 {
-        say(b"no file given: ", b"image move IMAGE");
-        return;
-    }
-    let mut word = [0u8; LONGEST_ARGUMENT];
-    let n = argument(rt, 2, &mut word);
-    if is_option(&word[..n]) {
-        say(b"option not understood: ", &word[..n]);
-        return;
-    }
-    if 3 < argument_count(rt) {
+fn move_given(rt: &(impl Env + Files), name: &[u8]) {
+    if is_option(name) {
+        say(b"option not understood: ", name);
+    } else if 3 < argument_count(rt) {
         say_surplus(rt, 3);
-        return;
+    } else {
+        move_file(rt, name);
     }
-    move_file(rt, &word[..n]);
+}
+
+fn move_named(rt: &(impl Env + Files)) {
+    if argument_count(rt) < 3 {
+        return say(b"no file given: ", b"image move IMAGE");
+    }
+    with_argument(rt, 2, |name| move_given(rt, name));
 }
 
 // ---- the command
@@ -173,20 +161,17 @@ fn move_given(rt: &(impl Env + Files)) {
 fn follow_command(rt: &(impl Env + Files), word: &[u8]) {
     match word {
         b"write" => write(rt),
-        b"move" => move_given(rt),
+        b"move" => move_named(rt),
         _ => say(b"command not understood: ", word),
     }
 }
 
 fn main(rt: HostRuntime) {
     if argument_count(&rt) < 2 {
-        say(
+        return say(
             b"no command given: ",
             b"image write [--rule N] [--small] SHEET [CALL ..], or image move IMAGE",
         );
-        return;
     }
-    let mut word = [0u8; LONGEST_ARGUMENT];
-    let n = argument(&rt, 1, &mut word);
-    follow_command(&rt, &word[..n]);
+    with_argument(&rt, 1, |word| follow_command(&rt, word));
 }

@@ -6,6 +6,7 @@ use native.Mathlib.Nat.{mul_comm}
 use native.Mathlib.Omega.{arith}
 use lib.ListN.{length, get_or, take, drop, length-append, length-drop}
 use lib.Seq.{length-take-le}
+use Rattle.std.proofs.lemmas.List.{take_rest}
 use Rattle.image_format.specs.Bytes.{stretch}
 use Rattle.image_format.specs.Image.{first_form}
 use Rattle.image_format.specs.Reading.{header_length, bans_length, agent_length, heads_length, message_length, agents_start, heads_start, messages_start}
@@ -16,7 +17,7 @@ use Rattle.image_forms.proofs.Places.{laid-length, each-length}
 use Rattle.image_forms.proofs.Packing.{packed-length, unpacked-length}
 use Rattle.image_forms.proofs.Forms.{packed-messages-length}
 use Rattle.image_mover.specs.Whole.{Whole, Packable}
-use Rattle.image_mover.proofs.Parts.{part-is, rest-is}
+use Rattle.image_mover.proofs.Parts.{part-is}
 
 pub stretch-length : (a w : ℕ) (s : List ℕ) → a + w ≤ length s → length (stretch a w s) ≡ w
 unfolding stretch
@@ -91,14 +92,14 @@ pub rearranged-parts : (form : ℕ) (f g : List ℕ → List ℕ) (s : List ℕ)
     ++ g (take (length s - (544 + 170 * n + 264)) (drop (544 + 170 * n + 264) s))
     ≡ rearranged form f g s
 unfolding rearranged agents_in messages_start heads_start agents_start header_length bans_length heads_length agent_length
-rearranged-parts form f g s n e = rw (part-is 544 (170 * n) s, part-is (544 + 170 * n) 264 s, rest-is (544 + 170 * n + 264) s, e)
+rearranged-parts form f g s n e = rw (part-is 544 (170 * n) s, part-is (544 + 170 * n) 264 s, take_rest s (544 + 170 * n + 264), e)
 
 -- the messages among them
 module _ {width : ℕ} (s : List ℕ) (whole : Whole width s) where
   pub rest-long : length (take (length s - (544 + 170 * get_or s 1 0 + 264)) (drop (544 + 170 * get_or s 1 0 + 264) s)) ≡ width * whole.waiting
-  rest-long = rw (rest-is (544 + 170 * get_or s 1 0 + 264) s) (omega (arith, length-drop (544 + 170 * get_or s 1 0 + 264) s, whole.long))
+  rest-long = rw (take_rest s (544 + 170 * get_or s 1 0 + 264)) (omega (arith, length-drop (544 + 170 * get_or s 1 0 + 264) s, whole.long))
 
 pub rest-low : (s : List ℕ) → Packable s → LowSlots (take (length s - (544 + 170 * get_or s 1 0 + 264)) (drop (544 + 170 * get_or s 1 0 + 264) s))
 rest-low s p =
     let e : 544 + 170 * get_or s 1 0 + 264 ≡ 808 + 170 * get_or s 1 0 = omega arith in
-    rw (rest-is (544 + 170 * get_or s 1 0 + 264) s, e) p.low
+    rw (take_rest s (544 + 170 * get_or s 1 0 + 264), e) p.low

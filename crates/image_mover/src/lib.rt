@@ -1,4 +1,8 @@
 // Images of either form: read, written and moved from one to the other. docs/RULES.md, 'The second form'.
+//
+// What is read and what is written stand side by side in most functions here, as in `copy_from_slice`: they have nothing else in common, since the one is
+// only read and the other lent, so that a struct of both would be taken apart again at once. Whole images stand in arrays of the greatest length that one
+// can have, 19,744 bytes in the first form and 13,408 in the second, since there is no heap.
 #![tactic(auto)]
 
 ghost use Rattle.std.specs.Prelude.{◌≡◌, true, false, ◌≤◌, eqb, get_or, take, IfOk, IfErr};
@@ -11,6 +15,7 @@ ghost use Rattle.image_forms.specs.Writing.{store as store_by};
 ghost use Rattle.image_forms.specs.Moving.{move as move_by};
 ghost use Rattle.image_reader.specs.Loaded.{loaded_of};
 ghost use Rattle.image_mover.specs.Whole.{Whole, Packable};
+ghost use Rattle.image_mover.specs.Form.{form_named};
 
 use image_reader::load_first;
 use image_writer::store;
@@ -23,6 +28,12 @@ mod packing;
 mod places;
 
 use forms::{put_large, put_small};
+
+#[derive(Clone, Copy)]
+pub enum Form {
+    First,
+    Second,
+}
 
 // ---- reading
 
@@ -123,6 +134,17 @@ pub fn store_small(r: Network, out: &mut [u8]) -> Result<usize, Refusal>
     let mut first = [0u8; 19744];
     let n = store(r, &mut first)?;
     write_small(&first[..n], out)
+}
+
+// The image in either form.
+pub fn store_as(form: Form, r: Network, out: &mut [u8]) -> Result<usize, Refusal>
+    ensures out_after { written_of result out.new ≡ store_by (form_named form) (network_of r) out.old }
+    ensures length_in_bounds { InBuffer result out.new }
+{
+    match form {
+        Form::First => store(r, out),
+        Form::Second => store_small(r, out),
+    }
 }
 
 // ---- moving

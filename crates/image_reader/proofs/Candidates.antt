@@ -5,9 +5,8 @@ use mathlib.Core.Path.{◌≡◌, refl, ap, ap₂, fun_ext, ◌∙◌}
 use mathlib.Core.Bool.{true}
 use mathlib.Core.List.{List, [], ◌∷◌, map}
 use native.Mathlib.Omega.{arith}
-use lib.Dec.{eqb, ltb}
-use lib.ListN.{length, get_or, drop, replicate, get_or-eq_default}
-use borrow.Author.Tests.{ltb-true, ltb-false}
+use lib.Dec.{eqb}
+use lib.ListN.{length, get_or, drop, replicate}
 use Rattle.base.proofs.Tests.{test}
 use Rattle.problem.specs.Problem.{max_agents}
 use Rattle.agent_rules.specs.Message.{Message, AddLink}
@@ -22,13 +21,6 @@ use Rattle.image_format.specs.Reading.{message_in, bans_in, problem_in, channel_
 use Rattle.image_reader.specs.Narrow.{narrow_message, narrow_agent, narrow}
 use Rattle.image_reader.specs.Layout.{lines_of, LaidOut, empty_line}
 use Rattle.image_reader.specs.declared.lines.Line.{Line}
-
--- every line begins within the longest image
-pub near-all : (s : List ℕ) (n : ℕ) (l : List Line) → LaidOut s n l → (k : ℕ) → (get_or l k empty_line).start < 20000
-near-all s n l d k =
-    test (ltb k 132)
-    (λ t. (d.lines k (ltb-true k 132 t)).near)
-    (λ t. rw (get_or-eq_default l empty_line {n = k} (omega (arith, d.long, ltb-false k 132 t))) (omega arith))
 
 -- ---- a ring
 

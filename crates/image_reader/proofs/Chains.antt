@@ -47,9 +47,6 @@ module _ (s : List ℕ) where
     pub few : count ≤ 8
     pub left : length (chain_in 8 (drop at s)) ≡ count + length (chain_in (8 - count) (drop (at + 16 * count) s))
 
-  pub none-counted : (at : ℕ) → Counting at 0
-  none-counted at = let e : at + 16 * 0 ≡ at = omega arith in record { few = omega arith; left = rw e (omega arith) }
-
   module _ (at count next : ℕ) (more : count < 8) (is : next ≡ number_in (stretch (at + 16 * count + 2) 2 s)) (c : Counting at count) where
     here : length (chain_in 8 (drop at s))
         ≡ count + suc (length (cond (eqb next 0) [] (chain_in (8 - (count + 1)) (drop (at + 16 * (count + 1)) s))))

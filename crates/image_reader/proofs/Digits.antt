@@ -7,8 +7,7 @@ use mathlib.Core.List.{List}
 use native.Mathlib.Nat.{pow-suc, pow-le-pow_right, lt_of_lt_of_le}
 use native.Mathlib.Omega.{arith}
 use lib.Dec.{ltb}
-use lib.ListN.{get_or, drop}
-use lib.Seq.{get_or-drop}
+use lib.ListN.{get_or}
 use borrow.Author.Tests.{ltb-true, ltb-false}
 use Rattle.base.specs.Finite.{from_one, within}
 use Rattle.base.proofs.Tests.{test, within-true, to-within, not_within}
@@ -18,19 +17,16 @@ use Rattle.packed.proofs.Digits.{digit-zero, digit-suc, digit-above}
 use Rattle.image_format.specs.Reading.{slots_in}
 use Rattle.image_reader.specs.Narrow.{narrow_lhs}
 
-pub record Packing (s : List ℕ) (at i word : ℕ) : Type 0 where
+pub record Packing (s : List ℕ) (i word : ℕ) : Type 0 where
   pub few : i ≤ 12
   pub small : word < 16 ^ (12 - i)
-  pub are : (j : ℕ) → j < 12 - i → digit word j ≡ get_or s (at + i + j) 0 % 16
+  pub are : (j : ℕ) → j < 12 - i → digit word j ≡ get_or s (i + j) 0 % 16
 
-module _ (s : List ℕ) (at : ℕ) where
-  pub none-packed : Packing s at 12 0
-  none-packed = record { few = omega arith; small = omega arith; are = λ j h. absurd (omega arith) }
-
-  pub room : (i word : ℕ) → 0 < i → Packing s at i word → word < 16 ^ 11
+module _ (s : List ℕ) where
+  pub room : (i word : ℕ) → 0 < i → Packing s i word → word < 16 ^ 11
   room i word l p = lt_of_lt_of_le p.small (pow-le-pow_right {n = 16} (omega arith) {j = 11} (omega arith))
 
-  pub one-packed : (i word b : ℕ) → 0 < i → Packing s at i word → b ≡ get_or s (at + (i - 1)) 0 → Packing s at (i - 1) (word * 16 + b % 16)
+  pub one-packed : (i word b : ℕ) → 0 < i → Packing s i word → b ≡ get_or s (i - 1) 0 → Packing s (i - 1) (word * 16 + b % 16)
   one-packed i word b l p e =
       let t : 12 - (i - 1) ≡ suc (12 - i) = omega (arith, p.few) in
       record {
@@ -39,31 +35,31 @@ module _ (s : List ℕ) (at : ℕ) where
         are = λ j h. digits j (omega (arith, p.few));
       }
     where
-      digits : (j : ℕ) → j < suc (12 - i) → digit (word * 16 + b % 16) j ≡ get_or s (at + (i - 1) + j) 0 % 16
+      digits : (j : ℕ) → j < suc (12 - i) → digit (word * 16 + b % 16) j ≡ get_or s (i - 1 + j) 0 % 16
       digits zero h =
           let q : (word * 16 + b % 16) % 16 ≡ b % 16 = omega arith in
-          let z : at + (i - 1) + 0 ≡ at + (i - 1) = omega arith in
+          let z : i - 1 + 0 ≡ i - 1 = omega arith in
           rw (digit-zero (word * 16 + b % 16), q, z, e)
       digits (suc j) h =
           let q : (word * 16 + b % 16) / 16 ≡ word = omega arith in
-          let z : at + (i - 1) + suc j ≡ at + i + j = omega arith in
+          let z : i - 1 + suc j ≡ i + j = omega arith in
           rw (digit-suc (word * 16 + b % 16) j, q, z) (p.are j (omega arith))
 
-  pub all-packed : (i word : ℕ) → Packing s at i word → i ≡ 0 → (assignment word ≡ narrow_lhs (slots_in (drop at s))) × (word < 281474976710656)
+  pub all-packed : (i word : ℕ) → Packing s i word → i ≡ 0 → (assignment word ≡ narrow_lhs (slots_in s)) × (word < 281474976710656)
   unfolding assignment from_one narrow_lhs slots_in max_agents within
   all-packed i word p z = (fun_ext λ k. go k, rw z at p.small)
     where
       small : word < 16 ^ 12
       small = rw z at p.small
 
-      go : (k : ℕ) → assignment word k ≡ narrow_lhs (slots_in (drop at s)) k
+      go : (k : ℕ) → assignment word k ≡ narrow_lhs (slots_in s) k
       go zero = refl
       go (suc k) =
           test (ltb k 12)
           (λ t.
           let h = ltb-true k 12 t in
-          let e : at + i + k ≡ at + k = omega arith in
-          rw (to-within 12 (suc k) (omega arith) (omega arith), get_or-drop at s k 0, ← e) (p.are k (omega arith)))
+          let e : i + k ≡ k = omega arith in
+          rw (to-within 12 (suc k) (omega arith) (omega arith)) (rw e at (p.are k (omega arith))))
           (λ t.
           let h = ltb-false k 12 t in
           rw (not_within 12 (suc k) (λ l u. omega arith)) (digit-above 12 word k small h))

@@ -23,7 +23,7 @@ use Rattle.image_format.specs.Reading.{
   line_count,
 }
 use Rattle.image_reader.specs.declared.lines.Line.{Line}
-use Rattle.image_reader.specs.Layout.{lines_of, LineAt, empty_line, LaidOut}
+use Rattle.image_reader.specs.Layout.{lines_of, LineAt, empty_line}
 use Rattle.image_reader.proofs.Chains.{line_at}
 
 module _ (s : List ℕ) (n : ℕ) where
@@ -78,6 +78,3 @@ module _ (s : List ℕ) (n : ℕ) where
         before : (k : ℕ) → k < line
             → LineAt s (get_or (lines_of s n) k []) (get_or (set lines line this_line) k empty_line).count (get_or (set lines line this_line) k empty_line).start
         before k u = rw (get_or-set_other lines line k this_line empty_line (λ q. omega arith)) (l.done k u)
-
-  pub all_laid : (lines : List Line) (at line : ℕ) → 132 ≤ line → Laying lines at line → LaidOut s n lines
-  all_laid lines at line h l = record { long = l.long; lines = λ k u. l.done k (omega arith) }

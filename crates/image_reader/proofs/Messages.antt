@@ -1,42 +1,37 @@
 -- A message, read by its sort: each is the definition's, its left side modulo 16.
 use Prim.Native.Nat.{ℕ, ◌+◌, ◌*◌, ◌/◌, ◌%◌}
-use mathlib.Core.Path.{◌≡◌}
+use mathlib.Core.Path.{◌≡◌, refl}
 use mathlib.Core.Logic.{◌≢◌}
 use mathlib.Core.Bool.{cond}
 use mathlib.Core.List.{List}
 use native.Mathlib.Omega.{arith}
 use lib.Dec.{eqb}
 use lib.ListN.{get_or, drop}
-use lib.Seq.{drop-drop, get_or-drop}
 use borrow.Author.Tests.{eq-eqb, ne_eqb}
 use Rattle.agent_rules.specs.Message.{Info, Back, AddLink}
 use Rattle.packed.specs.Packed.{assignment}
 use Rattle.image_format.specs.Reading.{slots_in, message_in}
 use Rattle.image_reader.specs.Narrow.{narrow_lhs, narrow_message}
 
-module _ (s : List ℕ) (at : ℕ) where
-  -- read where it stands
-  message-there : message_in (drop at s)
-      ≡ cond (eqb (get_or s at 0) 1) (Info (get_or s (at + 1) 0))
-      (cond (eqb (get_or s at 0) 2) (Back (slots_in (drop (at + 4) s)) (get_or s (at + 1) 0)) AddLink)
+module _ (s : List ℕ) where
+  message-there : message_in s
+      ≡ cond (eqb (get_or s 0 0) 1) (Info (get_or s 1 0)) (cond (eqb (get_or s 0 0) 2) (Back (slots_in (drop 4 s)) (get_or s 1 0)) AddLink)
   unfolding message_in
-  message-there =
-      let z : at + 0 ≡ at = omega arith in
-      rw (get_or-drop at s 0 0, get_or-drop at s 1 0, drop-drop 4 at s, z)
+  message-there = refl
 
-  module _ (sort value : ℕ) (e : sort ≡ get_or s at 0) (f : value ≡ get_or s (at + 1) 0) where
-    pub is-info : sort ≡ 1 → Info value ≡ narrow_message (message_in (drop at s))
+  module _ (sort value : ℕ) (e : sort ≡ get_or s 0 0) (f : value ≡ get_or s 1 0) where
+    pub is-info : sort ≡ 1 → Info value ≡ narrow_message (message_in s)
     unfolding narrow_message
     is-info h = rw (message-there, ← e, ← f, eq-eqb sort 1 h)
 
-    pub is-back : sort ≡ 2 → (digits : ℕ) → assignment digits ≡ narrow_lhs (slots_in (drop (at + 4) s))
-        → Back (assignment digits) value ≡ narrow_message (message_in (drop at s))
+    pub is-back : sort ≡ 2 → (digits : ℕ) → assignment digits ≡ narrow_lhs (slots_in (drop 4 s))
+        → Back (assignment digits) value ≡ narrow_message (message_in s)
     unfolding narrow_message
     is-back h digits g =
         let n : sort ≢ 1 = λ q. omega arith in
         rw (message-there, ← e, ← f, ne_eqb sort 1 n, eq-eqb sort 2 h, g)
 
-    pub is-link : sort ≢ 1 → sort ≢ 2 → AddLink ≡ narrow_message (message_in (drop at s))
+    pub is-link : sort ≢ 1 → sort ≢ 2 → AddLink ≡ narrow_message (message_in s)
     unfolding narrow_message
     is-link n m = rw (message-there, ← e, ne_eqb sort 1 n, ne_eqb sort 2 m)
 

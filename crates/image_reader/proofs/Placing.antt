@@ -20,9 +20,6 @@ module _ (s : List ℕ) (lines : List Line) where
       (k q : ℕ) → q < 8 → 8 * k + q < p → q < (get_or lines k empty_line).count
       → place_of (get_or places (8 * k + q) no_place) ≡ narrow_message (message_in (drop ((get_or lines k empty_line).start + 16 * q) s))
 
-  pub none-placed : (places : List Place) → Placed places 0
-  none-placed places k q u h l = absurd (omega arith)
-
   module _ (places : List Place) (p : ℕ) (new : List Place) (done : Placed places p) where
     pub one_placed : (a : Place) → p < length places → place_of a ≡ narrow_message (message_in (drop ((get_or lines (p / 8) empty_line).start + 16 * (p % 8)) s))
         → new ≡ set places p a → Placed new (p + 1)

@@ -4,10 +4,10 @@ use Prim.Native.Nat.{ℕ, zero, suc, pred, ◌+◌, ◌*◌, ◌-◌, ◌/◌, �
 use mathlib.Core.Path.{◌≡◌, refl, sym, ◌∙◌}
 use mathlib.Core.List.{List, [], ◌∷◌}
 use native.Mathlib.Omega.{arith}
-use lib.Dec.{eqb, ltb, leb}
+use lib.Dec.{eqb, ltb}
 use lib.ListN.{length, get_or, set, take, length-append, length-set}
 use lib.Seq.{take_all}
-use borrow.Author.Tests.{eqb-true, ltb-true, leb-true}
+use borrow.Author.Tests.{eqb-true, ltb-true}
 use Rattle.base.specs.Finite.{gather, sum, all_to}
 use Rattle.base.proofs.Arrays.{copied}
 use Rattle.base.proofs.Lists.{gather-last}
@@ -23,10 +23,6 @@ place_of : (i : ℕ) → 1 ≤ i → i ≤ 12 → (i - 1) * (24 - i) / 2 ≡ sum
 unfolding sum max_agents all_to
 place_of i l h =
     eqb-true _ _ (all_to-at 12 (λ i. eqb ((i - 1) * (24 - i) / 2) (sum (pred i) (λ k. 12 - k))) refl i l h)
-
-pub product-fits : (i : ℕ) → 1 ≤ i → i ≤ 12 → (i - 1) * (24 - i) ≤ 300
-unfolding all_to
-product-fits i l h = leb-true _ _ (all_to-at 12 (λ i. leb ((i - 1) * (24 - i)) 300) refl i l h)
 
 pub place_is : (i j : ℕ) → 1 ≤ i → i < j → j ≤ 12
     → ((i - 1) * (24 - i) / 2 + (j - 1 - i) ≡ ban_place i j) × ((i - 1) * (24 - i) / 2 + (j - 1 - i) < 66)

@@ -43,24 +43,27 @@ module _ (s : List ℕ) (a : ℕ) where
       let e : a + 1 ≡ suc a = omega arith in
       rw e (omega (arith, number-next s a 1, number-next s (suc a) 0, number-none s (suc (suc a))))
 
-  pub number-four : number_in (stretch a 4 s) ≡ number_in (stretch a 2 s) + 65536 * number_in (stretch (a + 2) 2 s)
-  number-four =
-      let e : a + 2 ≡ suc (suc a) = omega arith in
-      rw e (omega (arith, number-next s a 3, number-next s (suc a) 2, number-next s a 1, number-next s (suc a) 0, number-none s (suc (suc a))))
-
-pub number-eight : (s : List ℕ) (a : ℕ) → number_in (stretch a 8 s) ≡ number_in (stretch a 4 s) + 4294967296 * number_in (stretch (a + 4) 4 s)
-number-eight s a =
-    let e : a + 4 ≡ suc (suc (suc (suc a))) = omega arith in
-    rw e
-    (omega (
-      arith,
-      number-next s a 7,
-      number-next s (suc a) 6,
-      number-next s (suc (suc a)) 5,
-      number-next s (suc (suc (suc a))) 4,
-      number-next s a 3,
-      number-next s (suc a) 2,
-      number-next s (suc (suc a)) 1,
-      number-next s (suc (suc (suc a))) 0,
-      number-none s (suc (suc (suc (suc a)))),
-    ))
+  pub number-eight : number_in (stretch a 8 s)
+      ≡ get_or s a 0 + 256 * get_or s (a + 1) 0 + 65536 * get_or s (a + 2) 0 + 16777216 * get_or s (a + 3) 0 + 4294967296 * get_or s (a + 4) 0
+      + 1099511627776 * get_or s (a + 5) 0 + 281474976710656 * get_or s (a + 6) 0 + 72057594037927936 * get_or s (a + 7) 0
+  number-eight =
+      let e1 : a + 1 ≡ suc a = omega arith in
+      let e2 : a + 2 ≡ suc (suc a) = omega arith in
+      let e3 : a + 3 ≡ suc (suc (suc a)) = omega arith in
+      let e4 : a + 4 ≡ suc (suc (suc (suc a))) = omega arith in
+      let e5 : a + 5 ≡ suc (suc (suc (suc (suc a)))) = omega arith in
+      let e6 : a + 6 ≡ suc (suc (suc (suc (suc (suc a))))) = omega arith in
+      let e7 : a + 7 ≡ suc (suc (suc (suc (suc (suc (suc a)))))) = omega arith in
+      rw (e1, e2, e3, e4, e5, e6, e7)
+      (omega (
+        arith,
+        number-next s a 7,
+        number-next s (suc a) 6,
+        number-next s (suc (suc a)) 5,
+        number-next s (suc (suc (suc a))) 4,
+        number-next s (suc (suc (suc (suc a)))) 3,
+        number-next s (suc (suc (suc (suc (suc a))))) 2,
+        number-next s (suc (suc (suc (suc (suc (suc a)))))) 1,
+        number-next s (suc (suc (suc (suc (suc (suc (suc a))))))) 0,
+        number-none s (suc (suc (suc (suc (suc (suc (suc (suc a)))))))),
+      ))

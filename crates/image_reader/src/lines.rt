@@ -1,4 +1,5 @@
-// The lines of an image: where their messages stand, and the messages.
+// The lines of an image: where their messages stand, and the messages. A rail has 132 lines with eight places each, in memory that is as great for every
+// rail, so that they stand in arrays.
 ghost use Rattle.std.specs.Prelude.{◌≡◌, true, ℕ, ◌+◌, ◌*◌, ◌%◌, ◌≤◌, ◌<◌, length, get_or, drop};
 ghost use Rattle.agent.specs.Abstract.{message_of};
 ghost use Rattle.packed.specs.Packed.{assignment};
@@ -8,7 +9,7 @@ ghost use Rattle.image_reader.specs.Narrow.{narrow_message};
 ghost use Rattle.image_reader.specs.Layout.{LaidOut, empty_line};
 
 use crate::agents::slots;
-use crate::bytes::{byte, two_bytes};
+use crate::bytes::{byte, tail, two_bytes};
 use agent::{Carried, Message};
 use clauses::places::channel_at;
 use network::Place;
@@ -21,16 +22,15 @@ pub struct Line {
     pub start: usize,
 }
 
-// How many messages a line with this head has, where they stand from `at` on: up to one whose next index is zero, and at most eight.
-fn line_length(s: &[u8], head: u16, at: usize) -> u8
-    requires { at < 60000 }
-    ensures { (result ≡ length (line_in head (drop at s.now))) × (result ≤ 8) }
+// How many messages a line with this head has, where they stand in front: up to one whose next index is zero, and at most eight.
+fn line_length(head: u16, s: &[u8]) -> u8
+    ensures { (result ≡ length (line_in head s.now)) × (result ≤ 8) }
 {
     if head == 0 {
         return 0;
     }
     for before in 0..8 {
-        if two_bytes(s, at + 16 * before + 2) == 0 {
+        if two_bytes(s, 16 * before + 2) == 0 {
             return before as u8 + 1;
         }
     }
@@ -46,23 +46,23 @@ pub fn laid_out(s: &[u8], n: usize) -> [Line; 132]
     let mut lines = [Line { count: 0, start: 0 }; 132];
     let mut start = heads + 264;
     for k in 0..132 {
-        let count = line_length(s, two_bytes(s, heads + 2 * k), start);
+        let count = line_length(two_bytes(s, heads + 2 * k), tail(s, start));
         lines[k] = Line { count, start };
         start += 16 * count as usize;
     }
     lines
 }
 
-// The message from `at` on.
-fn message(s: &[u8], at: usize) -> Message
-    requires { at < 60000 }
-    ensures { message_of result ≡ narrow_message (message_in (drop at s.now)) }
+// The message in front.
+fn message(s: &[u8]) -> Message
+    ensures { message_of result ≡ narrow_message (message_in s.now) }
 {
-    let value = byte(s, at + 1);
-    match byte(s, at) {
+    let value = byte(s, 1);
+    match byte(s, 0) {
         1 => Message::Info(value),
         2 => {
-            let digits = slots(s, at + 4);
+            // As `Lhs::pack` of `agent` does, which is for that crate alone: it asks for a word of twelve digits, as `slots` gives here.
+            let digits = slots(tail(s, 4));
             let lhs = Carried {
                 low: (digits % 65536) as u16,
                 middle: (digits / 65536 % 65536) as u16,
@@ -88,7 +88,7 @@ pub fn places(s: &[u8], lines: &[Line; 132]) -> [Place; 1056]
         let q = p % 8;
         if q < count as usize {
             places[p] = Place {
-                message: message(s, start + 16 * q),
+                message: message(tail(s, start + 16 * q)),
             };
         }
     }

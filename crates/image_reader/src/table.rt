@@ -6,6 +6,7 @@ ghost use Rattle.image_format.specs.Reading.{ban_place, bans_in};
 use crate::bytes::eight_bytes;
 use clauses::places::words_before;
 
+// `sheet_parts::Sheet::domains` copies twelve bytes of a sheet likewise. An image is no sheet, and a function for both would be the copy alone.
 #[tactic(auto, unfolding(image_format::specs::Bytes::stretch))]
 pub fn domains(s: &[u8]) -> [u8; 12]
     requires { 16 ≤ length s.now }

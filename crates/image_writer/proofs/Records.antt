@@ -2,15 +2,14 @@
 -- A mask is the number that has its bits.
 use Prim.Native.Nat.{ℕ, suc, ◌+◌, ◌/◌, ◌%◌, ◌^◌, ◌<◌}
 use mathlib.Core.Path.{◌≡◌, sym, ap, ◌∙◌}
-use mathlib.Core.Bool.{Bool, true, false, cond}
-use mathlib.Core.Option.{none, some}
-use mathlib.Core.List.{List, [], ◌∷◌, ◌++◌, map}
-use mir.Val.{bool_byte}
+use mathlib.Core.Option.{none}
+use mathlib.Core.List.{List, map}
 use native.Mathlib.Nat.{div-one, zero-add}
 use native.Mathlib.Omega.{arith}
 use lib.Dec.{eqb}
 use lib.ListN.{length, get_or, replicate, take, length-take, length-map, get_or-map}
 use lib.Seq.{get_or-take}
+use Rattle.std.specs.Bool.{then_some}
 use Rattle.base.specs.Finite.{from_one, gather}
 use Rattle.base.specs.Bits.{bit}
 use Rattle.base.proofs.Arrays.{get_or-below}
@@ -29,6 +28,7 @@ use Rattle.network.specs.declared.Network.{Network}
 use Rattle.network.specs.Abstract.{agents_of, network_of}
 use Rattle.image_format.specs.Bytes.{bytes_of}
 use Rattle.image_format.specs.Image.{slots, mask_bytes, reason_bytes, agent_bytes}
+use Rattle.image_writer.specs.Reasons.{reason_of}
 
 -- ---- masks
 
@@ -49,19 +49,9 @@ pub no-slots-put : slots (assignment 0) ≡ replicate 12 0
 unfolding slots gather max_agents nobody
 no-slots-put = rw nobody-assigned
 
-pub reason-put : (stored : Bool) (word put : ℕ) → stored ≡ true → put ≡ word
-    → (bool_byte stored ∷ []) ++ slots (assignment put) ≡ reason_bytes (cond stored (some (assignment word)) none)
-unfolding reason_bytes
-reason-put stored word put e f = rw (e, f)
-
-pub no-reason-put : (stored : Bool) (word put : ℕ) → stored ≡ false → put ≡ 0
-    → (bool_byte stored ∷ []) ++ slots (assignment put) ≡ reason_bytes (cond stored (some (assignment word)) none)
-unfolding reason_bytes max_agents
-no-reason-put stored word put e f = rw (e, f, no-slots-put)
-
 -- that of the own value at a place
 pub reason-at : (stored : ℕ) (nogoods : List ℕ) (v : ℕ)
-    → reason_bytes (cond (eqb (stored / 2 ^ v % 2) 1) (some (assignment (get_or nogoods v 0))) none) ≡ reason_bytes (from_one none (nogood_at stored nogoods) (1 + v))
+    → reason_bytes (reason_of (then_some (eqb (stored / 2 ^ v % 2) 1) (get_or nogoods v 0))) ≡ reason_bytes (from_one none (nogood_at stored nogoods) (1 + v))
 unfolding from_one nogood_at bit
 reason-at stored nogoods v = let e : 1 + v ≡ suc v = omega arith in rw e (test (bit stored v) (λ e. rw (e, nogood_at)) (λ e. rw (e, nogood_at)))
 

@@ -1,14 +1,15 @@
 // The scanners' records.
-ghost use Rattle.std.specs.Prelude.{cond, [], ◌∷◌, ◌++◌, ◌*◌, ◌≤◌};
-ghost use Rattle.std.proofs.Math.Option.{none, some};
+ghost use Rattle.std.specs.Prelude.{[], ◌∷◌, ◌++◌, ◌*◌, ◌≤◌};
+ghost use Rattle.std.proofs.Math.Option.{none};
 ghost use Rattle.base.specs.Finite.{from_one, gather};
 ghost use Rattle.problem.specs.Problem.{max_domain};
-ghost use Rattle.packed.specs.Packed.{assignment, members};
+ghost use Rattle.packed.specs.Packed.{members};
 ghost use Rattle.choosing.specs.Choosing.{nogood_at};
 ghost use Rattle.agent.specs.Abstract.{assigned, count_of, agent_of};
 ghost use Rattle.network.specs.Abstract.{network_of};
 ghost use Rattle.image_format.specs.Image.{slots, mask_bytes, reason_bytes, count_bytes, agent_bytes};
 ghost use Rattle.lent.specs.Puts.{Room, Puts};
+ghost use Rattle.image_writer.specs.Reasons.{reason_of};
 
 use crate::slots::put_slots;
 use agent::{Agent, Counts};
@@ -23,13 +24,18 @@ fn put_mask(out: &mut Cursor<'_>, set: u16)
     out.put_all(&(set % 4096).to_le_bytes());
 }
 
-// A reason, if it is stored.
-fn put_reason(out: &mut Cursor<'_>, stored: bool, word: u64)
+// A reason, if there is one; else zeros.
+fn put_reason(out: &mut Cursor<'_>, reason: Option<u64>)
     requires { Room out.old 13 }
-    ensures { Puts out.old 13 (reason_bytes (cond stored (some (assignment word)) none)) out.new }
+    ensures { Puts out.old 13 (reason_bytes (reason_of reason)) out.new }
 {
-    out.put(stored as u8);
-    put_slots(out, if stored { word } else { 0 });
+    match reason {
+        Some(word) => {
+            out.put(1);
+            put_slots(out, word);
+        }
+        None => out.put_all(&[0; 13]),
+    }
 }
 
 // The reasons of own values 1 to 8.
@@ -38,7 +44,7 @@ fn put_reasons(out: &mut Cursor<'_>, stored: u8, nogoods: &[u64; 8])
     ensures { Puts out.old 104 (gather max_domain 1 (λ v. reason_bytes (from_one none (nogood_at stored nogoods.now) v))) out.new }
 {
     for v in 0..8 {
-        put_reason(out, (stored >> v) % 2 == 1, nogoods[v]);
+        put_reason(out, ((stored >> v) % 2 == 1).then_some(nogoods[v]));
     }
 }
 

@@ -1,4 +1,7 @@
 // The writer of a rail's image, into a lent buffer. docs/RULES.md, 'The image'.
+//
+// Each part takes the cursor and the network side by side. In one struct they would be no plainer: a contract says how the cursor stands before and after,
+// and of the network only what it is, so that each would have to say too that the network stays.
 #![tactic(auto)]
 
 ghost use Rattle.std.specs.Prelude.{◌≡◌, ◌≤◌, length};

@@ -1,23 +1,16 @@
-// The lines by number, from 0, and how many messages wait on each.
+// The lines by number, from 0, and how many messages wait on each. A number is below 132, as its caller's range says: a type with that invariant would be
+// made at each call, and the range's bound shown there all the same.
 ghost use Rattle.std.specs.Prelude.{◌≡◌, ◌*◌, ◌≤◌, ◌<◌, length};
 ghost use Rattle.image_format.specs.Image.{all_lines, messages_from};
 ghost use Rattle.network.specs.Abstract.{row_of, network_of};
 ghost use Rattle.image_writer.specs.Lines.{sender_of, receiver_of};
 
+use clauses::places::ends_of;
 use network::Network;
 use packed::digit;
 
-// Sender and receiver. The sender is passed over.
-pub fn ends_of(line: usize) -> (u8, u8)
-    requires { line < 132 }
-    ensures { (result.0 ≡ sender_of line) × (result.1 ≡ receiver_of line) }
-{
-    let from = (line / 11) as u8 + 1;
-    let to = (line % 11) as u8 + 1;
-    (from, if to < from { to } else { to + 1 })
-}
-
 // A line's digit in the senders' rows, of heads or of counts.
+#[tactic(auto, using(clauses::proofs::Numbering::ends))]
 pub fn on_line(rows: &[u64; 12], line: usize) -> u8
     requires { line < 132 }
     ensures { (result ≡ row_of rows.now (sender_of line) (receiver_of line)) × (result < 16) }

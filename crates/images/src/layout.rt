@@ -1,198 +1,223 @@
-// The image of a rail laid out a second time, byte behind byte, as the rules have it.
-ghost use Rattle.std.specs.Prelude.{◌<◌};
-
+// The image of a rail laid out a second time in both forms, as the rules have it.
+use crate::lines::{lines_of, message_at};
 use agent::{Agent, Carried, Counts, Message};
 use network::Network;
-use packed::digit;
-use random_rails::rails::ends_of;
+use std::alloc::{AllocError, Global};
 
-// ---- bytes
-
-// A buffer, and the place behind what is put so far. What has no room is left out.
+// The parts of an image as they stand in the first form: the header and the bans, a record for each scanner, the lines' heads, a record for each message.
 #[derive(Drop)]
-pub struct Laid<'a> {
-    out: &'a mut [u8],
-    at: usize,
+pub struct Image {
+    alloc: Global,
+    front: Vec<u8>,
+    scanners: Vec<[u8; 170]>,
+    pub heads: Vec<[u8; 2]>,
+    pub messages: Vec<[u8; 16]>,
 }
 
-impl Laid<'_> {
-    fn push(&mut self, b: u8) {
-        if self.at < self.out.len() {
-            self.out[self.at] = b;
-            self.at += 1;
-        }
-    }
+// ---- the bans
 
-    // The low `count` bytes of a number, low byte first.
-    fn push_number(&mut self, x: u64, count: usize) {
-        let mut rest = x;
-        for _ in 0..count {
-            self.push((rest % 256) as u8);
-            rest /= 256;
-        }
-    }
+// Where the words of each higher scanner begin in the table, which has them by higher, then lower scanner.
+const ROWS: [u8; 12] = [0, 0, 1, 3, 6, 10, 15, 21, 28, 36, 45, 55];
 
-    // Twelve slots, scanner 1 first.
-    fn push_slots(&mut self, digits: u64) {
-        let mut rest = digits;
-        for _ in 0..12 {
-            self.push((rest % 16) as u8);
-            rest /= 16;
-        }
-    }
-}
-
-// ---- the header and the bans
-
-fn push_header(out: &mut Laid<'_>, r: &Network) {
-    out.push(1);
-    out.push(r.count);
-    out.push(r.rule);
-    out.push(u8::from(r.verdict));
-    for domain in &r.domains {
-        out.push(*domain);
-    }
-}
-
-// The words of the pairs of one lower scanner. In the table they stand by higher scanner, then lower: `row` is where those of a higher one begin.
-fn push_row(out: &mut Laid<'_>, bans: &[u64; 66], lower: usize)
-    requires { lower < 12 }
-{
-    let mut row: usize = 0;
-    for higher in 0..12 {
-        if lower < higher {
-            let word = bans.get(row % 66 + lower).copied().unwrap_or(0);
-            out.push_number(word, 8);
-        }
-        row = row % 66 + higher;
-    }
-}
-
-fn push_bans(out: &mut Laid<'_>, bans: &[u64; 66]) {
+// The words of all pairs, by lower, then higher scanner.
+fn put_bans(out: &mut Vec<u8>, bans: &[u64; 66]) -> Result<(), AllocError> {
     for lower in 0..12 {
-        push_row(out, bans, lower);
+        for row in &ROWS[lower + 1..] {
+            let word = bans.get(usize::from(*row) + lower).copied().unwrap_or(0);
+            out.extend_from_slice(&word.to_le_bytes())?;
+        }
     }
+    Ok(())
 }
 
 // ---- scanners
 
-fn push_counts(out: &mut Laid<'_>, c: Counts) {
-    out.push_number(c.infos, 8);
-    out.push_number(c.backs, 8);
-    out.push_number(c.links, 8);
+// Twelve slots, scanner 1 first.
+fn slots(digits: u64) -> [u8; 12] {
+    let mut bytes = [0u8; 12];
+    let mut rest = digits;
+    for byte in &mut bytes {
+        *byte = (rest % 16) as u8;
+        rest /= 16;
+    }
+    bytes
 }
 
-// A reason: 1 and its left side, or zeros.
-fn push_reason(out: &mut Laid<'_>, stored: bool, lhs: u64) {
-    out.push(u8::from(stored));
-    out.push_slots(if stored { lhs } else { 0 });
-}
-
-// The reasons of slots 1 to 8. `stored` has a bit for each.
-fn push_reasons(out: &mut Laid<'_>, stored: u8, nogoods: &[u64; 8]) {
+// A reason for each of slots 1 to 8: 1 and its left side, or zeros. `stored` has a bit for each.
+fn reasons(stored: u8, nogoods: &[u64; 8]) -> [u8; 104] {
+    let mut bytes = [0u8; 104];
     let mut rest = stored;
-    for lhs in nogoods {
-        push_reason(out, rest % 2 == 1, *lhs);
+    for v in 0..8 {
+        if rest % 2 == 1 {
+            bytes[13 * v] = 1;
+            bytes[13 * v + 1..13 * v + 13].copy_from_slice(&slots(nogoods[v]));
+        }
         rest /= 2;
     }
+    bytes
 }
 
-// Slot, last slot, the masks, the view, the reasons, the counts.
-fn push_scanner(out: &mut Laid<'_>, a: &Agent) {
-    out.push(a.value);
-    out.push(a.last);
-    out.push_number(u64::from(a.listens), 2);
-    out.push_number(u64::from(a.informs), 2);
-    out.push_slots(a.view.digits);
-    push_reasons(out, a.stored, &a.nogoods);
-    push_counts(out, a.sent);
-    push_counts(out, a.received);
+fn counts(c: Counts) -> [u8; 24] {
+    let mut bytes = [0u8; 24];
+    bytes[..8].copy_from_slice(&c.infos.to_le_bytes());
+    bytes[8..16].copy_from_slice(&c.backs.to_le_bytes());
+    bytes[16..].copy_from_slice(&c.links.to_le_bytes());
+    bytes
 }
 
-fn push_scanners(out: &mut Laid<'_>, r: &Network) {
-    for a in r.agents.iter().take(usize::from(r.count)) {
-        push_scanner(out, a);
-    }
+fn all_counts(a: &Agent) -> [u8; 48] {
+    let mut bytes = [0u8; 48];
+    bytes[..24].copy_from_slice(&counts(a.sent));
+    bytes[24..].copy_from_slice(&counts(a.received));
+    bytes
 }
 
-// ---- lines
-
-// How many messages line number c holds.
-pub fn held(counts: &[u64; 12], c: usize) -> u64
-    ensures { result < 16 }
-{
-    if 131 < c {
-        return 0;
-    }
-    let e = ends_of(c);
-    u64::from(digit(counts[e.from as usize - 1], e.to))
+// Slot, last slot, the masks, the view.
+fn view(a: &Agent) -> [u8; 18] {
+    let mut bytes = [0u8; 18];
+    bytes[0] = a.value;
+    bytes[1] = a.last;
+    bytes[2..4].copy_from_slice(&a.listens.to_le_bytes());
+    bytes[4..6].copy_from_slice(&a.informs.to_le_bytes());
+    bytes[6..].copy_from_slice(&slots(a.view.digits));
+    bytes
 }
 
-// The heads: the number of each line's first message, messages being numbered from 1.
-fn push_heads(out: &mut Laid<'_>, counts: &[u64; 12]) {
-    let mut number: u64 = 1;
-    for c in 0..132 {
-        let count = held(counts, c);
-        out.push_number(if count == 0 { 0 } else { number }, 2);
-        number = number % 65536 + count;
-    }
+// These and the reasons.
+fn view_and_reasons(a: &Agent) -> [u8; 122] {
+    let mut bytes = [0u8; 122];
+    bytes[..18].copy_from_slice(&view(a));
+    bytes[18..].copy_from_slice(&reasons(a.stored, &a.nogoods));
+    bytes
 }
 
+// These and the counts.
+fn scanner(a: &Agent) -> [u8; 170] {
+    let mut bytes = [0u8; 170];
+    bytes[..122].copy_from_slice(&view_and_reasons(a));
+    bytes[122..].copy_from_slice(&all_counts(a));
+    bytes
+}
+
+// ---- messages
+
+// By itself, and not by `unpack`: the writer that is tried unpacks so.
 fn packed_side(lhs: Carried) -> u64 {
     u64::from(lhs.low) + u64::from(lhs.middle) * 65536 + u64::from(lhs.high) * 4294967296
 }
 
 // Sort, slot, next index, left side.
-fn push_message(out: &mut Laid<'_>, m: Message, next: u64) {
+fn message(m: Message, next: u16) -> [u8; 16] {
     let (sort, slot, lhs) = match m {
         Message::Info(v) => (1, v, 0),
         Message::Back(v, lhs) => (2, v, packed_side(lhs)),
         Message::AddLink => (3, 0, 0),
     };
-    out.push(sort);
-    out.push(slot);
-    out.push_number(next, 2);
-    out.push_slots(lhs);
+    let mut bytes = [0u8; 16];
+    bytes[0] = sort;
+    bytes[1] = slot;
+    bytes[2..4].copy_from_slice(&next.to_le_bytes());
+    bytes[4..].copy_from_slice(&slots(lhs));
+    bytes
 }
 
-// The message that stands so far behind the head of line c.
-fn message_at(r: &Network, c: usize, ahead: u64) -> Message {
-    if 131 < c {
-        return Message::AddLink;
+// A message's record in the second form: its twelve slots are six bytes, the lower-numbered scanner in the low half.
+fn packed(record: &[u8; 16]) -> [u8; 10] {
+    let mut bytes = [0u8; 10];
+    bytes[..4].copy_from_slice(&record[..4]);
+    for k in 0..6 {
+        bytes[4 + k] = record[5 + 2 * k] % 16 * 16 + record[4 + 2 * k] % 16;
     }
-    let e = ends_of(c);
-    let head = digit(r.heads[e.from as usize - 1], e.to) as usize;
-    r.places[8 * c + (head + (ahead % 8) as usize) % 8].message
+    bytes
 }
 
-// The messages of line c, the first of them with this number.
-fn push_line(out: &mut Laid<'_>, r: &Network, c: usize, number: u64) {
-    let count = held(&r.counts, c);
-    for k in 0..count {
-        let next = if k + 1 < count {
-            number % 65536 + k + 1
-        } else {
-            0
+// ---- the whole
+
+// The first byte of all records, then the second, and so on.
+fn put_by_place<const N: usize>(out: &mut Vec<u8>, records: &[[u8; N]]) -> Result<(), AllocError> {
+    for place in 0..N {
+        for record in records {
+            out.push(record[place])?;
+        }
+    }
+    Ok(())
+}
+
+impl Image {
+    fn put_front(&mut self, r: &Network) -> Result<(), AllocError> {
+        self.front
+            .extend_from_slice(&[1, r.count, r.rule, u8::from(r.verdict)])?;
+        self.front.extend_from_slice(&r.domains)?;
+        put_bans(&mut self.front, &r.bans)
+    }
+
+    fn put_scanners(&mut self, r: &Network) -> Result<(), AllocError> {
+        for a in r.agents.iter().take(usize::from(r.count)) {
+            self.scanners.push(scanner(a))?;
+        }
+        Ok(())
+    }
+
+    // The head of a line is the number of its first message, or zero; the next index of a message is that of the one behind it, or zero.
+    fn put_lines(&mut self, r: &Network) -> Result<(), AllocError> {
+        for (c, line) in lines_of(r).iter().enumerate() {
+            let head = if line.count == 0 { 0 } else { line.first };
+            self.heads.push(head.to_le_bytes())?;
+            for k in 1..=line.count {
+                let next = if k < line.count {
+                    line.first.saturating_add(u16::from(k))
+                } else {
+                    0
+                };
+                self.messages.push(message(message_at(r, c, k - 1), next))?;
+            }
+        }
+        Ok(())
+    }
+
+    pub fn of(alloc: Global, r: &Network) -> Result<Image, AllocError> {
+        let mut image = Image {
+            alloc,
+            front: Vec::new(alloc),
+            scanners: Vec::new(alloc),
+            heads: Vec::new(alloc),
+            messages: Vec::new(alloc),
         };
-        push_message(out, message_at(r, c, k), next);
+        image.put_front(r)?;
+        image.put_scanners(r)?;
+        image.put_lines(r)?;
+        Ok(image)
     }
-}
 
-fn push_messages(out: &mut Laid<'_>, r: &Network) {
-    let mut number: u64 = 1;
-    for c in 0..132 {
-        push_line(out, r, c, number);
-        number = number % 65536 + held(&r.counts, c);
+    pub fn first_form(&self) -> Result<Vec<u8>, AllocError> {
+        let mut out = Vec::new(self.alloc);
+        out.extend_from_slice(&self.front)?;
+        for record in &self.scanners {
+            out.extend_from_slice(record)?;
+        }
+        for head in &self.heads {
+            out.extend_from_slice(head)?;
+        }
+        for record in &self.messages {
+            out.extend_from_slice(record)?;
+        }
+        Ok(out)
     }
-}
 
-// The whole image; how long it is.
-pub fn laid_out(r: &Network, out: &mut [u8]) -> usize {
-    let mut laid = Laid { out, at: 0 };
-    push_header(&mut laid, r);
-    push_bans(&mut laid, &r.bans);
-    push_scanners(&mut laid, r);
-    push_heads(&mut laid, &r.counts);
-    push_messages(&mut laid, r);
-    laid.at
+    // "Bytes that begin with 2"; the records stand by place.
+    pub fn second_form(&self) -> Result<Vec<u8>, AllocError> {
+        let mut out = Vec::new(self.alloc);
+        out.push(2)?;
+        out.extend(self.front.iter().skip(1).copied())?;
+        put_by_place(&mut out, &self.scanners)?;
+        for head in &self.heads {
+            out.extend_from_slice(head)?;
+        }
+        let mut records = Vec::new(self.alloc);
+        for record in &self.messages {
+            records.push(packed(record))?;
+        }
+        put_by_place(&mut out, &records)?;
+        Ok(out)
+    }
 }

@@ -4,7 +4,8 @@ ghost use Rattle.lent.specs.Puts.{Room, Puts};
 
 use crate::put;
 
-// A buffer that a caller lends, and the place where the next byte goes.
+// A buffer that a caller lends, and the place where the next byte goes. The place is a number, and no slice of what is left of the buffer: it is how much
+// is written, which each writer answers.
 #[derive(Drop)]
 pub struct Cursor<'a> {
     pub buffer: &'a mut [u8],

@@ -1,14 +1,9 @@
 -- What the code's values mean. A primed name is the definitions'.
 use Rattle.std.specs.Prelude.{ℕ, ◌≡◌, List, ◌∷◌, length, get_or, replicate}
 use Rattle.problem.specs.Problem.{Problem, no_bans}
-use Rattle.problem.specs.Row.{Row as Row'}
 use Rattle.little_rules.specs.Little.{Choice as Choice'}
 use Rattle.little_sheet.specs.declared.choice.Counts.{Counts}
 use Rattle.little_sheet.specs.declared.choice.Choice.{Choice}
-use Rattle.little_sheet.specs.declared.rows.Row.{Row}
-
-unfoldable pub row_of : Row → Row'
-row_of r = record { lower = r.lower; higher = r.higher; low = r.low; high = r.high }
 
 -- these slot counts
 pub record Holds (c : Counts) (ds : List ℕ) : Type 0 where

@@ -18,6 +18,6 @@ owned_by c k = leb (place_at k).low (slots_of c (place_at k).lower) && leb (plac
 unfoldable pub rows_from : Counts → ℕ → List Row
 rows_from c k = gather (12 - k) k (λ k. cond (owned_by c k) (place_at k ∷ []) [])
 
--- pair k, if the lowest bit of x is 1
-unfoldable pub ban_at : ℕ → ℕ → List Row
-ban_at x k = cond (eqb (x % 2) 1) (place_at k ∷ []) []
+-- this pair, if the lowest bit of x is 1
+unfoldable pub ban_of : ℕ → Row → List Row
+ban_of x row = cond (eqb (x % 2) 1) (row ∷ []) []

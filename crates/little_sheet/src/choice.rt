@@ -6,7 +6,8 @@ ghost use Rattle.little_sheet.specs.Abstract.{Holds, Means, bare_of};
 
 use sheet::Problem;
 
-// How many agents there are, and their slot counts, zero beyond them.
+// How many agents there are, and their slot counts, zero beyond them: so they stand in the twelve of a `Problem`, and an enum of one, two or three would be
+// taken apart there.
 #[derive(Clone, Copy)]
 pub struct Counts {
     pub agents: u8,

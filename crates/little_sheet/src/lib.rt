@@ -20,7 +20,6 @@ pub fn little(ordinal: u64, out: &mut [u8]) -> Result<usize, Refusal>
     let Some(Choice { counts, bans }) = chosen(ordinal) else {
         return Err(Refusal::BadOrdinal);
     };
-    let mut rows = [0u32; 12];
-    let records = bans_of(&mut rows, counts, bans);
-    put_sheet(out, 1, bare(counts), &rows, records)
+    let rows = bans_of(counts, bans);
+    put_sheet(out, 1, bare(counts), rows.as_slice())
 }

@@ -1,25 +1,15 @@
 // The pairs of slots that could be banned, in the order of their bits. Those of three agents with two slots each are numbered 0 to 11; fewer or
 // smaller ones have some of these, in the same order.
-ghost use Rattle.std.specs.Prelude.{◌≡◌, ◌+◌, ◌≤◌, ◌<◌, length};
+ghost use Rattle.std.specs.Prelude.{◌≡◌, ◌++◌, ◌+◌, ◌≤◌, ◌<◌, length};
 ghost use Rattle.little_rules.specs.Little.{chosen};
-ghost use Rattle.sheet_writer.specs.Rows.{rows_in, Filled};
-ghost use Rattle.little_sheet.specs.Abstract.{row_of};
-ghost use Rattle.little_sheet.specs.Rows.{place_at, slots_of, owned_by, rows_from, ban_at};
+ghost use Rattle.sheet_writer.specs.Rows.{row_of};
+ghost use Rattle.little_sheet.specs.Rows.{place_at, slots_of, owned_by, rows_from, ban_of};
 
 use crate::choice::Counts;
-use sheet_writer::pack;
-
-// Lower and higher agent, and a value of each.
-#[derive(Clone, Copy)]
-pub struct Row {
-    pub lower: u8,
-    pub higher: u8,
-    pub low: u8,
-    pub high: u8,
-}
+use sheet_writer::{Row, Rows};
 
 // Pair k: four for each two agents.
-#[tactic(auto, unfolding(crate::specs::Abstract::row_of, crate::specs::Rows::place_at))]
+#[tactic(auto, unfolding(crate::specs::Rows::place_at))]
 fn row_at(k: u8) -> Row
     requires { k < 12 }
     ensures { row_of result ≡ place_at k }
@@ -45,7 +35,7 @@ fn slots(c: Counts, i: u8) -> u8
 }
 
 // Both slots of pair k are owned.
-#[tactic(auto, unfolding(crate::specs::Abstract::row_of, crate::specs::Rows::owned_by))]
+#[tactic(auto, unfolding(crate::specs::Rows::owned_by))]
 fn owned(c: Counts, k: u8) -> bool
     requires { k < 12 }
     ensures { result ≡ owned_by c k }
@@ -54,37 +44,27 @@ fn owned(c: Counts, k: u8) -> bool
     row.low <= slots(c, row.lower) && row.high <= slots(c, row.higher)
 }
 
-// Behind the first `at` rows, pair k, if the lowest bit of `left` is 1.
-fn with_ban(rows: &mut [u32], at: usize, left: u64, k: u8) -> usize
-    requires { (k < 12) × (at < length rows.old) }
-    ensures { Filled rows.old at rows.new result (ban_at left k) × (result ≤ at + 1) }
+// This pair behind the rows, if the lowest bit of `left` is 1.
+fn put_ban(rows: &mut Rows<12>, left: u64, row: Row)
+    requires { length rows.old < 12 }
+    ensures { (rows.new ≡ rows.old ++ ban_of left (row_of row)) × (length rows.new ≤ length rows.old + 1) }
 {
     if left % 2 == 1 {
-        let Row {
-            lower,
-            higher,
-            low,
-            high,
-        } = row_at(k);
-        rows[at] = pack(lower, higher, low, high);
-        at + 1
-    } else {
-        at
+        rows.push(row);
     }
 }
 
-// The pairs of a set of bans, one behind the other; and how many they are.
-pub fn bans_of(rows: &mut [u32], c: Counts, bans: u64) -> usize
-    requires { 12 ≤ length rows.old }
-    ensures { (rows_in rows.new result ≡ chosen bans (rows_from c 0)) × (result ≤ 12) }
+// The pairs of a set of bans.
+pub fn bans_of(c: Counts, bans: u64) -> Rows<12>
+    ensures { result ≡ chosen bans (rows_from c 0) }
 {
-    let mut count = 0;
+    let mut rows = Rows::new();
     let mut left = bans;
     for k in 0..12 {
         if owned(c, k) {
-            count = with_ban(rows, count, left, k);
+            put_ban(&mut rows, left, row_at(k));
             left /= 2;
         }
     }
-    count
+    rows
 }

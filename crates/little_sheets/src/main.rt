@@ -9,8 +9,7 @@ use engine::Ending;
 use little_sheet::little;
 use network::Network;
 use oracle::buffers::{MARK, untouched};
-use oracle::choices::{settles, solvable};
-use oracle::reading::fault;
+use oracle::reading::Sheet;
 use oracle::taken::taken;
 use refusals::Refusal;
 use std::alloc::AllocError;
@@ -21,19 +20,19 @@ use tallies::{Tally, count_scanners};
 type Problems = BTreeSet<(u8, [u8; 12], [u64; 66])>;
 
 // How a run on the rail ends: right where a plan settles the sheet, and where the search finds nothing for `none`.
-fn try_run(t: &mut Tally, rail: Network, sheet: &[u8], ordinal: u64) {
+fn try_run(t: &mut Tally, rail: Network, sheet: Sheet, ordinal: u64) {
     let ran = run::run(rail, 100000);
     t.most_rounds.raise(ran.rounds);
     t.sum_of_rounds.add(ran.rounds);
     match ran.ending {
         Ending::Plan => {
             count_scanners(&mut t.plans, rail.count);
-            let right = settles(sheet, taken(ran.network));
+            let right = sheet.settles(taken(ran.network));
             t.judge(ordinal, right, b"a plan that breaks a ban");
         }
         Ending::None => {
             count_scanners(&mut t.nones, rail.count);
-            t.judge(ordinal, !solvable(sheet), b"none, where there is a plan");
+            t.judge(ordinal, !sheet.solvable(), b"none, where there is a plan");
         }
         Ending::Jammed => t.judge(ordinal, false, b"jammed"),
         Ending::Open => t.judge(ordinal, false, b"open"),
@@ -44,11 +43,15 @@ fn try_run(t: &mut Tally, rail: Network, sheet: &[u8], ordinal: u64) {
 fn try_sheet(
     t: &mut Tally,
     seen: &mut Problems,
-    sheet: &[u8],
+    sheet: Sheet,
     ordinal: u64,
 ) -> Result<(), AllocError> {
-    let started = start::start(1, sheet);
-    t.judge(ordinal, started.is_ok() && fault(sheet) == 0, b"refused");
+    let started = start::start(1, sheet.bytes);
+    t.judge(
+        ordinal,
+        started.is_ok() && sheet.fault().is_none(),
+        b"refused",
+    );
     if let Ok(rail) = started {
         let new = seen.insert((rail.count, rail.domains, rail.bans))?;
         if new {
@@ -77,7 +80,14 @@ fn try_little(t: &mut Tally, seen: &mut Problems, ordinal: u64) -> Result<(), Al
         written.is_ok() && untouched(&buffer, n),
         b"not written",
     );
-    try_sheet(t, seen, &buffer[..n], ordinal)?;
+    try_sheet(
+        t,
+        seen,
+        Sheet {
+            bytes: &buffer[..n],
+        },
+        ordinal,
+    )?;
     let mut short = [MARK; 136];
     let right = 0 < n && is_refused(&mut short[..n - 1], ordinal, Refusal::ShortBuffer);
     if right {

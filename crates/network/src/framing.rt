@@ -17,13 +17,15 @@ impl Network {
     {
         let mut listens = [0u16; 12];
         let mut informs = [0u16; 12];
+        // two arrays in one walk over the agents where they stand: an array's `map` takes it by value, so that all agents would be copied, twice
         for (k, a) in self.agents.iter().enumerate() {
             listens[k] = a.listens;
             informs[k] = a.informs;
         }
+        let Network { count, verdict, .. } = *self;
         Frame {
-            count: self.count,
-            verdict: self.verdict,
+            count,
+            verdict,
             domains: domain_digits(&self.domains),
             listens,
             informs,

@@ -16,14 +16,16 @@ use agent::{Agent, Counts, Lhs, Message};
 use refusals::Refusal;
 
 // One place of a channel.
-#[derive(Clone, Copy)]
+#[derive(Clone, Copy, Debug, PartialEq, Eq)]
 pub struct Place {
     pub message: Message,
 }
 
 // 132 channels (lines) of eight places, by sender, then receiver. A channel is a ring: its messages stand from its head on, so many as its count.
-// Heads and counts are rows of digits in base 16, one row for each sender, digit k for receiver k.
-#[derive(Clone, Copy)]
+// Heads and counts are rows of digits in base 16, one row for each sender, digit k for receiver k. All of it lies in arrays of fixed length, and `count` says
+// how many agents are used: it is one record, handed over by value, with no heap. Rule and count are plain numbers: a
+// rail that is handed over may be forged, and any may stand there until the shape is tested.
+#[derive(Clone, Copy, Debug, PartialEq, Eq)]
 pub struct Network {
     pub count: u8,
     pub rule: u8,
@@ -40,18 +42,14 @@ pub struct Network {
 pub fn empty() -> Network
     ensures { (result ≡ empty_record) × (network_of result ≡ empty_network) }
 {
-    let none = Counts {
-        infos: 0,
-        backs: 0,
-        links: 0,
-    };
+    let none = Counts::default();
     let nobody = Agent {
         value: 0,
         last: 0,
         stored: 0,
         listens: 0,
         informs: 0,
-        view: Lhs { digits: 0 },
+        view: Lhs::default(),
         nogoods: [0; 8],
         sent: none,
         received: none,
@@ -79,7 +77,8 @@ pub fn is_rule(rule: u8) -> bool
     0 < rule && rule <= 2
 }
 
-// The shape of any network at all, forged ones included.
+// The shape of any network at all, forged ones included. The host hands the network over by value, as it does to each public call; who has it in place
+// asks `is_in_shape`.
 pub fn in_shape(r: Network) -> bool
     ensures { result ≡ in_shape (network_of r) }
 {
@@ -100,7 +99,7 @@ impl Network {
 
 // ---- asking a value
 
-// The value of agent i: 0 and no refusal where the verdict left it without one.
+// The value of agent i: 0 and no refusal where the verdict left it without one, since the host is answered the number that the agent's record holds.
 pub fn value(r: Network, i: u8) -> Result<u8, Refusal>
     ensures { let asked = ask_value (network_of r) i in (asked_number result ≡ answer_number asked.answer) × (asked_value result ≡ asked.value) }
 {

@@ -197,13 +197,6 @@ pub record Taken (o : Network) (i j heads counts : ℕ) : Type 0 where
   pub head : assignment heads ≡ at (assignment (word_at o.heads i)) j ((assignment (word_at o.heads i) j + 1) % 8)
   pub count : assignment counts ≡ at (assignment (word_at o.counts i)) j (assignment (word_at o.counts i) j - 1)
 
--- as the code computes them
-pub taken-off : {o : Network} {i j heads counts head count : ℕ} → head ≡ assignment (word_at o.heads i) j → count ≡ assignment (word_at o.counts i) j
-    → assignment heads ≡ at (assignment (word_at o.heads i)) j ((head + 1) % 8)
-    → assignment counts ≡ at (assignment (word_at o.counts i)) j (count - 1)
-    → Taken o i j heads counts
-taken-off h c p q = record { head = rw h at p; count = rw c at q }
-
 module _ (o : Network) (z : FullArrays o) (i j : ℕ) (b : is_channel i j ≡ true) where
   E : Ends i j
   E = ends i j b

@@ -11,44 +11,43 @@ use Rattle.base.proofs.Tests.{test}
 use Rattle.base.proofs.Arrays.{get_d_past}
 use Rattle.oracle.specs.Bytes.{slots_of}
 use Rattle.oracle.specs.Bans.{slot_in, obeys_all}
-use Rattle.std.proofs.Common.{Some, None}
+use Rattle.std.proofs.Common.{Option, Some, None}
+use Rattle.std.specs.Option.{unwrap_or}
 use Rattle.oracle.specs.Choices.{with_slot, next_from, next_choice, solvable_from}
 use Rattle.oracle.specs.declared.choices.Choice.{Choice}
 
 -- ---- slots
 
 -- there is no scanner 0, and none past the last
-pub slot-none : (c : List ℕ) (i : ℕ) → (0 < i → i ≤ length c → ⊥) → slot_in c i ≡ 0
+pub slot-none : (c : List (Option ℕ)) (i : ℕ) → (0 < i → i ≤ length c → ⊥) → slot_in c i ≡ None
 unfolding slot_in
 slot-none c zero n = refl
-slot-none c (suc k) n = le_test (length c) k (λ l. get_d_past c k 0 l) (λ l. absurd (n (omega arith) (omega arith)))
+slot-none c (suc k) n = le_test (length c) k (λ l. get_d_past c k None l) (λ l. absurd (n (omega arith) (omega arith)))
   where
     le_test : {C : Type 0} (a b : ℕ) → (a ≤ b → C) → (b < a → C) → C
     le_test a b f g = test (leb a b) (λ t. f (leb-true a b t)) (λ t. g (leb-false a b t))
 
-pub slot_at : (c : List ℕ) (i : ℕ) → 0 < i → slot_in c i ≡ get_or c (i - 1) 0
+pub slot_at : (c : List (Option ℕ)) (i : ℕ) → 0 < i → slot_in c i ≡ get_or c (i - 1) None
 unfolding slot_in
 slot_at c zero l = absurd (omega arith)
 slot_at c (suc k) l = let e : suc k - 1 ≡ k = omega arith in rw e
 
 -- ---- the next choice
 
-pub next_none : (left : ℕ) (s : List ℕ) (i : ℕ) (c : List ℕ) → left ≡ 0 → next_from left s i c ≡ None
+pub next_none : (left : ℕ) (s : List ℕ) (i : ℕ) (c : List (Option ℕ)) → left ≡ 0 → next_from left s i c ≡ None
 unfolding next_from
 next_none left s i c e = rw e
 
-pub next-here : (left : ℕ) (s : List ℕ) (i : ℕ) (c : List ℕ) → 0 < left → 0 < i → get_or c (i - 1) 0 < slots_of s i
-    → next_from left s i c ≡ Some (record { of = set c (i - 1) (get_or c (i - 1) 0 + 1) })
-unfolding with_slot next_from
-next-here zero s i c l n h = absurd (omega arith)
-next-here (suc left) s i c l n h = rw (next_from, slot_at c i n, lt-ltb (get_or c (i - 1) 0) (slots_of s i) h, slot_at c i n)
+module _ (left : ℕ) (s : List ℕ) (i : ℕ) (c : List (Option ℕ)) (v : ℕ) (l : 0 < left) (n : 0 < i) (e : v ≡ unwrap_or (get_or c (i - 1) None) 0) where
+  pub next-here : v < slots_of s i → next_from left s i c ≡ Some (record { of = set c (i - 1) (Some (v + 1)) })
+  unfolding with_slot next_from
+  next-here h = let m : left ≡ suc (left - 1) = omega arith in rw (m, next_from, slot_at c i n, ← e, lt-ltb v (slots_of s i) h)
 
-pub next-later : (left : ℕ) (s : List ℕ) (i : ℕ) (c : List ℕ) → 0 < left → 0 < i → slots_of s i ≤ get_or c (i - 1) 0
-    → next_from left s i c ≡ next_from (left - 1) s (i + 1) (set c (i - 1) 1)
-unfolding with_slot next_from
-next-later zero s i c l n h = absurd (omega arith)
-next-later (suc left) s i c l n h =
-    let e : suc left - 1 ≡ left = omega arith in rw (e, next_from, slot_at c i n, le-ltb (get_or c (i - 1) 0) (slots_of s i) h)
+  pub next-later : slots_of s i ≤ v → next_from left s i c ≡ next_from (left - 1) s (i + 1) (set c (i - 1) (Some 1))
+  unfolding with_slot next_from
+  next-later h =
+      let m : left ≡ suc (left - 1) = omega arith in
+      ap (λ (m : ℕ). next_from m s i c) m ∙ rw (next_from, slot_at c i n, ← e, le-ltb v (slots_of s i) h)
 
 -- ---- the search
 

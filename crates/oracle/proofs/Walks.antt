@@ -1,35 +1,49 @@
 -- One turn of the loops of the second reading, each by the definition of what is left to do: the numbers 1 to n, the marked bytes, the chain.
-use Prim.Native.Nat.{ℕ, zero, suc, ◌+◌, ◌-◌, ◌≤◌, ◌<◌}
+use Prim.Native.Nat.{ℕ, zero, suc, ◌-◌, ◌≤◌, ◌<◌}
 use mathlib.Core.Path.{◌≡◌, refl, sym, ◌∙◌}
-use mathlib.Core.Bool.{Bool, true, false, and-false, false≢true}
+use mathlib.Core.Bool.{Bool, true, false, and-false}
 use mathlib.Core.List.{List, [], ◌∷◌}
 use native.Mathlib.Omega.{arith}
-use native.Mathlib.Numerals.{add-one}
 use lib.ListN.{length, get_or}
 use borrow.Author.Tests.{eq-eqb, ne_eqb}
-use Rattle.std.proofs.Common.{MatchBool}
-use Rattle.std.specs.List.{HoldsAt, AllWithin}
-use Rattle.base.proofs.Tests.{test, eq_test, both}
+use Rattle.std.proofs.Common.{MatchBool, Some, None}
+use Rattle.std.specs.List.{HoldsAt, AllWithin, range_with_len}
+use Rattle.std.proofs.lemmas.List.FromFn.{get_or-range_with_len, length-range_with_len}
+use Rattle.base.proofs.Tests.{eq_test}
+use Rattle.oracle.specs.declared.reading.Fault.TheVariants.{Record, Chain}
 use Rattle.oracle.specs.Buffers.{all_marked}
 use Rattle.oracle.specs.Bytes.{next_of, each_to}
 use Rattle.oracle.specs.Faults.{record_right, chain_fault}
 use Rattle.oracle.specs.Bans.{chain_from, some_of}
 
--- ---- each of 1 to n, from 1 up
+-- ---- each of 1 to n: a search for one of which f does not hold
 
-pub each_more : (k : ℕ) (f : ℕ → Bool) → each_to k f ≡ true → f (k + 1) ≡ true → each_to (k + 1) f ≡ true
+each-all : (n : ℕ) (f : ℕ → Bool) → ((k : ℕ) → k < n → f (suc k) ≡ true) → each_to n f ≡ true
 unfolding each_to
-each_more k f t h = rw add-one (rw (rw add-one at h) t)
+each-all zero f h = refl
+each-all (suc n) f h = rw (h n (omega arith)) (each-all n f (λ k l. h k (omega (arith, l))))
 
-each-one : (n : ℕ) (f : ℕ → Bool) → each_to n f ≡ true → (k : ℕ) → 1 ≤ k → k ≤ n → f k ≡ true
+each-fails : (n : ℕ) (f : ℕ → Bool) (k : ℕ) → k < n → f (suc k) ≡ false → each_to n f ≡ false
 unfolding each_to
-each-one zero f t k l h = absurd (omega arith)
-each-one (suc n) f t k l h =
-    let b = both (f (suc n)) (each_to n f) t in
-    eq_test k (suc n) (λ e. rw e b.0) (λ e. each-one n f b.1 k l (omega (arith, e)))
+each-fails zero f k l e = absurd (omega arith)
+each-fails (suc n) f k l e =
+    eq_test k n
+    (λ q. rw (rw q at e))
+    (λ q. rw (each-fails n f k (omega (arith, q)) e, and-false))
 
-pub each-fails : (n : ℕ) (f : ℕ → Bool) (k : ℕ) → 1 ≤ k → k ≤ n → f k ≡ false → each_to n f ≡ false
-each-fails n f k l h e = test (each_to n f) (λ t. absurd (false≢true (sym e ∙ each-one n f t k l h))) (λ t. t)
+number : (n k : ℕ) → k < n → get_or (range_with_len 1 n) k 0 ≡ suc k
+number n k l = get_or-range_with_len 1 n k 0 l ∙ omega arith
+
+pub each-looked_at : (n : ℕ) (f : ℕ → Bool) (r : Bool)
+    → (let xs = range_with_len 1 n in MatchBool r (AllWithin (λ i. f i ≡ true) xs 0 (length xs)) ((k : ℕ) × (k < length xs) × HoldsAt (λ i. f i ≡ false) xs k))
+    → r ≡ each_to n f
+each-looked_at n f true h =
+    let long = length-range_with_len 1 n in
+    sym (each-all n f (λ k l. rw (number n k l) at (h k 0 (omega arith) (omega arith))))
+each-looked_at n f false h =
+    let long = length-range_with_len 1 n in
+    let l : h.0 < n = omega (arith, h.1) in
+    sym (each-fails n f h.0 l (rw (number n h.0 l) at (h.2 0)))
 
 -- ---- marked bytes: a search for one that isn't
 
@@ -76,17 +90,17 @@ some-passed f left s r l n h = rw (chain-goes left s r l n, h)
 
 -- ---- the fault of the chain from record r on
 
-pub fault-none : (left : ℕ) (s : List ℕ) (r : ℕ) → r ≡ 0 → chain_fault left s r ≡ 0
+pub fault-none : (left : ℕ) (s : List ℕ) (r : ℕ) → r ≡ 0 → chain_fault left s r ≡ None
 unfolding chain_fault
 fault-none zero s r e = rw e
 fault-none (suc left) s r e = rw e
 
-pub fault-back : (left : ℕ) (s : List ℕ) (r : ℕ) → left ≤ 0 → (r ≡ 0 → ⊥) → chain_fault left s r ≡ 4
+pub fault-back : (left : ℕ) (s : List ℕ) (r : ℕ) → left ≤ 0 → (r ≡ 0 → ⊥) → chain_fault left s r ≡ Some Chain
 unfolding chain_fault
 fault-back zero s r l h = rw (ne_eqb r 0 h)
 fault-back (suc left) s r l h = absurd (omega arith)
 
-pub fault-record : (left : ℕ) (s : List ℕ) (r : ℕ) → 0 < left → (r ≡ 0 → ⊥) → record_right s r ≡ false → chain_fault left s r ≡ 3
+pub fault-record : (left : ℕ) (s : List ℕ) (r : ℕ) → 0 < left → (r ≡ 0 → ⊥) → record_right s r ≡ false → chain_fault left s r ≡ Some Record
 unfolding chain_fault
 fault-record zero s r l h e = absurd (omega arith)
 fault-record (suc left) s r l h e = rw (ne_eqb r 0 h, chain_fault, e)

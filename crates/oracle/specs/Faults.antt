@@ -1,6 +1,15 @@
--- The number of a sheet's first fault: 1 for its length, 2 for its header, 3 for a record, 4 for a chain that comes back; 0 for none.
-use Rattle.std.specs.Prelude.{ℕ, zero, suc, ◌+◌, ◌*◌, Bool, true, false, cond, ◌&&◌, List, eqb, ltb, leb, length}
-use Rattle.oracle.specs.Bytes.{byte_of, word_of, slots_of, of_gaps, gap_of, record_at, next_of, each_to}
+-- A sheet's first fault: its length, its header, a record, or a chain that comes back.
+use Rattle.std.specs.Prelude.{ℕ, zero, suc, ◌+◌, ◌*◌, Bool, true, false, cond, ◌&&◌, List, Option, Some, None, eqb, ltb, leb, length}
+use Rattle.oracle.specs.Bytes.{byte_of, word_of, slots_of, of_gaps, gap_of, record_of, next_of, each_to}
+use Rattle.oracle.specs.declared.reading.Fault.{Fault}
+use Rattle.oracle.specs.declared.reading.Fault.TheVariants.{Length, Header, Record, Chain}
+
+-- the number that a refusal has, as the table of refusals gives it
+abbrev pub fault_number : Fault → ℕ
+fault_number Length = 1
+fault_number Header = 2
+fault_number Record = 3
+fault_number Chain = 4
 
 -- ---- the header
 
@@ -29,45 +38,48 @@ header_right s = kind_right s && records_right s && rest_zero s && each_to 12 (s
 unfoldable pub owned_by : List ℕ → ℕ → ℕ → Bool
 owned_by s i v = ltb 0 v && leb v (slots_of s i)
 
--- bytes 2 and 3 of the record that begins at `at`: gaps in order, up to 7, or a slot of each of its two scanners
-unfoldable pub fields_right : List ℕ → ℕ → Bool
-fields_right s at =
+-- bytes 2 and 3 of the record: gaps in order, up to 7, or a slot of each of its two scanners
+unfoldable pub fields_right : List ℕ → List ℕ → Bool
+fields_right s bytes =
     cond
     (of_gaps s)
-    (leb (gap_of s (at + 2)) (gap_of s (at + 3)) && ltb (gap_of s (at + 3)) 15)
-    (owned_by s (byte_of s at) (byte_of s (at + 2)) && owned_by s (byte_of s (at + 1)) (byte_of s (at + 3)))
+    (leb (gap_of bytes 2) (gap_of bytes 3) && ltb (gap_of bytes 3) 15)
+    (owned_by s (byte_of bytes 0) (byte_of bytes 2) && owned_by s (byte_of bytes 1) (byte_of bytes 3))
 
 -- bytes 0 and 1: two scanners, the lower one first
-unfoldable pub scanners_right : List ℕ → ℕ → Bool
-scanners_right s at = ltb 0 (byte_of s at) && ltb (byte_of s at) (byte_of s (at + 1)) && leb (byte_of s (at + 1)) (byte_of s 0)
+unfoldable pub scanners_right : List ℕ → List ℕ → Bool
+scanners_right s bytes = ltb 0 (byte_of bytes 0) && ltb (byte_of bytes 0) (byte_of bytes 1) && leb (byte_of bytes 1) (byte_of s 0)
 
 -- bytes 4 to 7: the record behind it is one of the sheet's, or 0, and the last two are zero
-unfoldable pub tail_right : List ℕ → ℕ → Bool
-tail_right s at = leb (word_of s (at + 4)) (word_of s 4) && eqb (word_of s (at + 6)) 0
+unfoldable pub tail_right : List ℕ → List ℕ → Bool
+tail_right s bytes = leb (word_of bytes 4) (word_of s 4) && eqb (word_of bytes 6) 0
 
 unfoldable pub record_right : List ℕ → ℕ → Bool
-record_right s r = scanners_right s (record_at r) && fields_right s (record_at r) && tail_right s (record_at r)
+record_right s r = scanners_right s (record_of s r) && fields_right s (record_of s r) && tail_right s (record_of s r)
 
 -- ---- the chain
 
 -- the fault of the chain from record r on, where `left` records more can be good ones: a chain that goes on after that has come back to one
-unfoldable pub chain_fault : ℕ → List ℕ → ℕ → ℕ
-chain_fault zero s r = cond (eqb r 0) 0 4
+unfoldable pub chain_fault : ℕ → List ℕ → ℕ → Option Fault
+chain_fault zero s r = cond (eqb r 0) None (Some Chain)
 chain_fault (suc left) s r =
     elim (eqb r 0) [
-      | true ↦ 0
+      | true ↦ None
       | false ↦ elim (record_right s r) [
         | true ↦ chain_fault left s (next_of s r)
-        | false ↦ 3
+        | false ↦ Some Record
       ]
     ]
 
 -- ---- the sheet
 
 -- the first fault: too short for a header, the header, not as long as it says, the chain
-unfoldable pub fault_of : List ℕ → ℕ
+unfoldable pub fault_of : List ℕ → Option Fault
 fault_of s =
     cond
     (ltb (length s) 24)
-    1
-    (cond (header_right s) (cond (eqb (length s) (24 + 8 * word_of s 4)) (chain_fault (word_of s 4) s (word_of s 2)) 1) 2)
+    (Some Length)
+    (cond
+    (header_right s)
+    (cond (eqb (length s) (24 + 8 * word_of s 4)) (chain_fault (word_of s 4) s (word_of s 2)) (Some Length))
+    (Some Header))

@@ -88,10 +88,6 @@ compared (suc n) x y =
 
 -- ---- as the code has it
 
-pub lows-fit : (x y : ℕ) → bit_and x 1085102592571150095 ≤ bit_and y 1085102592571150095 + 9259542123273814144
-unfolding repeated
-lows-fit x y = enough 8 x y
-
 pub odd-compared : (x y : ℕ)
     → eqb (bit_and (bit_and y 1085102592571150095 + 9259542123273814144 - bit_and x 1085102592571150095) 9259542123273814144) 9259542123273814144
     ≡ all_to 8 (odd_at_most x y)

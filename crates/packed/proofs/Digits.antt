@@ -17,9 +17,9 @@ use Rattle.base.proofs.Search.{at_same, at_other}
 use Rattle.agent_rules.specs.Message.{known, nobody}
 use Rattle.agent_rules.specs.Choosing.{join}
 use Rattle.agent_rules.specs.Shape.{max_named}
-use Rattle.packed.specs.Packed.{digit, assignment, Compatible}
+use Rattle.packed.specs.Packed.{exchanged, digit, assignment, Compatible}
 use Rattle.packed.proofs.Known.{known-suc, known_from}
-use Rattle.packed.proofs.Fields.{exchanged, same, others, fits, more, less}
+use Rattle.packed.proofs.Fields.{same, others, fits, more, less}
 
 -- ---- digits, lowest first
 

@@ -82,17 +82,16 @@ module _ (x q : ℕ) (long : 2 ^ (4 * q) ≤ x) (short : x < 2 ^ (4 + 4 * q)) wh
 
 -- a word of m bits has (m + 3) / 4 digits
 top_digit : (x m : ℕ) → 1 ≤ x → x < 2 ^ m → 2 ^ m ≤ 2 * x + 1 → m ≤ 64
-    → (highest max_named (λ k. known (assignment x k)) ≡ some ((3 + m) / 4)) × (1 ≤ (3 + m) / 4) × ((3 + m) / 4 ≤ 16)
+    → highest max_named (λ k. known (assignment x k)) ≡ some ((3 + m) / 4)
 top_digit x zero some_named h l few = absurd (omega arith)
 top_digit x (suc m) some_named h l few =
     let q : (3 + suc m) / 4 ≡ suc (m / 4) = omega arith in
     let long : 2 ^ (4 * (m / 4)) ≤ 2 ^ m = pow_mono (omega arith) in
     let short : 2 ^ suc m ≤ 2 ^ (4 + 4 * (m / 4)) = pow_mono (omega arith) in
-    rw q (top x (m / 4) (omega (arith, pow-suc 2 m)) (lt_of_lt_of_le h short) (omega arith), omega arith, omega arith)
+    rw q (top x (m / 4) (omega (arith, pow-suc 2 m)) (lt_of_lt_of_le h short) (omega arith))
 
 pub last-named : (x : ℕ) → 1 ≤ x → x < 2 ^ 64
-    → let k = (67 - count_leading_zeros 64 x) / 4 in
-    (highest max_named (λ j. known (assignment x j)) ≡ some k) × (1 ≤ k) × (k ≤ 16)
+    → highest max_named (λ j. known (assignment x j)) ≡ some ((67 - count_leading_zeros 64 x) / 4)
 last-named x l h =
     let (m, e, s, t) = leading_length 64 x h in
     let d : 67 - count_leading_zeros 64 x ≡ 3 + m = omega arith in

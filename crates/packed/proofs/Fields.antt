@@ -2,17 +2,14 @@
 use Prim.Native.Nat.{ℕ, zero, suc, ◌+◌, ◌*◌, ◌-◌, ◌/◌, ◌%◌, ◌^◌, ◌≤◌, ◌<◌}
 use mathlib.Core.Path.{◌≡◌, sym, ap, ◌∙◌}
 use mathlib.Core.Logic.{◌≢◌}
-use native.Mathlib.Nat.{not-suc-le-zero, mod-lt, div-lt_iff_lt-mul, mul-le-mul_left}
+use native.Mathlib.Nat.{not-suc-le-zero, mul-suc, mod-lt, div-lt_iff_lt-mul, mul-le-mul_left}
 use native.Mathlib.Omega.{arith}
 use lib.Bits.{bit_and, and_high}
 use lib.Pow.{pow_pos, pow-add, split, high, low, field, mod-mod-pow, shr-shr, shr_lt, shl_exact, ones_lt, high_ones}
 use lib.Dec.{ltb}
 use borrow.Author.Tests.{ltb-true, ltb-false}
 use Rattle.base.proofs.Tests.{test}
-
--- x with v put in for those bits
-unfoldable pub exchanged : ℕ → ℕ → ℕ → ℕ → ℕ
-exchanged s p x v = x - x / 2 ^ p % 2 ^ s * 2 ^ p + v * 2 ^ p
+use Rattle.packed.specs.Packed.{exchanged}
 
 module _ (s p x v : ℕ) where
   -- above, those bits, below
@@ -64,6 +61,11 @@ module _ (s p x v : ℕ) where
       rw (← field (exchanged s p x v) s q, ← field x s q, same)
 
 -- ---- as the code has it, in words of 64 bits
+
+-- field k, from 1, has room
+pub room : (s k : ℕ) → 1 ≤ k → s * k ≤ 64 → s + s * (k - 1) ≤ 64
+room s zero l h = absurd (not-suc-le-zero l)
+room s (suc k) l h = let e : suc k - 1 ≡ k = omega arith in rw e (omega (arith, mul-suc s k))
 
 pub record Exchange (s p x v old : ℕ) : Type 0 where
   pub taken : old * 2 ^ p % 2 ^ 64 ≤ x

@@ -6,7 +6,7 @@ use native.Mathlib.Omega.{arith}
 use Rattle.base.specs.Finite.{at, sum}
 use Rattle.base.proofs.Tests.{test, eq_test}
 use Rattle.base.proofs.Search.{at_same, at_other}
-use Rattle.base.proofs.Counting.{misses, misses-most, misses-lt}
+use Rattle.base.proofs.Counting.{misses, misses-lt}
 use Rattle.agent_rules.specs.Message.{known}
 use Rattle.agent_rules.specs.Shape.{max_named}
 use Rattle.packed.specs.Packed.{assignment}
@@ -22,9 +22,6 @@ sum-misses (suc m) p =
 missed : (x : ℕ) → naming x ≡ misses 16 (λ k. not (known (assignment x k)))
 unfolding naming max_named
 missed x = sum-misses 16 (λ k. known (assignment x k))
-
-pub naming-few : (x : ℕ) → naming x ≤ 16
-naming-few x = rw missed (misses-most 16 (λ k. not (known (assignment x k))))
 
 pub naming-fewer : (x y k : ℕ) → 1 ≤ k → k ≤ 16 → known (assignment x k) ≡ true → assignment y ≡ at (assignment x) k 0
     → naming y < naming x

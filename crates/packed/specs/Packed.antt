@@ -1,10 +1,18 @@
 -- Packed words as maps on agents 1, 2, ..
-use Rattle.std.specs.Prelude.{ℕ, zero, suc, ◌+◌, ◌*◌, ◌/◌, ◌%◌, ◌^◌, ◌≤◌, ◌≡◌, Bool, true, false, cond, Option as Option', Some, None}
+use Rattle.std.specs.Prelude.{ℕ, zero, suc, ◌+◌, ◌*◌, ◌-◌, ◌/◌, ◌%◌, ◌^◌, ◌≤◌, ◌≡◌, Bool, true, false, cond, Option as Option', Some, None}
 use Rattle.std.proofs.Math.Option.{Option, none, some}
 use Rattle.base.specs.Finite.{at, from_one, lowest, sum}
 use Rattle.base.specs.Bits.{bit}
 use Rattle.agent_rules.specs.Message.{Assignment, known}
 use Rattle.agent_rules.specs.Shape.{max_named}
+
+-- field k of x, from 0, of s bits
+unfoldable pub field : ℕ → ℕ → ℕ → ℕ
+field s x k = x / 2 ^ (s * k) % 2 ^ s
+
+-- x with v put in for its s bits from bit p on
+unfoldable pub exchanged : ℕ → ℕ → ℕ → ℕ → ℕ
+exchanged s p x v = x - x / 2 ^ p % 2 ^ s * 2 ^ p + v * 2 ^ p
 
 -- digit k of x in base 16
 unfoldable pub digit : ℕ → ℕ → ℕ

@@ -1,13 +1,34 @@
 // Packed words: digits in base 16, and sets of agents. A place or an agent is a plain number from 1 to 16, as the clauses ask: callers come to it by
-// arithmetic on other numbers, and a type of its own with that invariant would have to be made, and shown, at each of their calls.
+// arithmetic on other numbers, and a type of its own with that invariant would have to be made, and shown, at each of their calls. A word or a set is a
+// plain number too, as the record that is handed over has it.
 #![tactic(auto)]
 
-ghost use Rattle.std.specs.Prelude.{◌≡◌, ℕ, ◌+◌, ◌*◌, ◌-◌, ◌≤◌, ◌<◌, true, false, not, cond, ◌||◌, eqb, leb, IfSome};
+ghost use Rattle.std.specs.Prelude.{◌≡◌, ℕ, ◌+◌, ◌*◌, ◌-◌, ◌^◌, ◌≤◌, ◌<◌, true, false, not, cond, ◌||◌, eqb, leb, IfSome};
 ghost use Rattle.std.specs.Iterator.{at_most};
 ghost use Rattle.base.specs.Finite.{at, highest, all_to};
 ghost use Rattle.agent_rules.specs.Message.{known};
 ghost use Rattle.agent_rules.specs.Shape.{max_named};
-ghost use Rattle.packed.specs.Packed.{assignment, members, option_of, Lowest, naming, EntryTaken, MemberTaken};
+ghost use Rattle.packed.specs.Packed.{field, exchanged, assignment, members, option_of, Lowest, naming, EntryTaken, MemberTaken};
+
+// ---- fields of so many bits each
+
+// Field k of a word, from 1.
+pub fn field<const BITS: u8>(x: u64, k: u8) -> u8
+    requires { (1 ≤ k) × (BITS ≤ 8) × (BITS * k ≤ 64) }
+    ensures { result ≡ field BITS x (k - 1) }
+{
+    ((x >> (BITS * (k - 1))) % (1 << BITS)) as u8
+}
+
+// The word with v as field k.
+pub fn with_field<const BITS: u8>(x: u64, k: u8, v: u8) -> u64
+    requires { (1 ≤ k) × (BITS ≤ 8) × (BITS * k ≤ 64) × (v < 2 ^ BITS) }
+    ensures { result ≡ exchanged BITS (BITS * (k - 1)) x v }
+{
+    let place = BITS * (k - 1);
+    let mask: u64 = (1 << BITS) - 1;
+    x - (x & (mask << place)) + ((v as u64) << place)
+}
 
 // ---- digits
 
@@ -16,7 +37,7 @@ pub fn digit(x: u64, k: u8) -> u8
     requires { (1 ≤ k) × (k ≤ 16) }
     ensures { (result ≡ assignment x k) × (result < 16) }
 {
-    ((x >> (4 * (k - 1))) % 16) as u8
+    field::<4>(x, k)
 }
 
 // The word with v as digit k.
@@ -24,8 +45,7 @@ pub fn with_digit(x: u64, k: u8, v: u8) -> u64
     requires { (1 ≤ k) × (k ≤ 16) × (v < 16) }
     ensures { assignment result ≡ at (assignment x) k v }
 {
-    let place = 4 * (k - 1);
-    x - (x & (15u64 << place)) + ((v as u64) << place)
+    with_field::<4>(x, k, v)
 }
 
 // The word with one more as digit k, which is under 15.

@@ -1,18 +1,11 @@
-// Random numbers, the same ones in each run.
+// Random bytes, by the generator that the random sheets are drawn by.
 ghost use Rattle.std.specs.Prelude.{◌-◌, ◌≤◌};
 
-// Lehmer's generator: the state after this one.
-pub fn next(state: u64) -> u64 {
-    state % 2147483647 * 48271 % 2147483647
-}
+use random_rails::draws::pick;
 
-// A number below `below`, and 0 where there is none.
+// One of the numbers from 0 up to `below` less one. 0 is always one of them.
 pub fn draw(state: u64, below: u8) -> u8
     ensures { result ≤ below - 1 }
 {
-    if below == 0 {
-        0
-    } else {
-        (state % u64::from(below)) as u8
-    }
+    pick(state, usize::from(below)) as u8
 }

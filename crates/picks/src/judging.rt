@@ -1,6 +1,8 @@
-// What a pick must do, worked out a second time: the lines have numbers 0 to 131, and the round goes on from the number behind the place's, modulo 132.
-ghost use Rattle.std.specs.Prelude.{◌≤◌, ◌<◌};
+// What a pick must do, worked out a second time by other means, but for the numbering of the lines, which is proved: they have numbers 0 to 131, and the
+// round goes on from the number behind the place's, modulo 132.
+ghost use Rattle.std.specs.Prelude.{◌≤◌, ◌<◌, IfSome};
 
+use clauses::places::{channel_at, ends_of, is_line};
 use dispatch::{Dispatcher, Line, Picked};
 use network::Network;
 use refusals::Refusal;
@@ -9,9 +11,7 @@ use refusals::Refusal;
 pub fn line_of(number: usize) -> Line
     requires { number < 132 }
 {
-    let from = (number / 11 + 1) as u8;
-    let other = (number % 11 + 1) as u8;
-    let to = if other < from { other } else { other + 1 };
+    let (from, to) = ends_of(number);
     Line { from, to }
 }
 
@@ -20,18 +20,15 @@ pub fn among(n: u8, line: Line) -> bool {
     line.from <= n && line.to <= n
 }
 
-// The number behind that of a line of n scanners; 0 where there is no such line.
-fn behind(n: u8, place: Line) -> usize
-    ensures { result ≤ 132 }
+// The number behind that of a line of n scanners; none where there is no such line.
+#[tactic(auto, using(board_text::proofs::Lines::channel), unfolding(base::specs::Finite::within))]
+fn behind(n: u8, place: Line) -> Option<usize>
+    ensures { IfSome result (λ k. k ≤ 132) }
 {
-    let Line { from, to } = place;
-    let is_line = n <= 12 && (1..=n).contains(&from) && (1..=n).contains(&to) && from != to;
-    if !is_line {
-        0
-    } else if to < from {
-        11 * (from as usize - 1) + to as usize
+    if n <= 12 && is_line(n, place.from, place.to) {
+        Some(channel_at(place.from, place.to) + 1)
     } else {
-        11 * (from as usize - 1) + to as usize - 1
+        None
     }
 }
 
@@ -40,9 +37,9 @@ pub fn can(r: Network, line: Line) -> bool {
     run::deliver(r, line.from, line.to).refusal.is_none()
 }
 
-// The first line that can be delivered, from the one behind the place on.
+// The first line that can be delivered, from the one behind the place on; from the first one, where the place is no line.
 fn in_turn(r: Network, place: Line) -> Option<Line> {
-    let first = behind(r.count, place);
+    let first = behind(r.count, place).unwrap_or(0);
     for k in 0..132 {
         let line = line_of((first + k) % 132);
         if among(r.count, line) && can(r, line) {
@@ -50,37 +47,6 @@ fn in_turn(r: Network, place: Line) -> Option<Line> {
         }
     }
     None
-}
-
-// The pick takes the wish: it is odd, and the wish can be delivered.
-fn wish_met(d: Dispatcher, wish: Line) -> bool {
-    d.picks != u64::MAX && d.picks % 2 == 0 && can(d.network, wish)
-}
-
-// ---- what is left
-
-// The same lines hold as many messages from the same places on, under the same verdict.
-fn same_lines(a: Network, b: Network) -> bool {
-    a.count == b.count && a.verdict == b.verdict && a.counts == b.counts && a.heads == b.heads
-}
-
-// The state is the one given, and no line was served.
-pub fn unchanged(d: Dispatcher, p: Picked) -> bool {
-    p.answer.is_err()
-        && p.state.picks == d.picks
-        && p.state.place == d.place
-        && same_lines(d.network, p.state.network)
-}
-
-// The pick served this line, and this is the place now.
-fn serves(d: Dispatcher, p: Picked, line: Line, place: Line) -> bool {
-    p.answer == Ok(line)
-        && p.state.picks == d.picks.saturating_add(1)
-        && p.state.place == place
-        && same_lines(
-            run::deliver(d.network, line.from, line.to).network,
-            p.state.network,
-        )
 }
 
 // The refusal where no line can be delivered. Something waits where a row of counts is not zero. (A rail that a start leads to has no digits but its lines'.)
@@ -94,13 +60,60 @@ fn refusal(r: Network) -> Refusal {
     }
 }
 
-// The pick did what it must.
-pub fn right(d: Dispatcher, wish: Line, p: Picked) -> bool {
-    if wish_met(d, wish) {
-        return serves(d, p, wish, d.place);
+// ---- a pick
+
+// The dispatcher that a pick was made on, its wish, and what it came to.
+#[derive(Clone, Copy)]
+pub struct Pick {
+    pub before: Dispatcher,
+    pub wish: Line,
+    pub picked: Picked,
+}
+
+impl Pick {
+    pub fn made(before: Dispatcher, wish: Line) -> Pick {
+        Pick {
+            before,
+            wish,
+            picked: dispatch::pick(before, wish),
+        }
     }
-    match in_turn(d.network, d.place) {
-        Some(line) => serves(d, p, line, line),
-        None => p.answer == Err(refusal(d.network)) && unchanged(d, p),
+
+    // It takes the wish: it is odd, and the wish can be delivered.
+    fn meets_wish(&self) -> bool {
+        self.before.picks != u64::MAX
+            && self.before.picks % 2 == 0
+            && can(self.before.network, self.wish)
+    }
+
+    // The state is the one given, and no line was served.
+    pub fn is_unchanged(&self) -> bool {
+        self.picked.answer.is_err() && self.picked.state == self.before
+    }
+
+    // It served this line, and this is the place now.
+    fn serves(&self, line: Line, place: Line) -> bool {
+        let state = Dispatcher {
+            network: run::deliver(self.before.network, line.from, line.to).network,
+            picks: self.before.picks.saturating_add(1),
+            place,
+        };
+        self.picked
+            == Picked {
+                answer: Ok(line),
+                state,
+            }
+    }
+
+    // It did what it must.
+    pub fn is_right(&self) -> bool {
+        let Dispatcher { network, place, .. } = self.before;
+        if self.meets_wish() {
+            return self.serves(self.wish, place);
+        }
+        match in_turn(network, place) {
+            Some(line) => self.serves(line, line),
+            None => self.picked.answer == Err(refusal(network)) && self.is_unchanged(),
+        }
     }
 }

@@ -10,8 +10,9 @@ mod watching;
 mod worked;
 
 use dispatch::{Dispatcher, Line};
-use draws::{draw, next};
-use judging::right;
+use draws::draw;
+use judging::Pick;
+use random_rails::draws::next;
 use refusals::Refusal;
 use sheets::{rail, random_sheet};
 use watching::{Watch, none_waited, with_pick};
@@ -19,7 +20,7 @@ use words::printing::Out;
 use worked::put_worked;
 
 // How many picks served the wish, went round, or were refused with 7, 8 and 10; rails played, failures, and the longest wait.
-#[derive(Clone, Copy)]
+#[derive(Clone, Copy, Default)]
 struct Tally {
     rails: u64,
     wishes: u64,
@@ -29,19 +30,6 @@ struct Tally {
     stuck: u64,
     failures: u64,
     longest: u64,
-}
-
-fn blank_tally() -> Tally {
-    Tally {
-        rails: 0,
-        wishes: 0,
-        rounds: 0,
-        verdicts: 0,
-        rests: 0,
-        stuck: 0,
-        failures: 0,
-        longest: 0,
-    }
 }
 
 // One more, where it holds.
@@ -81,7 +69,6 @@ struct Play {
     watch: Watch,
     tally: Tally,
     state: u64,
-    over: bool,
 }
 
 // Two of n scanners, which may be one; one time in eight any two numbers from 0 to 7.
@@ -101,17 +88,15 @@ fn wish(n: u8, state: u64) -> Line {
     }
 }
 
-fn picked(p: Play) -> Play {
-    let d = p.dispatcher;
-    let line = wish(d.network.count, p.state);
-    let a = dispatch::pick(d, line);
-    let wished = d.picks % 2 == 0 && a.answer == Ok(line);
+// With what has come of one pick more.
+fn with_played(p: Play, pick: &Pick) -> Play {
+    let answer = pick.picked.answer;
+    let wished = pick.before.picks % 2 == 0 && answer == Ok(pick.wish);
     Play {
-        dispatcher: a.state,
-        watch: with_pick(p.watch, d.network, a.answer.ok()),
-        tally: with_answer(p.tally, a.answer, wished, right(d, line, a)),
+        dispatcher: pick.picked.state,
+        watch: with_pick(p.watch, pick.before.network, answer.ok()),
+        tally: with_answer(p.tally, answer, wished, pick.is_right()),
         state: next(next(next(p.state))),
-        over: a.answer.is_err(),
     }
 }
 
@@ -119,10 +104,12 @@ fn picked(p: Play) -> Play {
 fn played(play: Play, most: usize) -> Play {
     let mut p = play;
     for _ in 0..most {
-        if p.over {
+        let wish = wish(p.dispatcher.network.count, p.state);
+        let pick = Pick::made(p.dispatcher, wish);
+        p = with_played(p, &pick);
+        if pick.picked.answer.is_err() {
             break;
         }
-        p = picked(p);
     }
     p
 }
@@ -167,7 +154,6 @@ fn with_random(t: Trial) -> Trial {
         watch: none_waited(),
         tally: t.tally,
         state: next(e),
-        over: false,
     };
     let p = played(begun, 150);
     Trial {
@@ -179,7 +165,7 @@ fn with_random(t: Trial) -> Trial {
 // So many rails, from a fixed seed.
 fn tried(rails: usize) -> Tally {
     let mut t = Trial {
-        tally: blank_tally(),
+        tally: Tally::default(),
         state: 20030139,
     };
     for _ in 0..rails {

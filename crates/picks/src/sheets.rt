@@ -1,8 +1,10 @@
 // Sheets of edition 1, ban by ban, and the rails that they start.
-use crate::draws::{draw, next};
+use crate::draws::draw;
 use network::Network;
+use random_rails::draws::next;
 
-// A sheet of so many records, chained in their order.
+// A sheet of so many records, chained in their order. `cases` builds sheets from lines of text, and in room for the longest; here are at most 28 records, so
+// that a case is cheap to copy. A draft's room is fixed, and what is behind the last record is zero.
 #[derive(Clone, Copy)]
 pub struct Draft {
     pub bytes: [u8; 256],
@@ -78,55 +80,41 @@ pub struct Drawn {
     pub state: u64,
 }
 
-// Scanner i has up to `most` slots.
-fn with_scanner(d: Drawn, i: u8, most: u8) -> Drawn {
-    let state = next(d.state);
-    let slots = draw(state, most) % 8 + 1;
-    Drawn {
-        draft: with_slots(d.draft, i, slots),
-        state,
-    }
-}
-
-fn with_scanners(d: Drawn, n: u8, most: u8) -> Drawn {
-    let mut o = d;
-    for i in 1..=n {
-        o = with_scanner(o, i, most);
-    }
-    o
-}
-
 // A slot of scanner i.
 fn slot_of(d: Draft, i: u8, state: u64) -> u8 {
     draw(state, byte_at(d, 7 + i as usize)) % 8 + 1
 }
 
-// One random ban more between two of n scanners.
-fn with_random(d: Drawn, n: u8) -> Drawn {
-    if n < 2 {
-        return d;
+impl Drawn {
+    // Scanner i has up to `most` slots.
+    fn with_scanner(self, i: u8, most: u8) -> Drawn {
+        let state = next(self.state);
+        let slots = draw(state, most) % 8 + 1;
+        Drawn {
+            draft: with_slots(self.draft, i, slots),
+            state,
+        }
     }
-    let Drawn { draft, state } = d;
-    let a = next(state);
-    let b = next(a);
-    let e = next(b);
-    let f = next(e);
-    let lower = 1 + draw(a, n - 1);
-    let higher = lower + 1 + draw(b, n - lower);
-    let slot = slot_of(draft, lower, e);
-    let other = slot_of(draft, higher, f);
-    Drawn {
-        draft: with_ban(draft, lower, slot, higher, other),
-        state: f,
-    }
-}
 
-fn with_bans(d: Drawn, n: u8, bans: u8) -> Drawn {
-    let mut o = d;
-    for _ in 0..bans {
-        o = with_random(o, n);
+    // One random ban more between two of n scanners, where there are two.
+    fn with_random(self, n: u8) -> Drawn {
+        if n < 2 {
+            return self;
+        }
+        let Drawn { draft, state } = self;
+        let a = next(state);
+        let b = next(a);
+        let e = next(b);
+        let f = next(e);
+        let lower = 1 + draw(a, n - 1);
+        let higher = lower + 1 + draw(b, n - lower);
+        let slot = slot_of(draft, lower, e);
+        let other = slot_of(draft, higher, f);
+        Drawn {
+            draft: with_ban(draft, lower, slot, higher, other),
+            state: f,
+        }
     }
-    o
 }
 
 // One to six scanners, one to four slots each, up to 28 bans.
@@ -135,9 +123,15 @@ pub fn random_sheet(state: u64) -> Drawn {
     let b = next(a);
     let c = next(b);
     let n = draw(a, 6) + 1;
-    let d = Drawn {
+    let mut d = Drawn {
         draft: blank(n),
         state: c,
     };
-    with_bans(with_scanners(d, n, draw(b, 4) + 1), n, draw(c, 29))
+    for i in 1..=n {
+        d = d.with_scanner(i, draw(b, 4) + 1);
+    }
+    for _ in 0..draw(c, 29) {
+        d = d.with_random(n);
+    }
+    d
 }

@@ -1,9 +1,9 @@
 // Worked picks, each printed with its wish, its answer, the count and the place.
-use crate::judging::{right, unchanged};
+use crate::judging::Pick;
 use crate::sheets::{drafted, rail};
-use dispatch::{Dispatcher, Line, NO_LINE, Picked};
+use board_text::put_ends;
+use dispatch::{Dispatcher, Line, NO_LINE};
 use network::Network;
-use refusals::Refusal;
 use words::printing::Out;
 
 // ---- rails
@@ -73,44 +73,30 @@ fn broken(r: Network) -> Network {
 
 // ---- printing
 
-fn put_line(o: Out, before: &[u8], line: Line) -> Out {
-    o.put(before)
-        .number(u64::from(line.from))
-        .put(b" ")
-        .number(u64::from(line.to))
-}
-
-// What is left of a refused pick.
-fn put_refused(o: Out, d: Dispatcher, p: Picked, refusal: Refusal) -> Out {
-    let said = o.put(b": refused ").number(u64::from(refusal.number()));
-    if unchanged(d, p) {
-        said.put(b", unchanged")
-    } else {
-        said.put(b", CHANGED")
-    }
-}
-
-fn put_served(o: Out, d: Dispatcher, wish: Line, p: Picked, line: Line) -> Out {
-    let said = put_line(o, b": delivered ", line);
-    if right(d, wish, p) {
-        said
-    } else {
-        said.put(b", WRONG")
-    }
-}
-
-// A pick with this wish.
-fn put_pick(o: Out, d: Dispatcher, wish: Line, p: Picked) -> Out {
-    let said = put_line(o, b"  wish ", wish);
-    let answered = match p.answer {
-        Ok(line) => put_served(said, d, wish, p, line),
-        Err(refusal) => put_refused(said, d, p, refusal),
+// A pick: its wish, its answer, and what it left.
+fn put_pick(o: Out, p: &Pick) -> Out {
+    let said = put_ends(o, b"  wish ", p.wish);
+    let answered = match p.picked.answer {
+        Ok(line) => {
+            let wrong = if p.is_right() { "" } else { ", WRONG" };
+            put_ends(said, b": delivered ", line).put(wrong.as_bytes())
+        }
+        Err(refusal) => {
+            let left = if p.is_unchanged() {
+                ", unchanged"
+            } else {
+                ", CHANGED"
+            };
+            let said = said.put(b": refused ").number(u64::from(refusal.number()));
+            said.put(left.as_bytes())
+        }
     };
-    let counted = answered.put(b", count ").number(p.state.picks);
-    put_line(counted, b", place ", p.state.place).put(b"\n")
+    let counted = answered.put(b", count ").number(p.picked.state.picks);
+    put_ends(counted, b", place ", p.picked.state.place).put(b"\n")
 }
 
-// Picks with these wishes one behind the other.
+// Picks with these wishes one behind the other. Wishes are pairs here, as bans are fours: several stand in a line of the text, where each with the names of
+// its fields would take four.
 fn put_picks(o: Out, name: &[u8], dispatcher: Dispatcher, wishes: &[(u8, u8)]) -> Out {
     let mut out = o.put(name).put(b"\n");
     let mut d = dispatcher;
@@ -119,9 +105,9 @@ fn put_picks(o: Out, name: &[u8], dispatcher: Dispatcher, wishes: &[(u8, u8)]) -
             from: *from,
             to: *to,
         };
-        let p = dispatch::pick(d, wish);
-        out = put_pick(out, d, wish, p);
-        d = p.state;
+        let p = Pick::made(d, wish);
+        out = put_pick(out, &p);
+        d = p.picked.state;
     }
     out
 }

@@ -8,8 +8,7 @@ mod tallies;
 
 use engine::Ending;
 use network::Network;
-use oracle::choices::{settles, solvable};
-use oracle::reading::{fault, of_gaps};
+use oracle::reading::Sheet;
 use oracle::taken::taken;
 use random_rails::drafts::drawn;
 use random_rails::draws::{next, pick};
@@ -25,66 +24,70 @@ fn allowed(state: u64) -> u64 {
     }
 }
 
-// How a run ends: right where a plan settles the sheet, and where the search finds nothing for `none`.
-fn try_run(t: &mut Tally, trial: Trial, rail: Network, state: u64, found: bool) {
-    let out = run::run(rail, allowed(state));
-    match out.ending {
-        Ending::Plan => {
-            t.plans.add(1);
-            let right = settles(trial.sheet, taken(out.network));
-            t.judge(trial, right, b"a plan that breaks a ban:");
-        }
-        Ending::None => {
-            t.nones.add(1);
-            t.judge(trial, !found, b"none, where there is a plan:");
-        }
-        Ending::Jammed => t.jammed.add(1),
-        Ending::Open => t.open.add(1),
-        Ending::Broken => {
-            t.open.add(1);
-            t.judge(trial, false, b"a start out of shape:");
-        }
-    }
-}
-
-// Where a list of deliveries comes to.
-fn try_list(t: &mut Tally, trial: Trial, rail: Network, state: u64, found: bool) {
-    let l = listed(rail, state, 200);
-    t.accepted.add(l.accepted);
-    t.refusals.add(l.refused);
-    if l.rail.verdict {
-        t.at_verdict.add(1);
-        t.judge(trial, !found, b"a verdict, where there is a plan:");
-    } else if at_rest(l.rail) {
-        t.at_rest.add(1);
-        let right = settles(trial.sheet, taken(l.rail));
-        t.judge(trial, right, b"a rest that breaks a ban:");
-    } else {
-        t.cut_short.add(1);
-    }
-    t.judge(trial, l.wrong == 0, b"a delivery with a wrong number:");
-}
-
-// A sheet under a rule, which is refused with the right number, or whose rail is run and delivered on.
-fn try_sheet(t: &mut Tally, trial: Trial, state: u64) {
-    let started = start::start(trial.rule, trial.sheet);
-    let number = started.map_or_else(|e| e.number(), |_| 0);
-    t.sheets.add(1);
-    t.judge(
-        trial,
-        number == fault(trial.sheet),
-        b"a sheet that is not refused as it must be:",
-    );
-    match started {
-        Ok(rail) => {
-            if of_gaps(trial.sheet) {
-                t.gaps.add(1);
+// A trial, its rail, the generator's state and whether there is a plan go together into two functions, and only from here: a struct would be made for the two alone.
+impl Tally {
+    // How a run ends: right where a plan settles the sheet, and where the search finds nothing for `none`.
+    fn try_run(&mut self, trial: Trial, rail: Network, state: u64, found: bool) {
+        let out = run::run(rail, allowed(state));
+        match out.ending {
+            Ending::Plan => {
+                self.plans.add(1);
+                let right = trial.sheet.settles(taken(out.network));
+                self.judge(trial, right, b"a plan that breaks a ban:");
             }
-            let found = solvable(trial.sheet);
-            try_run(t, trial, rail, state, found);
-            try_list(t, trial, rail, next(state), found);
+            Ending::None => {
+                self.nones.add(1);
+                self.judge(trial, !found, b"none, where there is a plan:");
+            }
+            Ending::Jammed => self.jammed.add(1),
+            Ending::Open => self.open.add(1),
+            Ending::Broken => {
+                self.open.add(1);
+                self.judge(trial, false, b"a start out of shape:");
+            }
         }
-        Err(_) => t.refuse(number),
+    }
+
+    // Where a list of deliveries comes to.
+    fn try_list(&mut self, trial: Trial, rail: Network, state: u64, found: bool) {
+        let l = listed(rail, state, 200);
+        self.accepted.add(l.accepted);
+        self.refusals.add(l.refused);
+        if l.rail.verdict {
+            self.at_verdict.add(1);
+            self.judge(trial, !found, b"a verdict, where there is a plan:");
+        } else if at_rest(l.rail) {
+            self.at_rest.add(1);
+            let right = trial.sheet.settles(taken(l.rail));
+            self.judge(trial, right, b"a rest that breaks a ban:");
+        } else {
+            self.cut_short.add(1);
+        }
+        self.judge(trial, l.wrong == 0, b"a delivery with a wrong number:");
+    }
+
+    // A sheet under a rule, which is refused with the right number, or whose rail is run and delivered on.
+    fn try_sheet(&mut self, trial: Trial, state: u64) {
+        let sheet = trial.sheet;
+        let started = start::start(trial.rule, sheet.bytes);
+        let right = match (started, sheet.fault()) {
+            (Ok(_), None) => true,
+            (Err(refusal), Some(fault)) => refusal.number() == fault.number(),
+            _ => false,
+        };
+        self.sheets.add(1);
+        self.judge(trial, right, b"a sheet that is not refused as it must be:");
+        match started {
+            Ok(rail) => {
+                if sheet.of_gaps() {
+                    self.gaps.add(1);
+                }
+                let found = sheet.solvable();
+                self.try_run(trial, rail, state, found);
+                self.try_list(trial, rail, next(state), found);
+            }
+            Err(refusal) => self.refuse(refusal),
+        }
     }
 }
 
@@ -95,10 +98,9 @@ fn tried(sheets: usize) -> Tally {
     for _ in 0..sheets {
         let d = drawn(state);
         state = d.state;
-        if let Some(sheet) = d.bytes.get(..d.length) {
-            for rule in 1..=2 {
-                try_sheet(&mut t, Trial { rule, sheet }, state);
-            }
+        let sheet = Sheet { bytes: d.sheet() };
+        for rule in 1..=2 {
+            t.try_sheet(Trial { rule, sheet }, state);
         }
     }
     t

@@ -1,15 +1,17 @@
 // How many of each kind were tried, and what failed.
 use counters::Count;
+use oracle::reading::Sheet;
+use refusals::Refusal;
 use words::printing::Out;
 
 // A sheet under a rule.
 #[derive(Clone, Copy)]
 pub struct Trial<'a> {
     pub rule: u8,
-    pub sheet: &'a [u8],
+    pub sheet: Sheet<'a>,
 }
 
-// How many of each kind: `refused` by number, from 1; `accepted` and `refusals` are deliveries.
+// How many of each kind: `refused` by number, from 1 to 4; `accepted` and `refusals` are deliveries.
 #[derive(Clone, Copy)]
 pub struct Tally {
     pub sheets: Count,
@@ -49,10 +51,13 @@ impl Tally {
         }
     }
 
-    // A sheet more that is refused with the number.
-    pub fn refuse(&mut self, number: u8) {
-        match number {
-            1..=4 => self.refused[number as usize - 1].add(1),
+    // A sheet more that is refused so.
+    pub fn refuse(&mut self, refusal: Refusal) {
+        match refusal {
+            Refusal::BadLength => self.refused[0].add(1),
+            Refusal::BadHeader => self.refused[1].add(1),
+            Refusal::BadRecord => self.refused[2].add(1),
+            Refusal::Cycle => self.refused[3].add(1),
             _ => {}
         }
     }
@@ -67,7 +72,7 @@ impl Tally {
                 .number(trial.rule as u64)
                 .put(b": ")
                 .put(words);
-            for b in trial.sheet {
+            for b in trial.sheet.bytes {
                 self.out = self.out.byte(*b);
             }
             self.out = self.out.put(b"\n");

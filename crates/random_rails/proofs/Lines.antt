@@ -1,50 +1,54 @@
 -- The lines by their numbers: their ends, what waits on them, and a search that goes round them all.
-use Prim.Native.Nat.{ℕ, zero, suc, ◌+◌, ◌-◌, ◌*◌, ◌/◌, ◌%◌, ◌≤◌, ◌<◌}
+use Prim.Native.Nat.{ℕ, zero, suc, ◌+◌, ◌-◌, ◌/◌, ◌%◌, ◌≤◌, ◌<◌}
 use mathlib.Core.Path.{◌≡◌, refl, sym, ap, ◌∙◌}
-use mathlib.Core.Bool.{Bool, true, not, false, and-false}
+use mathlib.Core.Bool.{Bool, true, not, ◌&&◌, false, and-false}
 use mathlib.Core.List.{List}
 use Rattle.std.proofs.Common.{Option, Some, None}
 use Rattle.std.specs.Option.{is_some}
 use native.Mathlib.Omega.{arith}
-use lib.Dec.{leb}
+use lib.Dec.{leb, ltb, eqb}
 use lib.ListN.{get_or}
-use borrow.Author.Tests.{lt-ltb, le-ltb, leb-true, leb-false, eq-eqb, ne_eqb}
-use Rattle.base.proofs.Tests.{test, eq_test, not-not}
+use borrow.Author.Tests.{lt-ltb, le-ltb, ltb-true, ltb-false, leb-true, leb-false, eq-eqb, ne_eqb}
+use Rattle.base.specs.Finite.{within}
+use Rattle.base.proofs.Tests.{test, eq_test, not-not, both, within-true}
+use Rattle.protocol.specs.Lines.{is_channel, channel_at}
 use Rattle.packed.specs.Packed.{assignment}
-use Rattle.clauses.proofs.Numbering.{channel-up, channel-down}
-use Rattle.random_rails.specs.Lines.{sender_of, receiver_of, EndsOf, held_on, rests_below, rests_on, Waiting}
+use Rattle.clauses.proofs.Numbering.{ends, channel-up, channel-down}
+use Rattle.random_rails.specs.Lines.{sender_of, receiver_of, held_on, rests_below, rests_on, Waiting}
 
 -- ---- the ends of a line
 
-pub ends_low : (line : ℕ) → line < 132 → line % 11 + 1 < line / 11 + 1 → EndsOf line (line / 11 + 1) (line % 11 + 1)
+-- the channel with this number goes from the line's sender to its receiver
+pub ends_of : (line from to : ℕ) → is_channel from to ≡ true → channel_at from to ≡ line → (from ≡ sender_of line) × (to ≡ receiver_of line)
 unfolding sender_of receiver_of
-ends_low line l h =
-    let number : 11 * (line / 11 + 1 - 1) + (line % 11 + 1) - 1 ≡ line = omega arith in
-    record {
-      sender = refl;
-      receiver = rw (lt-ltb (line % 11 + 1) (line / 11 + 1) h);
-      numbered = sym (channel-up (line / 11 + 1) (line % 11 + 1) (omega arith) h) ∙ number;
-      senders = omega arith;
-      receivers = omega arith;
-    }
+ends_of line from to h e =
+    let b = ends from to h in
+    test (ltb to from)
+    (λ t.
+    let u = ltb-true to from t in
+    let n = channel-up from to b.to_low u ∙ e in
+    let f : from ≡ line / 11 + 1 = omega arith in
+    let o : to ≡ line % 11 + 1 = omega arith in
+    (f, rw (lt-ltb (line % 11 + 1) (line / 11 + 1) (omega arith)) o))
+    (λ t.
+    let u = ltb-false to from t in
+    let n = channel-down from to (omega (arith, b.apart)) u ∙ e in
+    let f : from ≡ line / 11 + 1 = omega (arith, b.apart) in
+    let o : to ≡ line % 11 + 1 + 1 = omega (arith, b.apart) in
+    (f, rw (le-ltb (line % 11 + 1) (line / 11 + 1) (omega arith)) o))
 
-pub ends-high : (line : ℕ) → line < 132 → line / 11 + 1 ≤ line % 11 + 1 → EndsOf line (line / 11 + 1) (line % 11 + 1 + 1)
-unfolding sender_of receiver_of
-ends-high line l h =
-    let number : 11 * (line / 11 + 1 - 1) + (line % 11 + 1 + 1) - 2 ≡ line = omega arith in
-    record {
-      sender = refl;
-      receiver = rw (le-ltb (line % 11 + 1) (line / 11 + 1) h);
-      numbered = sym (channel-down (line / 11 + 1) (line % 11 + 1 + 1) (omega arith) (omega arith)) ∙ number;
-      senders = omega arith;
-      receivers = omega arith;
-    }
+-- the ends of a line are none of them 0
+pub line_low : (n i j : ℕ) (b : Bool) → b ≡ within n i && within n j && not (eqb i j) → b ≡ true → (1 ≤ i) × (1 ≤ j)
+line_low n i j b e t =
+    let w = both (within n i) (within n j) (both (within n i && within n j) (not (eqb i j)) (sym e ∙ t)).0 in
+    ((within-true n i w.0).0, (within-true n j w.1).0)
 
 -- ---- what waits on a line, by its ends
 
-pub held_by : (counts : List ℕ) (line from to n : ℕ) → EndsOf line from to → n ≡ assignment (get_or counts (from - 1) 0) to → n ≡ held_on counts line
+pub held_by : (counts : List ℕ) (line from to n : ℕ) → is_channel from to ≡ true → channel_at from to ≡ line
+    → n ≡ assignment (get_or counts (from - 1) 0) to → n ≡ held_on counts line
 unfolding held_on
-held_by counts line from to n e h = rw (← e.sender, ← e.receiver) h
+held_by counts line from to n h e w = let ends = ends_of line from to h e in rw (← ends.0, ← ends.1) w
 
 -- ---- round all lines
 

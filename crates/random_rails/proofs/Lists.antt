@@ -1,7 +1,7 @@
 -- One delivery more on a list of deliveries: it is counted as what it was, and leads to the rail that it leaves.
 use Prim.Native.Nat.{ℕ, ◌+◌, ◌≤◌}
 use mathlib.Core.Path.{◌≡◌, sym, ap, ◌∙◌}
-use mathlib.Core.Bool.{Bool, true, false, not}
+use mathlib.Core.Bool.{Bool, not}
 use mir.Val.{bool_byte}
 use native.Mathlib.Omega.{arith}
 use lib.Dec.{eqb}
@@ -13,6 +13,7 @@ use Rattle.refusals.specs.Refusals.{refusal_number}
 use Rattle.refusals.proofs.Numbers.{refusal-some}
 use Rattle.engine.specs.Refused.{refused_number}
 use Rattle.base.proofs.Tests.{eq_test, not-not}
+use Rattle.packed.proofs.Masks.{byte-lt}
 use Rattle.protocol.specs.Network.{Network as Network'}
 use Rattle.protocol.specs.Delivery.{deliver}
 use Rattle.network.specs.Abstract.{network_of}
@@ -28,17 +29,13 @@ module _ (w : Network') (a r : ℕ) (before after : Network) (i j number : ℕ) 
   by-refused : (number ≡ 0 → ⊥) → Deliveries w a r (network_of before) → Deliveries w a (r + 1) (network_of after)
   by-refused n h = rw d.network (refused h i j (λ e. n (d.number ∙ e)))
 
-at_most_one : (b : Bool) → bool_byte b ≤ 1
-at_most_one true = omega arith
-at_most_one false = omega arith
-
 pub goes : (l o : List) (i j number : ℕ) (odd : Bool) → DeliversAs l.rail (deliver (network_of l.rail) i j) number o.rail
     → o.accepted ≡ l.accepted + bool_byte (eqb number 0)
     → o.refused ≡ l.refused + bool_byte (not (eqb number 0))
     → o.wrong ≡ l.wrong + bool_byte odd
     → Goes l o
 goes l o i j number odd d a r x =
-    let wrong : o.wrong ≤ l.wrong + 1 = omega (arith, x, at_most_one odd) in
+    let wrong : o.wrong ≤ l.wrong + 1 = omega (arith, x, byte-lt odd) in
     eq_test number 0
     (λ e.
     let a' : o.accepted ≡ l.accepted + 1 = rw (eq-eqb number 0 e) at a in

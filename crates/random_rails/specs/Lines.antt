@@ -1,7 +1,6 @@
 -- The 132 lines by their numbers, from 0: by sender, then receiver. What waits on them is read off the rows of counts, one for each sender.
-use Rattle.std.specs.Prelude.{ℕ, zero, suc, ◌+◌, ◌-◌, ◌/◌, ◌%◌, ◌≤◌, ◌<◌, ◌≡◌, Bool, true, cond, ◌&&◌, List, Option, Some, None, eqb, ltb, get_or}
+use Rattle.std.specs.Prelude.{ℕ, zero, suc, ◌+◌, ◌-◌, ◌/◌, ◌%◌, ◌<◌, ◌≡◌, Bool, true, cond, ◌&&◌, List, Option, Some, None, eqb, ltb, get_or}
 use Rattle.packed.specs.Packed.{assignment}
-use Rattle.network.specs.Abstract.{channel_at}
 
 -- the sender of a line: each has eleven
 unfoldable pub sender_of : ℕ → ℕ
@@ -10,14 +9,6 @@ sender_of line = line / 11 + 1
 -- its receiver: the sender itself is passed over
 unfoldable pub receiver_of : ℕ → ℕ
 receiver_of line = cond (ltb (line % 11 + 1) (sender_of line)) (line % 11 + 1) (line % 11 + 1 + 1)
-
--- the line with this number has these ends
-pub record EndsOf (line from to : ℕ) : Type 0 where
-  pub sender : from ≡ sender_of line
-  pub receiver : to ≡ receiver_of line
-  pub numbered : channel_at from to ≡ line
-  pub senders : (1 ≤ from) × (from ≤ 12)
-  pub receivers : (1 ≤ to) × (to ≤ 12)
 
 -- how many messages wait on a line
 unfoldable pub held_on : List ℕ → ℕ → ℕ

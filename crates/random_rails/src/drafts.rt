@@ -1,24 +1,39 @@
 // Random sheets of every kind: both editions, chains out of order, spare records, bans that stand twice, damaged ones.
-ghost use Rattle.std.specs.Prelude.{◌+◌, ◌-◌, ◌≤◌, ◌<◌};
+ghost use Rattle.std.specs.Prelude.{◌≡◌, ◌+◌, ◌-◌, ◌≤◌, ◌<◌, length, take};
 
 use crate::draws::{next, pick};
-use oracle::reading::wide;
+use oracle::reading::byte;
 
-// A sheet as it is drawn: its first `length` bytes, which records are on its chain, and the generator's state.
+// A sheet that was drawn, and the generator's state. Its room is fixed, with its length beside: drawing a sheet cannot fail for want of memory.
 #[derive(Clone, Copy)]
 pub struct Draft {
-    pub bytes: [u8; 1024],
-    pub length: usize,
-    pub chained: [bool; 128],
+    bytes: [u8; 1024],
+    length: usize,
     pub state: u64,
     ghost fits: { length ≤ 1024 },
 }
 
 impl Draft {
-    fn blank(state: u64) -> Draft {
-        Draft {
+    pub fn sheet(&self) -> &[u8]
+        ensures bytes { result.now ≡ take self.now.length self.now.bytes }
+        ensures fits { length result.now ≤ 1024 }
+    {
+        &self.bytes[..self.length]
+    }
+}
+
+// A sheet that is being drawn: its bytes, which records are on its chain, and the generator's state. No step changes its length, which is not here.
+#[derive(Clone, Copy)]
+struct Drawing {
+    bytes: [u8; 1024],
+    chained: [bool; 128],
+    state: u64,
+}
+
+impl Drawing {
+    fn blank(state: u64) -> Drawing {
+        Drawing {
             bytes: [0; 1024],
-            length: 24,
             chained: [false; 128],
             state,
         }
@@ -26,7 +41,7 @@ impl Draft {
 
     // ---- bytes
 
-    // The generator goes on: a number below `below`, and 0 where there is none.
+    // The generator goes on, and a number is picked.
     fn pick(&mut self, below: usize) -> usize
         ensures { result ≤ below - 1 }
     {
@@ -37,7 +52,7 @@ impl Draft {
     fn byte(&self, at: usize) -> usize
         ensures { result < 256 }
     {
-        if at < 1024 { wide(self.bytes[at]) } else { 0 }
+        usize::from(byte(&self.bytes, at))
     }
 
     fn set_byte(&mut self, at: usize, b: usize) {
@@ -51,12 +66,6 @@ impl Draft {
         if at < 1024 {
             self.set_byte(at, word);
             self.set_byte(at + 1, word / 256);
-        }
-    }
-
-    fn set_length(&mut self, length: usize) {
-        if length <= 1024 {
-            self.length = length;
         }
     }
 
@@ -75,8 +84,8 @@ impl Draft {
     }
 
     // Half of the sheets with up to six scanners have no more than three slots each.
-    fn headed(state: u64) -> Draft {
-        let mut d = Draft::blank(state);
+    fn headed(state: u64) -> Drawing {
+        let mut d = Drawing::blank(state);
         let scanners = most_scanners(d.pick(4));
         let n = 1 + d.pick(scanners);
         let few = d.pick(2) == 0;
@@ -190,15 +199,17 @@ impl Draft {
         }
     }
 
-    // Half of the sheets have up to 120 records, the others up to 60.
-    fn set_records(&mut self) {
+    // Half of the sheets have up to 120 records, the others up to 60. So long is the sheet.
+    fn set_records(&mut self) -> usize
+        ensures { result ≤ 984 }
+    {
         let most = if self.pick(2) == 0 { 120 } else { 60 };
         let m = self.pick(most + 1);
         self.set_word(4, m);
-        self.set_length(24 + 8 * m);
         for r in 1..=m {
             self.set_record(r);
         }
+        24 + 8 * m
     }
 
     // ---- damage
@@ -221,20 +232,11 @@ impl Draft {
         self.set_word(before, next);
     }
 
-    fn cut(&mut self) {
-        let length = self.pick(self.length);
-        self.set_length(length);
-    }
-
-    fn lengthen(&mut self) {
-        let more = 1 + self.pick(16);
-        if self.length <= 1000 {
-            self.set_length(self.length + more);
-        }
-    }
-
-    // Half of the sheets are damaged; some damage is harmless.
-    fn damage(&mut self) {
+    // Half of the sheets are damaged; some damage is harmless. So long is the sheet then.
+    fn damage(&mut self, length: usize) -> usize
+        requires { length ≤ 984 }
+        ensures { result ≤ 1000 }
+    {
         let records = 8 * self.byte(4);
         match self.pick(15) {
             0 => self.hit(0, 24, 256),
@@ -242,11 +244,12 @@ impl Draft {
             2 => self.hit(24, records, 16),
             3 => self.hit(24, records, 4),
             4 => self.detour(),
-            5 => self.cut(),
-            6 => self.lengthen(),
+            5 => return self.pick(length),
+            6 => return length + 1 + self.pick(16),
             7 => self.hit(24, records, 256),
             _ => {}
         }
+        length
     }
 }
 
@@ -277,13 +280,17 @@ fn most_scanners(k: usize) -> usize
     }
 }
 
-// A sheet for this state of the generator: it fits its buffer. Behind a sheet that was cut short stands what was cut off.
+// A sheet for this state of the generator.
 pub fn drawn(state: u64) -> Draft
     ensures { result.length ≤ 1024 }
 {
-    let mut d = Draft::headed(state);
+    let mut d = Drawing::headed(state);
     d.set_edition();
-    d.set_records();
-    d.damage();
-    d
+    let whole = d.set_records();
+    let length = d.damage(whole);
+    Draft {
+        bytes: d.bytes,
+        length,
+        state: d.state,
+    }
 }

@@ -9,7 +9,7 @@ pub fn next(state: u64) -> u64
     state % 2147483647 * 48271 % 2147483647
 }
 
-// A number below `below`, and 0 where there is none.
+// A number below `below`. Of no numbers at all it picks 0 too: callers add the 0 to a first number as they add any other, so an Option would only be unwrapped.
 #[tactic(auto, unfolding(crate::specs::Draws::picked))]
 pub fn pick(state: u64, below: usize) -> usize
     ensures { (result ≡ picked state below) × (result ≤ below - 1) }

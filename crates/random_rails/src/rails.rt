@@ -1,41 +1,25 @@
 // Rails tried: a run, and a list of deliveries in random order.
-ghost use Rattle.std.specs.Prelude.{◌≡◌, true, ◌||◌, ◌+◌, ◌≤◌, ◌<◌};
+ghost use Rattle.std.specs.Prelude.{◌≡◌, ◌||◌, ◌+◌, ◌≤◌, ◌<◌};
 ghost use Rattle.network.specs.Abstract.{network_of};
-ghost use Rattle.random_rails.specs.Lines.{EndsOf, rests_on, Waiting};
+ghost use Rattle.random_rails.specs.Lines.{rests_on, Waiting};
 ghost use Rattle.random_rails.specs.Listing.{Goes, Listed};
 
 use crate::draws::{next, pick};
+use clauses::places::{ends_of, is_line};
 use network::Network;
 use packed::digit;
 use refusals::Refusal;
 
 // ---- lines
 
-// Sender and receiver of a line.
-#[derive(Clone, Copy)]
-pub struct Ends {
-    pub from: u8,
-    pub to: u8,
-}
-
-// The line that has this number, by sender, then receiver.
-pub fn ends_of(line: usize) -> Ends
-    requires { line < 132 }
-    ensures { EndsOf line result.from result.to }
-{
-    let from = (line / 11 + 1) as u8;
-    let other = (line % 11 + 1) as u8;
-    let to = if other < from { other } else { other + 1 };
-    Ends { from, to }
-}
-
 // The first line that holds something, from this line on and round.
+#[tactic(auto, using(clauses::proofs::Numbering::ends))]
 fn waiting_line(counts: &[u64; 12], first: usize) -> Option<usize>
     ensures { Waiting counts.now result }
 {
     for k in 0..132 {
         let line = (first % 132 + k) % 132;
-        let Ends { from, to } = ends_of(line);
+        let (from, to) = ends_of(line);
         if digit(counts[from as usize - 1], to) != 0 {
             return Some(line);
         }
@@ -48,13 +32,6 @@ pub fn at_rest(rail: Network) -> bool
     ensures { result ≡ rests_on rail.counts }
 {
     waiting_line(&rail.counts, 0).is_none()
-}
-
-// There is a line between two of n scanners.
-fn is_line(n: u8, from: u8, to: u8) -> bool
-    ensures { result ≡ true → (1 ≤ from) × (1 ≤ to) × (from ≤ n) × (to ≤ n) }
-{
-    0 < from && from <= n && 0 < to && to <= n && from != to
 }
 
 // ---- deliveries
@@ -70,30 +47,29 @@ pub struct List {
 }
 
 // Some line that holds something; one time in eight any two numbers from 0 to 13.
-fn chosen(counts: &[u64; 12], state: u64) -> Ends {
+#[tactic(auto, using(clauses::proofs::Numbering::ends))]
+fn chosen(counts: &[u64; 12], state: u64) -> (u8, u8) {
     let second = next(state);
     if pick(second, 8) == 0 {
-        Ends {
-            from: pick(state, 14) as u8,
-            to: pick(next(second), 14) as u8,
-        }
+        (pick(state, 14) as u8, pick(next(second), 14) as u8)
     } else {
         match waiting_line(counts, pick(state, 132)) {
             Some(line) => ends_of(line),
-            None => Ends { from: 1, to: 1 },
+            None => (1, 1),
         }
     }
 }
 
 // Whether a delivery may be refused so, or accepted: where no other refusal must come, there may be no room.
-fn refusal_right(rail: &Network, e: Ends, refusal: Option<Refusal>) -> bool {
-    if !is_line(rail.count, e.from, e.to) {
+#[tactic(auto, using(crate::proofs::Lines::line_low))]
+fn refusal_right(rail: &Network, from: u8, to: u8, refusal: Option<Refusal>) -> bool {
+    if !is_line(rail.count, from, to) {
         refusal == Some(Refusal::BadNumbers)
     } else if rail.verdict {
         refusal == Some(Refusal::VerdictStands)
-    } else if 12 < e.from || 12 < e.to {
+    } else if 12 < from || 12 < to {
         false
-    } else if digit(rail.counts[e.from as usize - 1], e.to) == 0 {
+    } else if digit(rail.counts[from as usize - 1], to) == 0 {
         refusal == Some(Refusal::EmptyChannel)
     } else {
         matches!(refusal, None | Some(Refusal::NoRoom))
@@ -104,10 +80,10 @@ fn delivered(l: List) -> List
     requires { (l.accepted + l.refused < 18446744073709551615) × (l.wrong ≤ l.accepted + l.refused) }
     ensures { Goes l result }
 {
-    let ends = chosen(&l.rail.counts, l.state);
-    let out = run::deliver(l.rail, ends.from, ends.to);
+    let (from, to) = chosen(&l.rail.counts, l.state);
+    let out = run::deliver(l.rail, from, to);
     let accepted = out.refusal.is_none();
-    let wrong = !refusal_right(&l.rail, ends, out.refusal);
+    let wrong = !refusal_right(&l.rail, from, to, out.refusal);
     List {
         rail: out.network,
         state: next(next(next(l.state))),

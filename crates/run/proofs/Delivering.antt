@@ -35,7 +35,9 @@ use Rattle.network_laws.proofs.Rejecting.{bad-shape, bad-numbers, stands, tries,
 use Rattle.engine.specs.declared.Answer.{Answer as Answered}
 use Rattle.engine.specs.Refused.{refused_number}
 use Rattle.refusals.proofs.Numbers.{refusal-some}
-use Rattle.engine.specs.Working.{ends_by, stopped_with, delivered_as, ran_as, work_by}
+use Rattle.engine.specs.Working.{ends_by, stopped_with, delivered_as, ran_as}
+use Rattle.engine.specs.Tasks.{work_by}
+use Rattle.engine.specs.declared.Task.TheVariants.{Deliver, Run}
 use Rattle.engine.specs.Answers.{ending_of, WorksAs}
 use Rattle.run.specs.Answers.{DeliversAs, standing, RunsAs}
 
@@ -66,7 +68,7 @@ rejected-kept w i j =
 
 -- ---- one delivery
 
-module _ (r : Network) (i j k : ℕ) (a : Answered) (w : WorksAs (work_by true i j k (network_of r)) a) where
+module _ (r : Network) (i j : ℕ) (a : Answered) (w : WorksAs (work_by (Deliver i j) (network_of r)) a) where
   number : refused_number a.refusal ≡ answer_number (deliver (network_of r) i j).answer
   unfolding work_by delivered_as stopped_with
   number = w.number
@@ -126,7 +128,7 @@ allowed-is : (k : ℕ) → min k 1000000 ≡ allowed k
 unfolding allowed max_rounds
 allowed-is k = test (leb k 1000000) (λ t. rw (t, allowed) (min-eq_left (leb-true k 1000000 t))) (λ t. rw (t, allowed) (min-eq_right (let h = leb-false k 1000000 t in omega arith)))
 
-pub ran : (r : Network) (k a : ℕ) (x : Answered) → a ≡ min k 1000000 → WorksAs (work_by false 0 0 a (network_of r)) x
+pub ran : (r : Network) (k a : ℕ) (x : Answered) → a ≡ min k 1000000 → WorksAs (work_by (Run a) (network_of r)) x
     → (refused_number x.refusal ≡ 5 → x.network ≡ r) → RunsAs r (run k (network_of r)) x
 unfolding run work_by rejection_number
 ran r k a x m w u =

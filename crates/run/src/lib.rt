@@ -9,15 +9,16 @@ ghost use Rattle.engine.specs.Answers.{ending_of};
 ghost use Rattle.engine.specs.Refused.{refused_number};
 ghost use Rattle.run.specs.Answers.{DeliversAs, standing, RunsAs};
 
-use engine::{Answer, work};
+use engine::{Answer, Task, work};
 use network::Network;
 
 // A delivery tests 5 to 10, in that order. A refused one hands back the very network given.
+#[tactic(auto, unfolding(engine::specs::Tasks::allowed_of))]
 pub fn deliver(r: Network, from: u8, to: u8) -> Answer
     ensures delivers_as { DeliversAs r (deliver_by (network_of r) from to) (refused_number result.refusal) result.network }
     ensures rounds_value { (result.rounds ≡ 0) × (ending_of result.ending ≡ standing (deliver_by (network_of r) from to)) }
 {
-    let mut answer = work(r, true, from, to, 0);
+    let mut answer = work(r, Task::Deliver { from, to });
     if answer.refusal.is_some() {
         answer.network = r;
     }
@@ -25,8 +26,12 @@ pub fn deliver(r: Network, from: u8, to: u8) -> Answer
 }
 
 // The run tests the shape once, and is refused only with 5. Its rounds: "0 to 1,000,000, and more is taken as 1,000,000"
+#[tactic(auto, unfolding(engine::specs::Tasks::allowed_of))]
 pub fn run(r: Network, allowed: u64) -> Answer
     ensures { RunsAs r (run_by allowed (network_of r)) result }
 {
-    work(r, false, 0, 0, allowed.min(1000000))
+    let task = Task::Run {
+        allowed: allowed.min(1000000),
+    };
+    work(r, task)
 }

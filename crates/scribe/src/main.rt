@@ -7,13 +7,25 @@ use refusals::Refusal;
 use scribe_faults::fault_text;
 use scribe_reader::{Faulty, Unread, read_sheet};
 use scribe_writer::write_text;
-use std::rt::Env;
-use tool::{
-    LONGEST_ARGUMENT, STDERR_FILENO, STDIN_FILENO, argument, argument_count, say, say_refused,
-    say_surplus, written,
-};
+use tool::{STDERR_FILENO, STDIN_FILENO, only_word, say_refused, written};
 
-// What was answered: the bytes that were written, or a refusal.
+// Which way to write: the sheet of a text, or the text of a sheet.
+#[derive(Clone, Copy)]
+enum Command {
+    Sheet,
+    Text,
+}
+
+fn command_of(word: &[u8]) -> Option<Command> {
+    match word {
+        b"sheet" => Some(Command::Sheet),
+        b"text" => Some(Command::Text),
+        _ => None,
+    }
+}
+
+// What was answered: the bytes that were written, or a refusal. `turn` and `little` do so in place, `image` by its `put`: they know that n is within the
+// buffer.
 fn finish(answer: Result<usize, Refusal>, bytes: &[u8]) {
     match answer {
         Ok(n) => {
@@ -57,26 +69,17 @@ fn text() {
     finish(write_text(&given[..n], &mut bytes), &bytes);
 }
 
-// The command, if it is one and no word stands behind it. Nothing is read before that is clear.
-fn follow(rt: &impl Env, word: &[u8]) {
-    let to_sheet = word == b"sheet".as_slice();
-    if !to_sheet && word != b"text".as_slice() {
-        say(b"command not understood: ", word);
-    } else if 2 < argument_count(rt) {
-        say_surplus(rt, 2);
-    } else if to_sheet {
-        sheet();
-    } else {
-        text();
-    }
-}
-
+// Nothing is read before it is clear that the command is one, and that no word stands behind it.
 fn main(rt: HostRuntime) {
-    if argument_count(&rt) < 2 {
-        say(b"no command given: scribe sheet, or scribe text", b"");
-        return;
+    let command = only_word(
+        &rt,
+        b"no command given: scribe sheet, or scribe text",
+        b"command not understood: ",
+        command_of,
+    );
+    match command {
+        Some(Command::Sheet) => sheet(),
+        Some(Command::Text) => text(),
+        None => {}
     }
-    let mut word = [0u8; LONGEST_ARGUMENT];
-    let n = argument(&rt, 1, &mut word);
-    follow(&rt, &word[..n]);
 }

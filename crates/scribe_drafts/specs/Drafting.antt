@@ -1,11 +1,13 @@
 -- What the code's drafts mean, and what it does with a statement. A primed name is the definitions'.
-use Rattle.std.specs.Prelude.{ℕ, ◌<◌, ◌≡◌, List, Result, Ok, Err, IfOk}
-use Rattle.problem.specs.Problem.{Problem, no_bans}
-use Rattle.sheet_writer.specs.Rows.{rows_in}
+use Rattle.std.specs.Prelude.{ℕ, ◌<◌, ◌≡◌, List, length, Result, Ok, Err, IfOk}
+use Rattle.problem.specs.Problem.{Problem}
+use Rattle.sheet.specs.Abstract.{problem_of}
+use Rattle.sheet_writer.specs.declared.edition.Edition.{Edition}
 use Rattle.scribe_rules.specs.Drafts.{Draft as Draft', Test, Taken, Next, Wrong, tested, pair_tests, room_tests}
 use Rattle.scribe_drafts.specs.declared.draft.Draft.{Draft}
 use Rattle.scribe_drafts.specs.declared.fault.Fault.{Fault}
 use Rattle.scribe_drafts.specs.Faults.{fault_of}
+use Rattle.scribe_drafts.specs.Kinds.{edition_in, other_edition}
 
 -- this draft, or the fault
 unfoldable pub judged : Result (Unit {0}) Fault → Draft' → Taken
@@ -19,21 +21,20 @@ pub record Judges (tests : List Test) (r : Result (Unit {0}) Fault) : Type 0 whe
 -- ---- drafts
 
 unfoldable pub problem_in : Draft → Problem
-problem_in d = record { count = d.count; domains = d.domains; bans = no_bans }
+problem_in d = problem_of d.problem
 
--- with as many of the rows as it has records
 unfoldable pub draft_in : Draft → Draft'
-draft_in d = record { problem = problem_in d; edition = d.edition; rows = rows_in d.rows d.records }
+draft_in d = record { problem = problem_in d; edition = edition_in d.edition; rows = d.rows }
 
 unfoldable pub taken_of : Result (Unit {0}) Fault → Draft → Taken
 taken_of r d = judged r (draft_in d)
 
 -- ---- tests
 
-pub record JudgesPair (d : Draft) (other a b : ℕ) (r : Result (Unit {0}) Fault) : Type 0 where
-  pub tests : Judges (pair_tests (draft_in d) other a b) r
+pub record JudgesPair (d : Draft) (edition : Edition) (a b : ℕ) (r : Result (Unit {0}) Fault) : Type 0 where
+  pub tests : Judges (pair_tests (draft_in d) (other_edition edition) a b) r
   pub small : IfOk r (λ _. (a < 256) × (b < 256))
 
 pub record JudgesRoom (d : Draft) (r : Result (Unit {0}) Fault) : Type 0 where
   pub tests : Judges (room_tests (draft_in d)) r
-  pub room : IfOk r (λ _. d.records < 4224)
+  pub room : IfOk r (λ _. length d.rows < 4224)

@@ -1,2 +1,3 @@
+pub mod Kinds
 pub mod Faults
 pub mod Drafting

@@ -1,14 +1,25 @@
 // The draft of a sheet.
-ghost use Rattle.std.specs.Prelude.{◌≤◌};
+ghost use Rattle.std.specs.Prelude.{◌≡◌, eqb, not};
+ghost use Rattle.scribe_drafts.specs.Kinds.{edition_in, other_edition};
 
-// n and the slot counts, 0 before they are said; the edition of the records so far, 0 while there is none; and the records, packed, in front of
-// what is left of the room for them. The edition is a number, 0 too, as in the definitions' draft: it is the one that the header is written with.
+use sheet::Problem;
+use sheet_writer::{Edition, Rows};
+
+// n and the slot counts, 0 before they are said, and no ban; the edition of the records so far; and the records. The counts are 0, and no `None`, as the
+// definition's draft has it: each test of a scanner then needs no other one before it, since nobody is one of none.
 #[derive(Drop)]
 pub struct Draft {
-    pub count: u8,
-    pub domains: [u8; 12],
-    pub edition: u8,
-    pub records: usize,
-    pub rows: [u32; 4224],
-    pub ghost few: { records ≤ 4224 },
+    pub problem: Problem,
+    pub edition: Option<Edition>,
+    pub rows: Rows<4224>,
+}
+
+// All records so far are of this edition.
+pub fn takes(so_far: Option<Edition>, edition: Edition) -> bool
+    ensures { result ≡ not (eqb (edition_in so_far) (other_edition edition)) }
+{
+    match so_far {
+        Some(one) => one == edition,
+        None => true,
+    }
 }

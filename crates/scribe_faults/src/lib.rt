@@ -12,7 +12,7 @@ use scribe_drafts::Fault;
 use text::append_number;
 
 // What is wrong, in words.
-#[tactic(auto, unfolding(scribe_rules::specs::Faults::fault_words, scribe_rules::specs::Faults::not_statement, scribe_rules::specs::Faults::slots_first, scribe_rules::specs::Faults::slots_twice, scribe_rules::specs::Faults::agent_count, scribe_rules::specs::Faults::domain_size, scribe_rules::specs::Faults::both_kinds, scribe_rules::specs::Faults::same_agent, scribe_rules::specs::Faults::higher_first, scribe_rules::specs::Faults::gap_range, scribe_rules::specs::Faults::least_above, scribe_rules::specs::Faults::many_records, scribe_rules::specs::Faults::long_text,))]
+#[tactic(auto, unfolding(scribe_rules::specs::Faults::fault_words))]
 fn append_fault(out: &mut Cursor<'_>, fault: Fault)
     requires { Room out.old 61 }
     ensures text { Adds out.old (fault_words (fault_of fault)) out.new }

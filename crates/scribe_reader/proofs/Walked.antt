@@ -154,6 +154,11 @@ same-words [] (y ∷ ys) = refl
 same-words (x ∷ xs) [] = refl
 same-words (x ∷ xs) (y ∷ ys) = ap (λ (b : Bool). nat_eq x y && b) (same-words xs ys)
 
+-- a word beside a text
+pub compared : (word : List ℕ) {text literal : List ℕ} {same holds : Bool} → text ≡ literal → same ≡ pointwise nat_eq word text → same ≡ holds
+    → pointwise nat_eq word literal ≡ holds
+compared word l e t = sym (ap (pointwise nat_eq word) l) ∙ sym e ∙ t
+
 module _ (bare line : List ℕ) (e : bare ≡ without_comment (without_return line)) where
   says : line_says line ≡ words_say (words_in bare)
   unfolding line_says words_of words_in

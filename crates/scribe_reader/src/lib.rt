@@ -5,6 +5,7 @@ ghost use Rattle.std.specs.Prelude.{◌≡◌, ◌≤◌, cond, eqb, length, tak
 ghost use Rattle.base.specs.Lent.{put};
 ghost use Rattle.lent.specs.Abstract.{written_of};
 ghost use Rattle.scribe_rules.specs.Reading.{longest_text, sheet_from, sheet_of};
+ghost use Rattle.scribe_drafts.specs.Kinds.{edition_in};
 ghost use Rattle.scribe_drafts.specs.Drafting.{draft_in};
 ghost use Rattle.scribe_reader.specs.Walking.{due, read_of};
 
@@ -15,35 +16,28 @@ pub use lines::Faulty;
 use lines::read_lines;
 use refusals::Refusal;
 use scribe_drafts::Draft;
-use sheet::Problem;
-use sheet_writer::put_sheet;
+use sheet_writer::{Edition, put_sheet};
 pub use unread::Unread;
 
 // The longest text that is read whole.
 const LONGEST: usize = 1048576;
 
 // A text without gaps gives edition 1.
-fn edition_of(e: u8) -> u8
-    ensures { result ≡ cond (eqb e 2) 2 1 }
+fn edition_of(edition: Option<Edition>) -> u8
+    ensures { result ≡ cond (eqb (edition_in edition) 2) 2 1 }
 {
-    if e == 2 { 2 } else { 1 }
+    edition.unwrap_or(Edition::Bans).number()
 }
 
 // The sheet of a draft, where there is room.
 fn put_draft(out: &mut [u8], draft: &Draft) -> Result<usize, Refusal>
     ensures { written_of result out.new ≡ put (sheet_from (draft_in draft.now)) out.old }
 {
-    let p = Problem {
-        count: draft.count,
-        domains: draft.domains,
-        bans: [0; 66],
-    };
     put_sheet(
         out,
         edition_of(draft.edition),
-        p,
-        &draft.rows,
-        draft.records,
+        draft.problem,
+        draft.rows.as_slice(),
     )
 }
 

@@ -46,13 +46,15 @@ fn with_line(draft: &mut Draft, line: &[u8]) -> Result<(), Fault>
     }
 }
 
-// All lines of the text, which goes on where it is cut; or the first that is faulty.
+// All lines of the text, which goes on where it is cut; or the first that is faulty. `cut` is no part of the text: what is left of it gets shorter, and goes
+// on where it is cut as before.
 pub fn read_lines(draft: &mut Draft, text: &[u8], cut: bool) -> Result<(), Faulty>
     requires { length text.now ≤ 1048576 }
     ensures { outcome_of result draft.new ≡ read_from cut 1 (draft_in draft.old) text.now }
 {
     let mut line: u64 = 1;
     let mut rest = text;
+    // No `for`: as with the words of a line, `next_line`'s clause says what an iterator would need a model for.
     while let Some((this, behind)) = next_line(rest, cut) {
         if let Err(fault) = with_line(draft, this) {
             return Err(Faulty { line, fault });

@@ -14,27 +14,27 @@ unfoldable pub colon_word : List ℕ
 colon_word = 58 ∷ 32 ∷ []
 
 -- "not a statement"
-unfoldable pub not_statement : List ℕ
+abbrev pub not_statement : List ℕ
 not_statement = 110 ∷ 111 ∷ 116 ∷ 32 ∷ 97 ∷ 32 ∷ 115 ∷ 116 ∷ 97 ∷ 116 ∷ 101 ∷ 109 ∷ 101 ∷ 110 ∷ 116 ∷ []
 
 -- "slots must come first"
-unfoldable pub slots_first : List ℕ
+abbrev pub slots_first : List ℕ
 slots_first = 115 ∷ 108 ∷ 111 ∷ 116 ∷ 115 ∷ 32 ∷ 109 ∷ 117 ∷ 115 ∷ 116 ∷ 32 ∷ 99 ∷ 111 ∷ 109 ∷ 101 ∷ 32 ∷ 102 ∷ 105 ∷ 114 ∷ 115 ∷ 116 ∷ []
 
 -- "slots twice"
-unfoldable pub slots_twice : List ℕ
+abbrev pub slots_twice : List ℕ
 slots_twice = 115 ∷ 108 ∷ 111 ∷ 116 ∷ 115 ∷ 32 ∷ 116 ∷ 119 ∷ 105 ∷ 99 ∷ 101 ∷ []
 
 -- "1 to 12 scanners"
-unfoldable pub agent_count : List ℕ
+abbrev pub agent_count : List ℕ
 agent_count = 49 ∷ 32 ∷ 116 ∷ 111 ∷ 32 ∷ 49 ∷ 50 ∷ 32 ∷ 115 ∷ 99 ∷ 97 ∷ 110 ∷ 110 ∷ 101 ∷ 114 ∷ 115 ∷ []
 
 -- "a slot count is 1 to 8"
-unfoldable pub domain_size : List ℕ
+abbrev pub domain_size : List ℕ
 domain_size = 97 ∷ 32 ∷ 115 ∷ 108 ∷ 111 ∷ 116 ∷ 32 ∷ 99 ∷ 111 ∷ 117 ∷ 110 ∷ 116 ∷ 32 ∷ 105 ∷ 115 ∷ 32 ∷ 49 ∷ 32 ∷ 116 ∷ 111 ∷ 32 ∷ 56 ∷ []
 
 -- "bans and gaps in one text"
-unfoldable pub both_kinds : List ℕ
+abbrev pub both_kinds : List ℕ
 both_kinds =
     98 ∷ 97 ∷ 110 ∷ 115 ∷ 32 ∷ 97 ∷ 110 ∷ 100 ∷ 32 ∷ 103 ∷ 97 ∷ 112 ∷ 115
     ∷ 32 ∷ 105 ∷ 110 ∷ 32 ∷ 111 ∷ 110 ∷ 101 ∷ 32 ∷ 116 ∷ 101 ∷ 120 ∷ 116 ∷ []
@@ -44,11 +44,11 @@ unfoldable pub no_agent : List ℕ
 no_agent = 110 ∷ 111 ∷ 32 ∷ 115 ∷ 99 ∷ 97 ∷ 110 ∷ 110 ∷ 101 ∷ 114 ∷ 32 ∷ []
 
 -- "the same scanner twice"
-unfoldable pub same_agent : List ℕ
+abbrev pub same_agent : List ℕ
 same_agent = 116 ∷ 104 ∷ 101 ∷ 32 ∷ 115 ∷ 97 ∷ 109 ∷ 101 ∷ 32 ∷ 115 ∷ 99 ∷ 97 ∷ 110 ∷ 110 ∷ 101 ∷ 114 ∷ 32 ∷ 116 ∷ 119 ∷ 105 ∷ 99 ∷ 101 ∷ []
 
 -- "the lower-numbered scanner comes first"
-unfoldable pub higher_first : List ℕ
+abbrev pub higher_first : List ℕ
 higher_first =
     116 ∷ 104 ∷ 101 ∷ 32 ∷ 108 ∷ 111 ∷ 119 ∷ 101 ∷ 114 ∷ 45 ∷ 110 ∷ 117 ∷ 109 ∷ 98 ∷ 101 ∷ 114 ∷ 101 ∷ 100 ∷ 32
     ∷ 115 ∷ 99 ∷ 97 ∷ 110 ∷ 110 ∷ 101 ∷ 114 ∷ 32 ∷ 99 ∷ 111 ∷ 109 ∷ 101 ∷ 115 ∷ 32 ∷ 102 ∷ 105 ∷ 114 ∷ 115 ∷ 116 ∷ []
@@ -62,19 +62,19 @@ unfoldable pub no_value : List ℕ
 no_value = 32 ∷ 104 ∷ 97 ∷ 115 ∷ 32 ∷ 110 ∷ 111 ∷ 32 ∷ 115 ∷ 108 ∷ 111 ∷ 116 ∷ 32 ∷ []
 
 -- "a gap is -7 to 7"
-unfoldable pub gap_range : List ℕ
+abbrev pub gap_range : List ℕ
 gap_range = 97 ∷ 32 ∷ 103 ∷ 97 ∷ 112 ∷ 32 ∷ 105 ∷ 115 ∷ 32 ∷ 45 ∷ 55 ∷ 32 ∷ 116 ∷ 111 ∷ 32 ∷ 55 ∷ []
 
 -- "least is above greatest"
-unfoldable pub least_above : List ℕ
+abbrev pub least_above : List ℕ
 least_above = 108 ∷ 101 ∷ 97 ∷ 115 ∷ 116 ∷ 32 ∷ 105 ∷ 115 ∷ 32 ∷ 97 ∷ 98 ∷ 111 ∷ 118 ∷ 101 ∷ 32 ∷ 103 ∷ 114 ∷ 101 ∷ 97 ∷ 116 ∷ 101 ∷ 115 ∷ 116 ∷ []
 
 -- "more than 4224 records"
-unfoldable pub many_records : List ℕ
+abbrev pub many_records : List ℕ
 many_records = 109 ∷ 111 ∷ 114 ∷ 101 ∷ 32 ∷ 116 ∷ 104 ∷ 97 ∷ 110 ∷ 32 ∷ 52 ∷ 50 ∷ 50 ∷ 52 ∷ 32 ∷ 114 ∷ 101 ∷ 99 ∷ 111 ∷ 114 ∷ 100 ∷ 115 ∷ []
 
 -- "text too long"
-unfoldable pub long_text : List ℕ
+abbrev pub long_text : List ℕ
 long_text = 116 ∷ 101 ∷ 120 ∷ 116 ∷ 32 ∷ 116 ∷ 111 ∷ 111 ∷ 32 ∷ 108 ∷ 111 ∷ 110 ∷ 103 ∷ []
 
 -- ---- the line

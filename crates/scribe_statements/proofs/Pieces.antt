@@ -70,10 +70,6 @@ words-first (b ∷ t) h =
     lt-ltb 0 (length (take n (b ∷ t))) (omega (arith, h, length-take n (b ∷ t), first-within is_blank (b ∷ t))) in
     ap filled (piece-first is_blank b t) ∙ rw (f, filled) (ap (λ (ws : List (List ℕ)). take n (b ∷ t) ∷ ws) (sym (words-behind (b ∷ t))))
 
--- what a slice from a place on has
-pub rest-is : (s : List ℕ) (k : ℕ) → take (length s - k) (drop k s) ≡ drop k s
-rest-is s k = take_all (length s - k) (drop k s) (omega (arith, length-drop k s))
-
 -- ---- the next word
 
 word-starts : (s : List ℕ) → first_at (λ b. not (is_blank b)) s < length s → 0 < first_at is_blank (drop (first_at (λ b. not (is_blank b)) s) s)

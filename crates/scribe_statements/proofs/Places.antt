@@ -13,14 +13,14 @@ use Rattle.std.proofs.Math.Facts.{sfits_lit}
 use mir.Val.{SFits, of_z, to_z}
 use mir.Syntax.{w128}
 use Rattle.std.proofs.lemmas.Int.{ints, to_z-of_z}
-use lib.ListN.{length, take, drop, drop_of_length-le}
+use lib.ListN.{length, get_or, take, drop, drop_of_length-le}
 use borrow.Author.Tests.{eq-eqb, ne_eqb, lt-ltb, leb-true}
 use Rattle.std.specs.Prelude.{T, Some, None}
 use Rattle.base.proofs.Tests.{test, both}
 use Rattle.scribe_rules.specs.Words.{is_colon, is_minus, first_at, is_numeral, numeral, before_colon, behind_colon, is_place, has_minus, without_minus, is_signed, signed_numeral}
 use Rattle.scribe_statements.specs.declared.numbers.Place.{Place}
 use Rattle.scribe_statements.specs.Parts.{numeral_in, place_in, signed_in}
-use Rattle.scribe_statements.proofs.Pieces.{rest-is}
+use Rattle.std.proofs.lemmas.List.{take_rest}
 use Rattle.scribe_statements.proofs.Numerals.{numeral-none, numeral-some, empty-numeral}
 
 -- ---- places
@@ -39,7 +39,7 @@ pub around-colon : (s : List ℕ) (colon : ℕ) → colon ≡ first_at is_colon 
     → (take colon s ≡ before_colon s) × (take (length s - (colon + 1)) (drop (colon + 1) s) ≡ behind_colon s)
 unfolding before_colon behind_colon
 around-colon s colon e =
-    (rw e refl, rest-is s (colon + 1) ∙ ap (λ (k : ℕ). drop k s) (add-one colon ∙ ap suc e))
+    (rw e refl, take_rest s (colon + 1) ∙ ap (λ (k : ℕ). drop k s) (add-one colon ∙ ap suc e))
 
 module _ (s before behind : List ℕ) (x : before ≡ before_colon s) (y : behind ≡ behind_colon s) where
   pub no-agent : None ≡ numeral_in before → None ≡ place_in s
@@ -104,9 +104,9 @@ unfolding has_minus is_minus
 none-first [] l = refl
 none-first (b ∷ s) l = absurd (omega arith)
 
-pub minus-away : (s : List ℕ) → has_minus s ≡ true → drop 1 s ≡ without_minus s
+pub minus-away : (s : List ℕ) → has_minus s ≡ true → take (length s - 1) (drop 1 s) ≡ without_minus s
 unfolding without_minus
-minus-away s m = sym (rw m refl)
+minus-away s m = take_rest s 1 ∙ sym (rw m refl)
 
 pub minus_none : (s : List ℕ) → has_minus s ≡ false → s ≡ without_minus s
 unfolding without_minus
@@ -130,14 +130,13 @@ module _ (s size : List ℕ) (e : size ≡ without_minus s) where
   with_none m k n = a-size k n (pos k) (rw (m, ← e) (ap pos (numeral-some size k n).1))
 
 module _ (s : List ℕ) where
-  module _ (b : ℕ) (behind : List ℕ) (q : s ≡ b ∷ behind) where
-    pub minus-first : b ≡ 45 → (has_minus s ≡ true) × (behind ≡ drop 1 s)
-    unfolding has_minus is_minus
-    minus-first e = (rw q (eq-eqb b 45 e), rw q refl)
+  pub minus-first : get_or s 0 0 ≡ 45 → has_minus s ≡ true
+  unfolding has_minus is_minus
+  minus-first e = eq-eqb (get_or s 0 0) 45 e
 
-    pub other-first : (b ≡ 45 → ⊥) → has_minus s ≡ false
-    unfolding has_minus is_minus
-    other-first e = rw q (ne_eqb b 45 e)
+  pub other-first : (get_or s 0 0 ≡ 45 → ⊥) → has_minus s ≡ false
+  unfolding has_minus is_minus
+  other-first e = ne_eqb (get_or s 0 0) 45 e
 
   pub signed-none : None ≡ signed_in s → is_signed s ≡ false
   unfolding signed_in

@@ -166,15 +166,21 @@ pub slots_none : record { count = 0; domains = Some (replicate 12 0) } ≡ slots
 unfolding slots_of domains_of every
 slots_none = refl
 
-pub counted : (q : Slots) (counts : List ℕ) (value : ℕ) (domains : Option (List ℕ)) → q ≡ slots_of counts
-    → (q.count ≡ length counts → q.domains ≡ domains_of counts → domains ≡ domains_of (counts ++ (value ∷ [])))
-    → record { count = q.count + 1; domains = domains } ≡ slots_of (counts ++ (value ∷ []))
-unfolding slots_of
-counted q counts value domains e h =
-    let c : q.count ≡ length counts = ap (λ (x : Slots). x.count) e in
-    let d : q.domains ≡ domains_of counts = ap (λ (x : Slots). x.domains) e in
-    let n : q.count + 1 ≡ length (counts ++ (value ∷ [])) = omega (arith, c, length-append counts (value ∷ [])) in
-    rw (n, h c d) refl
+module _ (q : Slots) (counts : List ℕ) (e : q ≡ slots_of counts) where
+  pub counts-in : q.count ≡ length counts
+  unfolding slots_of
+  counts-in = ap (λ (x : Slots). x.count) e
+
+  pub domains-in : q.domains ≡ domains_of counts
+  unfolding slots_of
+  domains-in = ap (λ (x : Slots). x.domains) e
+
+  pub counted : (value : ℕ) (domains : Option (List ℕ)) → domains ≡ domains_of (counts ++ (value ∷ []))
+      → record { count = q.count + 1; domains = domains } ≡ slots_of (counts ++ (value ∷ []))
+  unfolding slots_of
+  counted value domains d =
+      let n : q.count + 1 ≡ length (counts ++ (value ∷ [])) = omega (arith, counts-in, length-append counts (value ∷ [])) in
+      rw (n, d) refl
 
 -- ---- count by count
 

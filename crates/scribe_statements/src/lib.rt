@@ -1,7 +1,7 @@
 // The words of a line, and what stands behind the first of them, as a statement of its kind. docs/RULES.md, 'Sheets as text'.
 #![tactic(auto)]
 
-ghost use Rattle.std.specs.Prelude.{◌≡◌, List, [], ◌∷◌, ◌++◌, ℕ, ◌<◌, length};
+ghost use Rattle.std.specs.Prelude.{◌≡◌, List, [], ◌∷◌, ◌++◌, ℕ, ◌<◌};
 ghost use Rattle.base.specs.Finite.{within};
 ghost use Rattle.scribe_rules.specs.Statements.{ban_said, gap_said};
 ghost use Rattle.scribe_statements.specs.Parts.{words_in};
@@ -14,7 +14,7 @@ pub mod parts;
 use numbers::{read_numeral, read_place, read_signed};
 use parts::{has_word, next_word};
 
-// Agent a at value s, agent b at value t.
+// Agent a at value s, agent b at value t. Four numbers, as the definition's `Ban` has them: what is tested of the agents is tested of both before the values.
 #[derive(Clone, Copy)]
 pub struct Ban {
     pub a: u64,
@@ -32,7 +32,8 @@ pub struct Gap {
     pub greatest: i128,
 }
 
-// How many slot counts there are; and the counts, with zeros behind them, where each is 1 to 8 and they are no more than twelve.
+// How many slot counts there are; and the counts, with zeros behind them, where each is 1 to 8 and they are no more than twelve. `count` is no length of
+// the array: a line may have any number of counts, and how many they are is told before what is wrong with them.
 #[derive(Clone, Copy)]
 pub struct Slots {
     pub count: usize,
@@ -77,7 +78,8 @@ pub fn gap_in(args: &[u8]) -> Option<Gap>
     })
 }
 
-// k is one of 1 to m.
+// k is one of 1 to m. `sheet_parts::header::within` says it of bytes: for both types it is the library's `contains`, and a generic function would be longer
+// than the two.
 #[tactic(auto, unfolding(base::specs::Finite::within))]
 pub fn within(m: u64, k: u64) -> bool
     ensures { result ≡ within m k }
@@ -85,19 +87,19 @@ pub fn within(m: u64, k: u64) -> bool
     (1..=m).contains(&k)
 }
 
-// With one count more in its place, if it is 1 to 8 and there is such a place.
-fn with_domain(domains: Option<[u8; 12]>, at: usize, value: u64) -> Option<[u8; 12]>
-    ensures { (counts : List ℕ) → at ≡ length counts → domains ≡ domains_of counts → result ≡ domains_of (counts ++ (value ∷ [])) }
-{
-    let mut domains = domains?;
-    if 12 <= at || !within(8, value) {
-        return None;
-    }
-    domains[at] = value as u8;
-    Some(domains)
-}
-
 impl Slots {
+    // The counts with one more in its place, if it is 1 to 8 and there is such a place.
+    fn domains_with(self, value: u64) -> Option<[u8; 12]>
+        ensures { (counts : List ℕ) → self ≡ slots_of counts → result ≡ domains_of (counts ++ (value ∷ [])) }
+    {
+        let mut domains = self.domains?;
+        if 12 <= self.count || !within(8, value) {
+            return None;
+        }
+        domains[self.count] = value as u8;
+        Some(domains)
+    }
+
     // One count more.
     fn with_count(self, value: u64) -> Slots
         requires { self.count < 9223372036854775808 }
@@ -105,7 +107,7 @@ impl Slots {
     {
         Slots {
             count: self.count + 1,
-            domains: with_domain(self.domains, self.count, value),
+            domains: self.domains_with(value),
         }
     }
 }
@@ -119,6 +121,7 @@ pub fn slots_in(args: &[u8]) -> Option<Slots>
         domains: Some([0; 12]),
     };
     let mut rest = args;
+    // No `for`: `next_word`'s clause says both the word and what is left; an iterator over them would be a type with a model of its own, for this loop alone.
     while let Some((word, behind)) = next_word(rest) {
         slots = slots.with_count(read_numeral(word)?);
         rest = behind;

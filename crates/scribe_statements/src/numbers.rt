@@ -1,6 +1,5 @@
 // Words as numbers, places and signed numbers.
-ghost use Rattle.std.specs.Prelude.{◌≡◌, false, true, drop, MatchOption};
-ghost use Rattle.scribe_rules.specs.Words.{has_minus};
+ghost use Rattle.std.specs.Prelude.{◌≡◌};
 ghost use Rattle.scribe_statements.specs.Parts.{numeral_in, place_in, signed_in};
 
 use crate::bytes::find;
@@ -12,7 +11,8 @@ pub struct Place {
     pub value: u64,
 }
 
-// Digits, and no more than 64 bits hold.
+// Digits, and no more than 64 bits hold. `numerals::read_number` goes through digits likewise, and stops at the largest number where this one has none: one
+// function for both would be handed the step as a closure, and its clause would say each again.
 pub fn read_numeral(s: &[u8]) -> Option<u64>
     ensures { result ≡ numeral_in s.now }
 {
@@ -39,20 +39,12 @@ pub fn read_place(s: &[u8]) -> Option<Place>
     Some(Place { agent, value })
 }
 
-// What stands behind a minus, if s begins with one.
-fn behind_minus(s: &[u8]) -> Option<&[u8]>
-    ensures { MatchOption result (has_minus s.now ≡ false) (λ r. (has_minus s.now ≡ true) × (r.now ≡ drop 1 s.now)) }
-{
-    let (first, size) = s.split_first()?;
-    if *first == b'-' { Some(size) } else { None }
-}
-
 // A minus, if there is one, and a number.
 pub fn read_signed(s: &[u8]) -> Option<i128>
     ensures { result ≡ signed_in s.now }
 {
-    match behind_minus(s) {
-        Some(size) => Some(-i128::from(read_numeral(size)?)),
-        None => Some(i128::from(read_numeral(s)?)),
+    match s {
+        [b'-', size @ ..] => Some(-i128::from(read_numeral(size)?)),
+        _ => Some(i128::from(read_numeral(s)?)),
     }
 }

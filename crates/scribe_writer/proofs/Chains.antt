@@ -1,7 +1,7 @@
 -- The lines of the records from record r on, where the walk from there ends well; and those of the slot counts.
 -- A record on the chain is good, so its line is told and the chain goes on; at index 0 all is told.
 use Prim.Native.Nat.{ℕ, zero, suc, ◌+◌, ◌-◌, ◌*◌, ◌≤◌, ◌<◌}
-use mathlib.Core.Path.{◌≡◌, refl, sym, ap, subst, ◌∙◌}
+use mathlib.Core.Path.{◌≡◌, refl, sym, subst, ◌∙◌}
 use mathlib.Core.Logic.{◌≢◌}
 use mathlib.Core.Bool.{true}
 use mathlib.Core.List.{List, [], ◌++◌, map, append_assoc}
@@ -14,12 +14,11 @@ use Rattle.base.specs.Finite.{gather}
 use Rattle.base.proofs.Tests.{test}
 use Rattle.problem.specs.Problem.{Problem}
 use Rattle.problem.specs.Row.{with_row}
-use Rattle.problem.specs.Sheet.{Valid, BadLength, BadRecord, Cycle, max_records, header_length, word_from, edition_in, first_in, records_in, without_bans, row_at, row_of, next_of, record_good, decode}
+use Rattle.problem.specs.Sheet.{Valid, BadLength, BadRecord, Cycle, max_records, header_length, word_from, edition_in, first_in, records_in, without_bans, row_of, next_of, record_good, decode}
 use Rattle.problem.specs.Chain.{chain_from, rows_in}
 use Rattle.problem.proofs.Fields.{header-fits, record-fits}
 use Rattle.problem.proofs.Walk.{free_walk, free-none, free-fails, free-goes}
 use Rattle.problem.proofs.Checks.{bad-length, invalid, accepted}
-use Rattle.sheet_parts.proofs.Records.{start-at}
 use Rattle.sheet.proofs.Walking.{next-there}
 use Rattle.lent.specs.declared.cursor.Cursor.{Cursor}
 use Rattle.lent.specs.Puts.{Adds}
@@ -49,6 +48,9 @@ total-good s p v =
     let a = accepted s p v in
     test (eqb (length s) (24 + 8 * records_in s)) (λ t. eqb-true _ _ t) (λ t. invalid BadLength p (sym (bad-length s a.long a.header t) ∙ v))
 
+pub whole_header : (s : List ℕ) → Readable s → 24 ≤ length s
+whole_header s readable = omega (arith, total-good s readable.problem readable.valid)
+
 pub starts : (s : List ℕ) (old : Cursor) → Readable s → RoomFor old (row_lines (edition_in s) (rows_in s)) → Ahead s old old (word_from s 2) (word_from s 4 + 1)
 unfolding max_records first_in records_in rows_in
 starts s old readable room =
@@ -65,18 +67,22 @@ starts s old readable room =
     }
 
 -- a line, and those behind it
-line_first : (s : List ℕ) (r left : ℕ) → 0 < left → r ≢ 0 → lines_from s r left ≡ row_line (edition_in s) (row_at s (16 + 8 * r)) ++ lines_from s (next_of s r) (left - 1)
-unfolding chain_from row_lines row_of
+line_first : (s : List ℕ) (r left : ℕ) → 0 < left → r ≢ 0 → lines_from s r left ≡ row_line (edition_in s) (row_of s r) ++ lines_from s (next_of s r) (left - 1)
+unfolding chain_from row_lines
 line_first s r zero h n = absurd (omega arith)
 line_first s r (suc left) h n =
     let l : suc left - 1 ≡ left = omega arith in
-    rw (ne_eqb r 0 n, chain_from, l) (ap (λ (k : ℕ). row_line (edition_in s) (row_at s k) ++ lines_from s (next_of s r) left) (start-at r (omega arith)))
+    rw (ne_eqb r 0 n, chain_from, l) refl
 
 -- at index 0 there is none
 line-none : (s : List ℕ) (r left : ℕ) → 0 < left → r ≡ 0 → lines_from s r left ≡ []
 unfolding chain_from row_lines
 line-none s r zero h z = absurd (omega arith)
 line-none s r (suc left) h z = rw (eq-eqb r 0 z, chain_from)
+
+-- the record is whole
+pub whole_record : (s : List ℕ) {old out : Cursor} (r : ℕ) {left : ℕ} → Ahead s old out r left → 24 + 8 * r ≤ length s
+whole_record s r w = omega (arith, w.total, w.here)
 
 module _ {s : List ℕ} {old out : Cursor} {r left : ℕ} (w : Ahead s old out r left) where
   -- the walk does not end before the chain
@@ -92,10 +98,10 @@ module _ {s : List ℕ} {old out : Cursor} {r left : ℕ} (w : Ahead s old out r
         test (record_good s w.before r) (λ g. g)
         (λ g. invalid BadRecord w.after (sym (free-fails s r w.before left h n g) ∙ w.walk))
 
-    pub room-here : RoomFor old (row_lines (edition_in s) (rows_in s)) → RoomFor out (row_line (edition_in s) (row_at s (16 + 8 * r)))
+    pub room-here : RoomFor old (row_lines (edition_in s) (rows_in s)) → RoomFor out (row_line (edition_in s) (row_of s r))
     room-here room = room-first _ _ (subst (RoomFor out) (line_first s r left h n) (room-left room w.rest))
 
-    pub goes : {new : Cursor} → Adds out (row_line (edition_in s) (row_at s (16 + 8 * r))) new → Ahead s old new (word_from s (20 + 8 * r)) (left - 1)
+    pub goes : {new : Cursor} → Adds out (row_line (edition_in s) (row_of s r)) new → Ahead s old new (word_from s (20 + 8 * r)) (left - 1)
     goes p =
         let there : word_from s (20 + 8 * r) ≡ next_of s r = next-there s r (omega arith) in
         record {

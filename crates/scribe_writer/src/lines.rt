@@ -1,12 +1,13 @@
 // One line for a record, put behind what stands in a lent buffer already.
-ghost use Rattle.std.specs.Prelude.{◌+◌, ◌≤◌, length};
+ghost use Rattle.std.specs.Prelude.{◌≡◌, ◌+◌, ◌≤◌, length};
 ghost use Rattle.problem.specs.Row.{signed};
-ghost use Rattle.problem.specs.Sheet.{edition_in, row_at};
 ghost use Rattle.lent.specs.Puts.{Adds};
+ghost use Rattle.sheet_parts.specs.Rows.{row_of};
 ghost use Rattle.scribe_rules.specs.Telling.{figure, place, signed_figure, ban_line, gap_line, row_line};
 ghost use Rattle.scribe_writer.specs.Parts.{RoomFor};
 
 use lent::cursor::Cursor;
+use sheet_parts::Row;
 use text::append_number;
 
 // A blank, and a number.
@@ -41,38 +42,38 @@ fn append_signed(out: &mut Cursor<'_>, b: u8)
     }
 }
 
-// Edition 1: the record whose first byte is at k.
-fn append_ban(out: &mut Cursor<'_>, s: &[u8], k: usize)
-    requires { (k + 4 ≤ length s.now) × RoomFor out.old (ban_line (row_at s.now k)) }
-    ensures { Adds out.old (ban_line (row_at s.now k)) out.new }
+// A record of edition 1.
+fn append_ban(out: &mut Cursor<'_>, row: Row)
+    requires { RoomFor out.old (ban_line (row_of row)) }
+    ensures { Adds out.old (ban_line (row_of row)) out.new }
 {
     out.put_all(b"ban");
-    append_place(out, s[k], s[k + 2]);
-    append_place(out, s[k + 1], s[k + 3]);
+    append_place(out, row.lower, row.low);
+    append_place(out, row.higher, row.high);
     out.put_all(b"\n");
 }
 
-// Edition 2: the record whose first byte is at k.
-fn append_gap(out: &mut Cursor<'_>, s: &[u8], k: usize)
-    requires { (k + 4 ≤ length s.now) × RoomFor out.old (gap_line (row_at s.now k)) }
-    ensures { Adds out.old (gap_line (row_at s.now k)) out.new }
+// A record of edition 2.
+fn append_gap(out: &mut Cursor<'_>, row: Row)
+    requires { RoomFor out.old (gap_line (row_of row)) }
+    ensures { Adds out.old (gap_line (row_of row)) out.new }
 {
     out.put_all(b"gap");
-    append_figure(out, s[k]);
-    append_figure(out, s[k + 1]);
-    append_signed(out, s[k + 2]);
-    append_signed(out, s[k + 3]);
+    append_figure(out, row.lower);
+    append_figure(out, row.higher);
+    append_signed(out, row.low);
+    append_signed(out, row.high);
     out.put_all(b"\n");
 }
 
-// The record whose first byte is at k.
-pub fn append_row(out: &mut Cursor<'_>, s: &[u8], k: usize)
-    requires { (2 ≤ length s.now) × (k + 4 ≤ length s.now) × RoomFor out.old (row_line (edition_in s.now) (row_at s.now k)) }
-    ensures { Adds out.old (row_line (edition_in s.now) (row_at s.now k)) out.new }
+// The edition is the sheet's byte as `row_line` of the definition takes it: any number but 2 is told as edition 1.
+pub fn append_row(out: &mut Cursor<'_>, edition: u8, row: Row)
+    requires { RoomFor out.old (row_line edition (row_of row)) }
+    ensures { Adds out.old (row_line edition (row_of row)) out.new }
 {
-    if s[1] == 2 {
-        append_gap(out, s, k);
+    if edition == 2 {
+        append_gap(out, row);
     } else {
-        append_ban(out, s, k);
+        append_ban(out, row);
     }
 }

@@ -12,23 +12,17 @@ mod tallies;
 use cases::lines::{line_end, next_line};
 use long::put_longs;
 use printing::put_answer;
-use random::with_randoms;
-use tallies::{blank, report};
+use random::try_randoms;
+use tallies::Tally;
 use tool::STDIN_FILENO;
 use words::printing::Out;
-
-// Byte k of a line, 0 beyond its end.
-fn byte_at(line: &[u8], k: usize) -> u8 {
-    line.get(k).copied().unwrap_or(0)
-}
 
 // What is answered of the text in front of this line.
 fn put_case(o: Out, text: &[u8], name: &[u8]) -> Out {
     let named = o.put(name).put(b"\n");
-    if byte_at(name, 1) == b'-' && !text.is_empty() {
-        put_answer(named, &text[..text.len() - 1])
-    } else {
-        put_answer(named, text)
+    match text {
+        [front @ .., _] if name.starts_with(b"=-") => put_answer(named, front),
+        _ => put_answer(named, text),
     }
 }
 
@@ -36,7 +30,7 @@ fn put_cases(out: Out, all: &[u8]) -> Out {
     let mut o = out;
     let mut begin: usize = 0;
     let mut at: usize = 0;
-    // No `for`: a line's end says where the next one begins, and a text has several.
+    // No `for` over the lines: a text is all lines since the last name, so that where it begins and ends is needed, and the `for` would count both beside it.
     while at < all.len() {
         let end = line_end(all, at);
         let next = next_line(end, all.len());
@@ -52,5 +46,7 @@ fn put_cases(out: Out, all: &[u8]) -> Out {
 fn main() {
     let mut text = io::large_buffer();
     let n = io::read_full(STDIN_FILENO, &mut text);
-    report(with_randoms(blank(put_longs(put_cases(Out::new(), &text[..n])))));
+    let mut tally = Tally::new(put_longs(put_cases(Out::new(), &text[..n])));
+    try_randoms(&mut tally);
+    tally.report();
 }

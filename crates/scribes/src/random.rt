@@ -1,10 +1,10 @@
 // Random sheets, good and bad, and their texts, whole and damaged.
-ghost use Rattle.std.specs.Prelude.{◌<◌};
+ghost use Rattle.std.specs.Prelude.{◌≤◌, ◌<◌};
 
 use crate::printing::start_of;
-use crate::tallies::{DAMAGED, REFUSED, TOLD, Tally, judged};
+use crate::tallies::{Kind, Tally};
 use oracle::buffers::{MARK, untouched};
-use oracle::reading::{byte, fault};
+use oracle::reading::{Fault, Sheet};
 use random_rails::drafts::drawn;
 use random_rails::draws::{next, pick};
 use refusals::Refusal;
@@ -18,40 +18,41 @@ const TEXT: usize = 67614;
 
 // ---- what a text gives
 
-// Two bytes, little-endian.
-fn index_at(s: &[u8], k: usize) -> usize
-    requires { k < 65536 }
-    ensures { result < 65536 }
-{
-    byte(s, k) + 256 * byte(s, k + 1)
+// What is wrong with a sheet, by a second reading.
+fn fault(s: &[u8]) -> Option<Fault> {
+    Sheet { bytes: s }.fault()
 }
 
-// What record r of s says is what record k of t says.
-fn same_record(s: &[u8], r: usize, t: &[u8], k: usize) -> bool
-    requires { (r < 4225) × (k < 65536) }
-{
-    let a = 16 + 8 * r;
-    let b = 24 + 8 * k;
-    byte(s, a) == byte(t, b)
-        && byte(s, a + 1) == byte(t, b + 1)
-        && byte(s, a + 2) == byte(t, b + 2)
-        && byte(s, a + 3) == byte(t, b + 3)
+// Two bytes, little-endian, and 0 beyond the end: it leads on to nothing, as an index 0 does.
+fn index_at(s: &[u8], k: usize) -> u16 {
+    match s.get(k..) {
+        Some([low, high, ..]) => u16::from_le_bytes([*low, *high]),
+        _ => 0,
+    }
 }
 
-// The records of t in their order are those on the chain of s, and no more.
+// Where record r begins.
+fn record_at(r: u16) -> usize
+    ensures { result < 600000 }
+{
+    16 + 8 * usize::from(r)
+}
+
+// The records of t in their order are those on the chain of s, and no more: four bytes of each say what it says, and two lead on.
+// No `==` of the sheets: those of s lie where its chain goes.
 fn same_records(s: &[u8], t: &[u8]) -> bool {
-    let m = index_at(t, 4);
-    let mut r = index_at(s, 2) % 4225;
-    for k in 0..m {
-        if !same_record(s, r, t, k) {
+    let mut r = index_at(s, 2);
+    for record in t[24.min(t.len())..].chunks(8) {
+        let at = record_at(r);
+        if s.get(at..at + 4) != record.get(..4) {
             return false;
         }
-        r = index_at(s, 20 + 8 * r) % 4225;
+        r = index_at(s, at + 4);
     }
     r == 0
 }
 
-// n and the slot counts; the edition, but for a sheet without records.
+// n and the slot counts; the edition, but for a sheet without records. No `==` of the headers: the first index of t is its own.
 fn same_header(s: &[u8], t: &[u8]) -> bool {
     if s.len() < 24 || t.len() < 24 {
         return false;
@@ -60,12 +61,14 @@ fn same_header(s: &[u8], t: &[u8]) -> bool {
     s[0] == t[0] && s[8..20] == t[8..20] && edition == t[1]
 }
 
-// The text gives these bytes, and leaves those behind them.
-fn gives(text: &[u8], t: &[u8]) -> bool {
-    let mut buffer = [MARK; SHEET];
-    match read_sheet(text, &mut buffer) {
-        Ok(n) => untouched(&buffer, n) && start_of(&buffer, n) == t,
-        Err(_) => false,
+// What is put into a buffer of N bytes is this, and what stands behind it is left.
+fn puts<const N: usize, F: FnOnce(&mut [u8]) -> Option<usize>>(put: F, wanted: &[u8]) -> bool
+    requires { (N ≤ TEXT) × F.IsAlwaysCallable put }
+{
+    let mut buffer = [MARK; N];
+    match put(&mut buffer) {
+        Some(n) => untouched(&buffer, n) && start_of(&buffer, n) == wanted,
+        None => false,
     }
 }
 
@@ -85,27 +88,16 @@ fn too_short(text: &[u8], n: usize) -> bool {
 
 // ---- what a sheet is told as
 
-// The sheet has this text, and what stands behind it is left.
-fn tells(s: &[u8], text: &[u8]) -> bool {
+// Why the sheet has no text in a buffer of n bytes, which is left as it was.
+fn refusal_of(s: &[u8], n: usize) -> Option<Refusal> {
     let mut buffer = [MARK; TEXT];
-    match write_text(s, &mut buffer) {
-        Ok(n) => untouched(&buffer, n) && start_of(&buffer, n) == text,
-        Err(_) => false,
+    let out = buffer.get_mut(..n)?;
+    let refusal = write_text(s, out).err()?;
+    if untouched(out, 0) {
+        Some(refusal)
+    } else {
+        None
     }
-}
-
-// Telling s in this buffer is refused with this number.
-fn tells_not(s: &[u8], out: &mut [u8], number: u8) -> bool {
-    match write_text(s, out) {
-        Ok(_) => false,
-        Err(refusal) => refusal.number() == number && untouched(out, 0),
-    }
-}
-
-// The buffer has n bytes.
-fn is_refused(s: &[u8], n: usize, number: u8) -> bool {
-    let mut buffer = [MARK; TEXT];
-    n <= TEXT && tells_not(s, &mut buffer[..n], number)
 }
 
 // ---- there and back
@@ -117,14 +109,18 @@ fn comes_back(s: &[u8], text: &[u8]) -> bool {
         return false;
     };
     let t = start_of(&buffer, n);
-    fault(t) == 0 && same_header(s, t) && same_records(s, t) && tells(t, text) && too_short(text, n)
+    fault(t).is_none()
+        && same_header(s, t)
+        && same_records(s, t)
+        && puts::<TEXT, _>(|out| write_text(t, out).ok(), text)
+        && too_short(text, n)
 }
 
 // A text that gives a sheet gives it again, when it is told by it.
 fn told_again(t: &[u8]) -> bool {
     let mut buffer = [MARK; TEXT];
     match write_text(t, &mut buffer) {
-        Ok(n) => gives(start_of(&buffer, n), t),
+        Ok(n) => puts::<SHEET, _>(|out| read_sheet(start_of(&buffer, n), out).ok(), t),
         Err(_) => false,
     }
 }
@@ -135,7 +131,7 @@ fn reads_well(text: &[u8]) -> bool {
     match read_sheet(text, &mut buffer) {
         Ok(n) => {
             let t = start_of(&buffer, n);
-            fault(t) == 0 && told_again(t)
+            fault(t).is_none() && told_again(t)
         }
         Err(Unread::Faulty(faulty)) => 0 < faulty.line && untouched(&buffer, 0),
         Err(Unread::Refused(_)) => false,
@@ -154,48 +150,41 @@ fn damage(text: &mut [u8], n: usize, state: u64) {
 }
 
 // A good sheet: its text, then that text damaged.
-fn with_good(t: Tally, s: &[u8], state: u64) -> Tally {
+fn try_good(t: &mut Tally, s: &[u8], state: u64) {
     let mut text = [MARK; TEXT];
     let told = write_text(s, &mut text);
     let n = told.unwrap_or(0);
     let right = told.is_ok() && untouched(&text, n) && comes_back(s, start_of(&text, n));
-    let short = 0 < n && is_refused(s, n - 1, 12);
-    let t = judged(t, TOLD, right && short, b"a good sheet", state);
+    let short = 0 < n && refusal_of(s, n - 1) == Some(Refusal::ShortBuffer);
+    t.judge(Kind::Told, right && short, b"a good sheet", state);
     damage(&mut text, n, state);
-    judged(
-        t,
-        DAMAGED,
-        reads_well(start_of(&text, n)),
-        b"a damaged text",
-        state,
-    )
+    let read = reads_well(start_of(&text, n));
+    t.judge(Kind::Damaged, read, b"a damaged text", state);
 }
 
 // A bad one, which is also garbage for a text.
-fn with_bad(t: Tally, s: &[u8], state: u64) -> Tally {
-    let number = fault(s);
-    let right = is_refused(s, TEXT, number) && is_refused(s, 0, number);
-    let t = judged(t, REFUSED, right, b"a bad sheet", state);
-    judged(t, DAMAGED, reads_well(s), b"garbage", state)
+fn try_bad(t: &mut Tally, s: &[u8], fault: Fault, state: u64) {
+    let right = [0, TEXT].iter().all(|n| match refusal_of(s, *n) {
+        Some(refusal) => refusal.number() == fault.number(),
+        None => false,
+    });
+    t.judge(Kind::Refused, right, b"a bad sheet", state);
+    t.judge(Kind::Damaged, reads_well(s), b"garbage", state);
 }
 
-fn with_drawn(t: Tally, state: u64) -> Tally {
+fn try_drawn(t: &mut Tally, state: u64) {
     let d = drawn(state);
-    let bytes = d.bytes;
-    let s = start_of(&bytes, d.length);
-    if fault(s) == 0 {
-        with_good(t, s, state)
-    } else {
-        with_bad(t, s, state)
+    let s = d.sheet();
+    match fault(s) {
+        None => try_good(t, s, state),
+        Some(fault) => try_bad(t, s, fault, state),
     }
 }
 
-pub fn with_randoms(tally: Tally) -> Tally {
-    let mut t = tally;
+pub fn try_randoms(t: &mut Tally) {
     let mut state: u64 = 2026;
     for _ in 0..10000 {
-        t = with_drawn(t, state);
+        try_drawn(t, state);
         state = next(state);
     }
-    t
 }

@@ -2,8 +2,7 @@
 #![tactic(auto)]
 
 use season_figures::stream::{MOST_SHEETS, Season, length_in};
-use std::rt::Env;
-use tool::{LONGEST_ARGUMENT, STDERR_FILENO, STDIN_FILENO, argument, argument_count, say};
+use tool::{STDERR_FILENO, STDIN_FILENO, argument_count, say, with_argument};
 use words::printing::Out;
 
 // ---- the stream
@@ -37,8 +36,10 @@ fn put_season(s: Season) {
     Out::new().put(&text[..n]);
 }
 
-// At most 1,000,000 sheets are read, and nothing after them.
-fn follow(progress: bool) {
+// At most 1,000,000 sheets are read, and nothing after them. Behind each piece `each` is called.
+fn follow<F: Fn(Season)>(each: F)
+    requires { F.IsAlwaysCallable each }
+{
     let mut space = io::large_buffer();
     let mut s = Season::begin();
     for _ in 0..MOST_SHEETS {
@@ -46,20 +47,15 @@ fn follow(progress: bool) {
             break;
         }
         s = next(s, &mut space);
-        if progress {
-            say_progress(s);
-        }
+        each(s);
     }
     put_season(s);
 }
 
 // ---- the command line
 
-// Argument i is not understood: an option that there is not, or that stands twice, or a word too many.
-fn put_wrong(rt: &impl Env, i: usize) {
-    let mut buffer = [0u8; LONGEST_ARGUMENT];
-    let n = argument(rt, i, &mut buffer);
-    let word = &buffer[..n];
+// A word that is not understood: an option that there is not, or that stands twice, or a word too many.
+fn put_wrong(word: &[u8]) {
     let what = if word.starts_with(b"--") {
         "option"
     } else {
@@ -72,21 +68,19 @@ fn put_wrong(rt: &impl Env, i: usize) {
         .put(b"\n");
 }
 
-fn is_progress(rt: &impl Env, i: usize) -> bool {
-    let mut word = [0u8; LONGEST_ARGUMENT];
-    let n = argument(rt, i, &mut word);
-    &word[..n] == b"--progress".as_slice()
+fn is_progress(word: &[u8]) -> bool {
+    word == b"--progress".as_slice()
 }
 
 fn main(rt: HostRuntime) {
     let end = argument_count(&rt);
     if end < 2 {
-        follow(false);
-    } else if !is_progress(&rt, 1) {
-        put_wrong(&rt, 1);
+        follow(|_| {});
+    } else if !with_argument(&rt, 1, is_progress) {
+        with_argument(&rt, 1, put_wrong);
     } else if 2 < end {
-        put_wrong(&rt, 2);
+        with_argument(&rt, 2, put_wrong);
     } else {
-        follow(true);
+        follow(say_progress);
     }
 }

@@ -30,7 +30,7 @@ pub struct Figures {
 
 // ---- counting
 
-// One more of kind k, 1 to 4. No count goes beyond the largest number of 64 bits.
+// One more of kind k, 1 to 4: the number of a refusal or the place of a word, as the definitions number both. No count goes beyond the largest number of 64 bits.
 #[tactic(auto, using(crate::proofs::Counting::kinds_behind, crate::proofs::Counting::counts_one))]
 fn counted(mut four: [u64; 4], k: usize) -> [u64; 4]
     requires { (1 ≤ k) × (k ≤ 4) }
@@ -64,6 +64,21 @@ fn with_rounds(rounds: Option<Rounds>, n: u64) -> Option<Rounds>
 
 // ---- one sheet
 
+// The place of a word among the four, from 1 on; a network out of shape has none. `words::word_for` gives the words: the two share the five cases and no
+// answer.
+#[tactic(auto, unfolding(engine::specs::Answers::ending_of, season_rules::specs::Season::place))]
+fn place(e: Ending) -> usize
+    ensures { (result ≡ place (ending_of e)) × (result ≤ 4) }
+{
+    match e {
+        Ending::None => 1,
+        Ending::Plan => 2,
+        Ending::Jammed => 3,
+        Ending::Open => 4,
+        Ending::Broken => 0,
+    }
+}
+
 impl Figures {
     // Those of no sheets.
     #[tactic(auto, using(crate::proofs::Counting::no_kinds), unfolding(crate::specs::Abstract::figures_of, crate::specs::Abstract::rounds_of, season_rules::specs::Season::no_figures))]
@@ -91,15 +106,15 @@ impl Figures {
         }
     }
 
-    // One more that ended in the word of place k, 1 to 4, which leaves these rounds.
+    // One more that ended so, which leaves these rounds.
     #[tactic(auto, using(crate::proofs::Adding::word_more))]
-    fn with_word(self, k: usize, rounds: Option<Rounds>) -> Figures
-        requires { (1 ≤ k) × (k ≤ 4) }
-        ensures { Room (figures_of self) → figures_of result ≡ with_word (figures_of self) k (rounds_of rounds) }
+    fn with_word(self, e: Ending, rounds: Option<Rounds>) -> Figures
+        requires { 1 ≤ place (ending_of e) }
+        ensures { Room (figures_of self) → figures_of result ≡ with_word (figures_of self) (place (ending_of e)) (rounds_of rounds) }
     {
         Figures {
             sheets: self.sheets.saturating_add(1),
-            words: counted(self.words, k),
+            words: counted(self.words, place(e)),
             rounds,
             ..self
         }
@@ -110,10 +125,8 @@ impl Figures {
         ensures { Room (figures_of self) → 1 ≤ place (ending_of e) → n ≤ 100000 → figures_of result ≡ with_outcome (Ended (ending_of e) n) (figures_of self) }
     {
         match e {
-            Ending::None => self.with_word(1, with_rounds(self.rounds, n)),
-            Ending::Plan => self.with_word(2, with_rounds(self.rounds, n)),
-            Ending::Jammed => self.with_word(3, self.rounds),
-            Ending::Open => self.with_word(4, self.rounds),
+            Ending::None | Ending::Plan => self.with_word(e, with_rounds(self.rounds, n)),
+            Ending::Jammed | Ending::Open => self.with_word(e, self.rounds),
             Ending::Broken => self,
         }
     }

@@ -6,8 +6,8 @@
 //   season                 what `season` prints of the stream; the next one is empty
 #![tactic(auto)]
 
-use cases::kinds::{ADD, ALL, CASE, RAW, SEASON, UNKNOWN, kind_of};
-use cases::lines::numbers_in;
+use cases::kinds::Kind;
+use cases::lines::{Line, first_line};
 use cases::sheets::{Sheet, blank, built};
 use little_sheet::little;
 use std::alloc::{AllocError, Global};
@@ -59,30 +59,21 @@ impl Desk {
         self.stream.clear();
     }
 
-    // Onto the stream, or off it. The next sheet is a blank one.
-    fn end_sheet(&mut self, kind: usize) -> Result<(), AllocError> {
-        let sheet = self.sheet;
-        self.sheet = blank();
-        let bytes = &sheet.bytes[..sheet.length.min(33824)];
-        match kind {
-            ADD => add_framed(&mut self.stream, bytes)?,
-            RAW => self.stream.extend_from_slice(bytes)?,
-            ALL => add_little_sheets(&mut self.stream)?,
-            _ => self.put_season(),
-        }
-        Ok(())
-    }
-
-    // A line that builds a sheet; one that names a case, or is not understood, is printed as it stands.
-    fn follow(&mut self, line: &[u8]) -> Result<(), AllocError> {
-        let numbers = numbers_in(line);
-        let kind = kind_of(line, numbers.count);
-        match kind {
-            ADD | RAW | ALL | SEASON => return self.end_sheet(kind),
-            CASE | UNKNOWN => self.out = self.out.put(line).put(b"\n"),
+    // A line that builds a sheet, or ends it: the sheet goes onto the stream, or the stream is closed, and the next sheet is a blank one. One that names a
+    // case, or is not understood, is printed as it stands.
+    fn follow(&mut self, line: Line<'_>) -> Result<(), AllocError> {
+        match line.kind {
+            Some(Kind::Add) => add_framed(&mut self.stream, self.sheet.filled())?,
+            Some(Kind::Raw) => self.stream.extend_from_slice(self.sheet.filled())?,
+            Some(Kind::All) => add_little_sheets(&mut self.stream)?,
+            Some(Kind::Season) => self.put_season(),
+            Some(Kind::Case) | None => self.out = self.out.put(line.text).put(b"\n"),
             _ => {}
         }
-        self.sheet = built(self.sheet, kind, numbers, line);
+        self.sheet = match line.kind {
+            Some(Kind::Add | Kind::Raw | Kind::All | Kind::Season) => blank(),
+            _ => built(self.sheet, line),
+        };
         Ok(())
     }
 }
@@ -94,11 +85,13 @@ fn play(alloc: Global, text: &[u8]) -> Result<(), AllocError> {
         if desk.out.failed {
             break;
         }
-        desk.follow(line.strip_suffix(b"\n").unwrap_or(line))?;
+        desk.follow(first_line(line))?;
     }
     Ok(())
 }
 
+// Each program that plays a text has a `main` and a walk over its lines of its own: the walks do not end alike, and a `main` in common that is handed
+// `play` as a closure would be called by a `main` as long.
 fn main(rt: HostRuntime) -> Result<(), AllocError> {
     let mut text = io::large_buffer();
     let n = io::read_full(STDIN_FILENO, &mut text);

@@ -14,7 +14,7 @@ use Rattle.base.proofs.Tests.{test}
 use Rattle.base.proofs.Arrays.{get_or-same}
 use Rattle.problem.specs.Problem.{max_domain, max_pairs, with_table, with_bans, no_bans}
 use Rattle.problem.specs.Row.{with_row}
-use Rattle.problem.specs.Sheet.{Invalid, BadRecord, header_length, record_length, word_from, agents_in, first_in, records_in, without_bans, header_good, row_at, row_of, next_of, record_good, decode}
+use Rattle.problem.specs.Sheet.{Invalid, BadRecord, header_length, record_length, word_from, agents_in, first_in, records_in, without_bans, header_good, row_of, next_of, record_good, decode}
 use Rattle.problem.proofs.Fields.{record-fits}
 use Rattle.problem.proofs.Range.{domain-same}
 use Rattle.problem.proofs.Bits.{bits_below}
@@ -68,9 +68,9 @@ short-set t i x short h k =
     (λ e. rw (get_or-set_other t i k x 0 (eqb-false k i e)) (short k))
 
 short-more : (s : List ℕ) (r : ℕ) (t : List ℕ) → Good s r → Short t → Short (table_with s r t)
-unfolding max_domain with_table with_bans row_at row_of with_row table_with
+unfolding max_domain with_table with_bans with_row table_with
 short-more s r t g short =
-    let f = rw (← start-at r g.index) at (good-record s r g) in
+    let f = good-record s r g in
     let same = domain-same (without_bans s) t in
     short-set t _ _ short
     (bits_below _ _ _ _ (rw (same (row_of s r).lower) f.lowers.1) (rw (same (row_of s r).higher) f.highers.1) (short _))

@@ -8,10 +8,12 @@ ghost use Rattle.sheet.specs.Abstract.{outcome, outcome_of};
 mod walk;
 
 use refusals::Refusal;
-use sheet_parts::header::{header_good, two_bytes};
+use sheet_parts::Sheet;
+use sheet_parts::header::two_bytes;
 use walk::walk;
 
-// The arrays are those of the definition: twelve slot counts, and 66 words of 64 bits for the pairs of agents.
+// The arrays are those of the definition: twelve slot counts, and 66 words of 64 bits for the pairs of agents. With no heap both have room for twelve
+// agents, of which there are `count`.
 #[derive(Clone, Copy, Debug, PartialEq, Eq)]
 pub struct Problem {
     pub count: u8,
@@ -24,12 +26,14 @@ pub fn decode(s: &[u8]) -> Result<Problem, Refusal>
     ensures { outcome_of result ≡ outcome (decode s.now) }
 {
     if s.len() < 24 {
-        Err(Refusal::BadLength)
-    } else if !header_good(s) {
+        return Err(Refusal::BadLength);
+    }
+    let sheet = Sheet { bytes: s };
+    if !sheet.header_good() {
         Err(Refusal::BadHeader)
     } else if s.len() != 24 + 8 * two_bytes(s, 4) {
         Err(Refusal::BadLength)
     } else {
-        walk(s)
+        walk(&sheet)
     }
 }

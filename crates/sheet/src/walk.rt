@@ -5,15 +5,15 @@ ghost use Rattle.sheet.specs.Abstract.{outcome, outcome_of, Framed};
 
 use crate::Problem;
 use refusals::Refusal;
-use sheet_parts::bans::add_record;
-use sheet_parts::header::{domains_in, two_bytes};
-use sheet_parts::record::record_good;
+use sheet_parts::Sheet;
+use sheet_parts::header::two_bytes;
 
 // From the first record on. No record is marked as met: a walk of more than m records has come back to one, so m + 1 turns find every return.
-pub fn walk(s: &[u8]) -> Result<Problem, Refusal>
-    requires { Framed s.now }
-    ensures { outcome_of result ≡ outcome (decode s.now) }
+pub fn walk(sheet: &Sheet) -> Result<Problem, Refusal>
+    requires { Framed sheet.now.bytes.now }
+    ensures { outcome_of result ≡ outcome (decode sheet.now.bytes.now) }
 {
+    let s = sheet.bytes;
     let records = two_bytes(s, 4);
     let mut bans = [0u64; 66];
     let mut r = two_bytes(s, 2);
@@ -21,14 +21,14 @@ pub fn walk(s: &[u8]) -> Result<Problem, Refusal>
         if r == 0 {
             return Ok(Problem {
                 count: s[0],
-                domains: domains_in(s),
+                domains: sheet.domains(),
                 bans,
             });
         }
-        if !record_good(s, r) {
+        if !sheet.record_good(r) {
             return Err(Refusal::BadRecord);
         }
-        add_record(&mut bans, s, r);
+        sheet.add_record(&mut bans, r);
         r = two_bytes(s, 20 + 8 * r);
     }
     Err(Refusal::Cycle)

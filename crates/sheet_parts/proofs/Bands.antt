@@ -14,7 +14,7 @@ use Rattle.base.proofs.Peeling.{same_test}
 use Rattle.problem.specs.Row.{gap}
 use Rattle.sheet_parts.specs.Parts.{Pairs}
 use Rattle.sheet_parts.proofs.Pairs.{none, either, renamed}
-use Rattle.sheet_parts.proofs.Gaps.{on-diagonal}
+use Rattle.sheet_parts.proofs.Signed.{on-diagonal}
 
 -- ---- one diagonal, with a test of its gap
 
@@ -53,6 +53,3 @@ upto-more f k x y p q = renamed (either p q) (λ v w a b c d. more v w (f (gap v
     more v w t =
         let on : k + 1 + v ≡ k + v + 1 = omega arith in
         sym (and-or_distrib_right (ltb (w + 7) (k + v)) (eqb (w + 7) (k + v)) t) ∙ rw (one_more (w + 7) (k + v), on)
-
-pub upto_all : (f : ℤ → Bool) (x : ℕ) → Upto 15 f x → Pairs x (λ v w. f (gap v w))
-upto_all f x p = renamed p (λ v w a b c d. let h : w + 7 < 15 + v = omega arith in rw (lt-ltb (w + 7) (15 + v) h))

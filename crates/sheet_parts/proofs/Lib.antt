@@ -1,7 +1,7 @@
 pub mod Tests
 pub mod Headers
 mod Table
-mod Gaps
+mod Signed
 mod Pairs
 mod Bands
 pub mod Records

@@ -3,14 +3,7 @@ use Rattle.std.specs.Prelude.{ℕ, ◌+◌, ◌*◌, ◌^◌, ◌≤◌, ◌<◌
 use Rattle.base.specs.Bits.{bit}
 use Rattle.problem.specs.Problem.{owns, bit_at, with_table}
 use Rattle.problem.specs.Row.{hits, with_row}
-use Rattle.problem.specs.Sheet.{byte_at, edition_in, without_bans, header_good, row_of, record_good}
-
--- the record whose first byte is at k names two possible agents
-pub record Named (s : List ℕ) (k : ℕ) : Type 0 where
-  pub header : 24 ≤ length s
-  pub whole : k + 4 ≤ length s
-  pub lower : (1 ≤ byte_at s k) × (byte_at s k ≤ 12)
-  pub higher : (1 ≤ byte_at s (k + 1)) × (byte_at s (k + 1) ≤ 12)
+use Rattle.problem.specs.Sheet.{edition_in, without_bans, header_good, row_of, record_good}
 
 -- record r is one of a sheet with a good header, and good
 pub record Good (s : List ℕ) (r : ℕ) : Type 0 where

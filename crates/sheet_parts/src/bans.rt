@@ -1,13 +1,12 @@
 // What one record bans: a word of pairs of values, bit 8 * (lower's value - 1) + higher's value - 1, put into the table.
 ghost use Rattle.std.specs.Prelude.{◌≡◌, ◌&&◌, ◌+◌, ◌≤◌, ◌<◌, eqb};
-ghost use Rattle.std.specs.Int.Signed.{le_z};
 ghost use Rattle.base.specs.Finite.{within};
-ghost use Rattle.problem.specs.Row.{signed, between, gap};
+ghost use Rattle.problem.specs.Row.{between, gap};
 ghost use Rattle.sheet_parts.specs.Parts.{Pairs, row_pairs, Good, Short, table_with};
 
-use crate::header::domain;
+use crate::bytes::Sheet;
+use crate::gaps::Gaps;
 use crate::index::word_at;
-use crate::record::signed;
 
 // The lower's value v with the higher's value w.
 fn one_pair(v: usize, w: usize) -> u64
@@ -39,59 +38,62 @@ fn diagonal(k: usize) -> u64
     }
 }
 
-// Those pairs, if their gap lies from least to greatest.
-fn hit(least: i8, greatest: i8, k: usize) -> u64
-    requires { k < 15 }
-    ensures { Pairs result (λ v w. eqb (w + 7) (k + v) && between least greatest (gap v w)) }
-{
-    let gap = k as i8 - 7;
-    if (least..=greatest).contains(&gap) {
-        diagonal(k)
-    } else {
-        0
+impl Gaps {
+    // Those pairs, if their gap is one of these.
+    fn hit(self, k: usize) -> u64
+        requires { k < 15 }
+        ensures { Pairs result (λ v w. eqb (w + 7) (k + v) && between self.least self.greatest (gap v w)) }
+    {
+        if self.contains(k as i8 - 7) {
+            diagonal(k)
+        } else {
+            0
+        }
+    }
+
+    // The pairs with one of these gaps, of the gaps from -7 to 7.
+    fn band(self) -> u64
+        ensures { Pairs result (λ v w. between self.least self.greatest (gap v w)) }
+    {
+        let mut word = 0;
+        for k in 0..15 {
+            word |= self.hit(k);
+        }
+        word
     }
 }
 
-// The pairs with a gap from least to greatest, of the gaps from -7 to 7.
-fn band(least: i8, greatest: i8) -> u64
-    ensures { Pairs result (λ v w. between least greatest (gap v w)) }
-{
-    let mut word = 0;
-    for k in 0..15 {
-        word |= hit(least, greatest, k);
-    }
-    word
-}
-
-// Edition 2: of the first d values of the lower and the first e of the higher, the pairs with a gap from least to greatest.
-fn gap_pairs(d: u8, e: u8, least: u8, greatest: u8) -> u64
+// Edition 2: of the first d values of the lower and the first e of the higher, the pairs with one of these gaps.
+fn gap_pairs(d: u8, e: u8, gaps: Gaps) -> u64
     requires { (1 ≤ d) × (d ≤ 8) × (1 ≤ e) × (e ≤ 8) }
-    ensures { Pairs result (λ v w. within d v && within e w && between (signed least) (signed greatest) (gap v w)) }
+    ensures { Pairs result (λ v w. within d v && within e w && between gaps.least gaps.greatest (gap v w)) }
 {
-    owned(d as usize, e as usize) & band(signed(least), signed(greatest))
+    owned(d as usize, e as usize) & gaps.band()
 }
 
-// The pairs that record r bans.
-fn row_pairs(s: &[u8], r: usize) -> u64
-    requires { Good s.now r }
-    ensures { Pairs result (row_pairs s.now r) }
-{
-    let at = 16 + 8 * r;
-    if s[1] == 2 {
-        let d = domain(s, s[at] as usize);
-        let e = domain(s, s[at + 1] as usize);
-        gap_pairs(d, e, s[at + 2], s[at + 3])
-    } else {
-        one_pair(s[at + 2] as usize, s[at + 3] as usize)
+impl Sheet<'_> {
+    // The pairs that record r bans.
+    fn row_pairs(&self, r: usize) -> u64
+        requires { Good self.now.bytes.now r }
+        ensures { Pairs result (row_pairs self.now.bytes.now r) }
+    {
+        let row = self.row(r);
+        if self.of_gaps() {
+            let d = self.domain(row.lower as usize);
+            let e = self.domain(row.higher as usize);
+            gap_pairs(d, e, Gaps::of(row))
+        } else {
+            one_pair(row.low as usize, row.high as usize)
+        }
     }
-}
 
-// The table with what record r bans.
-pub fn add_record(bans: &mut [u64; 66], s: &[u8], r: usize)
-    requires { Good s.now r × Short bans.old }
-    ensures { bans.new ≡ table_with s.now r bans.old }
-{
-    let at = 16 + 8 * r;
-    let word = word_at(s[at] as usize, s[at + 1] as usize);
-    bans[word] |= row_pairs(s, r);
+    // The table with what record r bans.
+    pub fn add_record(&self, bans: &mut [u64; 66], r: usize)
+        requires { Good self.now.bytes.now r × Short bans.old }
+        ensures { bans.new ≡ table_with self.now.bytes.now r bans.old }
+    {
+        let row = self.row(r);
+        let word = word_at(row.lower as usize, row.higher as usize);
+        bans[word] |= self.row_pairs(r);
+    }
 }

@@ -1,11 +1,11 @@
 -- A sheet is written part by part: header, records one behind the other, the whole.
 -- Each part is put where the one before it ends; the index in a record leads on, or is 0 in the last.
-use Prim.Native.Nat.{ℕ, suc, ◌+◌, ◌-◌, ◌*◌, ◌/◌, ◌%◌, ◌≤◌, ◌<◌}
+use Prim.Native.Nat.{ℕ, suc, ◌+◌, ◌*◌, ◌/◌, ◌%◌, ◌≤◌, ◌<◌}
 use mathlib.Core.Path.{◌≡◌, refl, sym, ap, ◌∙◌}
 use mathlib.Core.Bool.{Bool, true, false, cond}
-use mathlib.Core.List.{List, [], ◌∷◌, ◌++◌, map}
+use mathlib.Core.List.{List, [], ◌∷◌, ◌++◌}
 use native.Mathlib.Omega.{arith}
-use lib.ListN.{length, get_or, take, drop, length-append, length-map, length-drop}
+use lib.ListN.{length, get_or, take, drop, length-append, length-drop}
 use lib.Seq.{drop-cons, drop-length}
 use lib.Dec.{ltb}
 use mir.Val.{bool_byte}
@@ -19,7 +19,7 @@ use Rattle.problem.specs.Writing.{two_bytes, header_bytes, row_bytes, index_afte
 use Rattle.problem.proofs.Writing.{chained-length, writes-length}
 use Rattle.lent.specs.Abstract.{over}
 use Rattle.lent.proofs.Over.{over_nothing, over-over}
-use Rattle.sheet_writer.specs.Rows.{row_in, next_index}
+use Rattle.sheet_writer.specs.Rows.{next_index}
 
 -- ---- the header
 
@@ -72,7 +72,7 @@ pub next-none : (r records : ℕ) → records ≤ suc r → next_index r records
 unfolding next_index
 next-none r records h = rw (le-ltb (suc r) records h)
 
-next_small : (r records : ℕ) → r < 4224 → next_index r records < 65536
+pub next_small : (r records : ℕ) → r < 4224 → next_index r records < 65536
 unfolding next_index
 next_small r records h = test (ltb (suc r) records) (λ e. rw e (omega arith)) (λ e. rw e (omega arith))
 
@@ -81,73 +81,43 @@ unfolding index_after
 next-index r records [] e = sym (next-none r records (omega arith))
 next-index r records (row ∷ rows) e = rw (next-on r records (omega arith)) (omega arith)
 
--- four bytes, little-endian
-abbrev pub four_bytes : ℕ → List ℕ
-four_bytes x = x % 256 ∷ x / 256 % 256 ∷ x / 65536 % 256 ∷ x / 16777216 % 256 ∷ []
-
-row-bytes : (x next : ℕ) → next < 65536 → four_bytes x ++ four_bytes next ≡ row_bytes (row_in x) next
-unfolding row_in row_bytes two_bytes
-row-bytes x next h =
-    let third : x / 65536 ≡ x / 256 / 256 = omega arith in
-    let fourth : x / 16777216 ≡ x / 256 / 256 / 256 = omega arith in
-    let high : next / 256 % 256 ≡ next / 256 = omega arith in
-    let none : next / 65536 % 256 ≡ 0 = omega arith in
-    let none_above : next / 16777216 % 256 ≡ 0 = omega arith in
-    rw (third, fourth, high, none, none_above)
-
--- its two halves, one behind the other
-pub record-put : (r records x : ℕ) → r < 4224 → (old mid new : List ℕ) → 24 + 8 * r ≤ length old → mid ≡ over (24 + 8 * r) (four_bytes x) old
-    → new ≡ over (28 + 8 * r) (four_bytes (next_index r records)) mid
-    → new ≡ take (24 + 8 * r) old ++ row_bytes (row_in x) (next_index r records) ++ drop (24 + 8 * suc r) old
-record-put r records x small old mid new h e f =
-    let next = next_index r records in
-    let behind : 28 + 8 * r ≡ 24 + 8 * r + 4 = omega arith in
-    let both : new ≡ over (24 + 8 * r) (four_bytes x ++ four_bytes next) old =
-    f ∙ rw e (over-over (24 + 8 * r) (28 + 8 * r) (four_bytes x) (four_bytes next) old h behind) in
-    let far : 24 + 8 * r + 8 ≡ 24 + 8 * suc r = omega arith in
-    both ∙ rw far (ap (λ (l : List ℕ). take (24 + 8 * r) old ++ l ++ drop (24 + 8 * suc r) old) (row-bytes x next (next_small r records small)))
+-- its row, and the index that leads on
+pub row-bytes : (row : Row) (next : ℕ) → row.lower ∷ row.higher ∷ row.low ∷ row.high ∷ next % 256 ∷ next / 256 ∷ 0 ∷ 0 ∷ [] ≡ row_bytes row next
+unfolding row_bytes two_bytes
+row-bytes row next = refl
 
 -- ---- the records
 
--- the rows from r on
-abbrev pub rows_from : List ℕ → ℕ → List Row
-rows_from rows r = map row_in (drop r rows)
-
-module _ (rows : List ℕ) where
-  rest-length : (r : ℕ) → length (rows_from rows r) ≡ length rows - r
-  rest-length r = length-map (drop r rows) row_in ∙ length-drop r rows
-
-  rest-next : (r : ℕ) → r < length rows → rows_from rows r ≡ row_in (get_or rows r 0) ∷ rows_from rows (suc r)
-  rest-next r h = ap (map row_in) (drop-cons rows r 0 h)
-
+module _ (rows : List Row) where
   -- what is left to put leaves what putting all would have left
   pub record Left (old out : List ℕ) (r : ℕ) : Type 0 where
     pub long : length out ≡ length old
-    pub same : over (24 + 8 * r) (chained r (rows_from rows r)) out ≡ over 24 (chained 0 (map row_in rows)) old
+    pub same : over (24 + 8 * r) (chained r (drop r rows)) out ≡ over 24 (chained 0 rows) old
 
   pub all_left : (old : List ℕ) → Left old old 0
   all_left old = record { long = refl; same = refl }
 
-  pub less-left : (old out new : List ℕ) (r : ℕ) → r < length rows → 24 + 8 * length rows ≤ length old → Left old out r
-      → new ≡ take (24 + 8 * r) out ++ row_bytes (row_in (get_or rows r 0)) (next_index r (length rows)) ++ drop (24 + 8 * suc r) out
+  pub less-left : (old out new : List ℕ) (r : ℕ) (d row : Row) → r < length rows → get_or rows r d ≡ row → 24 + 8 * length rows ≤ length old → Left old out r
+      → new ≡ take (24 + 8 * r) out ++ row_bytes row (next_index r (length rows)) ++ drop (24 + 8 * suc r) out
       → length new ≡ length out → Left old new (suc r)
   unfolding chained row_bytes two_bytes
-  less-left old out new r h fits g e long =
-      let bytes = row_bytes (row_in (get_or rows r 0)) (next_index r (length rows)) in
-      let rest = rows_from rows (suc r) in
+  less-left old out new r d row h here fits g e long =
+      let bytes = row_bytes row (next_index r (length rows)) in
+      let rest = drop (suc r) rows in
       let on : 24 + 8 * suc r ≡ 24 + 8 * r + 8 = omega arith in
       let put-here : new ≡ over (24 + 8 * r) bytes out = e ∙ rw on in
-      let leads = next-index r (length rows) rest (omega (arith, rest-length (suc r))) in
-      let parts : chained r (rows_from rows r) ≡ bytes ++ chained (suc r) rest = rw (rest-next r h) (rw leads) in
+      let leads = next-index r (length rows) rest (omega (arith, length-drop (suc r) rows)) in
+      let first : drop r rows ≡ row ∷ rest = drop-cons rows r d h ∙ rw here in
+      let parts : chained r (drop r rows) ≡ bytes ++ chained (suc r) rest = rw first (rw leads) in
       let moved : over (24 + 8 * suc r) (chained (suc r) rest) new ≡ over (24 + 8 * r) (bytes ++ chained (suc r) rest) out =
       rw put-here (over-over (24 + 8 * r) (24 + 8 * suc r) bytes (chained (suc r) rest) out (omega (arith, g.long)) on) in
       record { long = long ∙ g.long; same = moved ∙ ap (λ (l : List ℕ). over (24 + 8 * r) l out) (sym parts) ∙ g.same }
 
   pub none_left : (old out : List ℕ) (r : ℕ) → r ≡ length rows → Left old out r
-      → out ≡ take 24 old ++ chained 0 (map row_in rows) ++ drop (24 + 8 * length rows) old
+      → out ≡ take 24 old ++ chained 0 rows ++ drop (24 + 8 * length rows) old
   unfolding chained
   none_left old out r e g =
-      let long : length (chained 0 (map row_in rows)) ≡ 8 * length rows = chained-length 0 (map row_in rows) ∙ rw (length-map rows row_in) in
+      let long : length (chained 0 rows) ≡ 8 * length rows = chained-length 0 rows in
       sym (over_nothing (24 + 8 * length rows) out) ∙ rw (e, drop-length rows) at g.same ∙ rw long
 
 -- ---- the whole

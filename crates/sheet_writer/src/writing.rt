@@ -1,10 +1,11 @@
 // The parts of a sheet: the header, a record, the records.
-ghost use Rattle.std.specs.Prelude.{◌≡◌, cond, ◌++◌, map, suc, ◌+◌, ◌*◌, ◌≤◌, ◌<◌, length, take, drop, ltb};
+ghost use Rattle.std.specs.Prelude.{◌≡◌, cond, ◌++◌, suc, ◌+◌, ◌*◌, ◌≤◌, ◌<◌, length, take, drop, ltb};
 ghost use Rattle.problem.specs.Writing.{header_bytes, row_bytes, chained};
-ghost use Rattle.sheet_writer.specs.Rows.{row_in, next_index};
+ghost use Rattle.sheet_writer.specs.Rows.{row_of, rows_of, next_index};
 
 use lent::put;
 use sheet::Problem;
+use sheet_parts::Row;
 
 pub fn put_header(out: &mut [u8], edition: u8, p: Problem, records: usize)
     requires { (records ≤ 4224) × (24 ≤ length out.old) }
@@ -18,22 +19,32 @@ pub fn put_header(out: &mut [u8], edition: u8, p: Problem, records: usize)
     put(out, 20, &[0; 4]);
 }
 
-// The row that x packs, as record r + 1 of so many; the last ends the chain.
-fn put_record(out: &mut [u8], r: usize, records: usize, x: u32)
+// The row as record r + 1 of so many; the last ends the chain.
+fn put_record(out: &mut [u8], r: usize, records: usize, row: Row)
     requires { (r < records) × (records ≤ 4224) × (24 + 8 * records ≤ length out.old) }
     ensures { out.new
-        ≡ take (24 + 8 * r) out.old ++ row_bytes (row_in x) (next_index r records) ++ drop (24 + 8 * suc r) out.old }
+        ≡ take (24 + 8 * r) out.old ++ row_bytes (row_of row) (next_index r records) ++ drop (24 + 8 * suc r) out.old }
 {
     let next = if r + 1 < records { r + 2 } else { 0 };
-    put(out, 24 + 8 * r, &x.to_le_bytes());
-    put(out, 28 + 8 * r, &(next as u32).to_le_bytes());
+    let [first, second] = (next as u16).to_le_bytes();
+    let Row {
+        lower,
+        higher,
+        low,
+        high,
+    } = row;
+    put(
+        out,
+        24 + 8 * r,
+        &[lower, higher, low, high, first, second, 0, 0],
+    );
 }
 
 // The rows, behind the header.
-pub fn put_records(out: &mut [u8], rows: &[u32])
+pub fn put_records(out: &mut [u8], rows: &[Row])
     requires { (length rows.now ≤ 4224) × (24 + 8 * length rows.now ≤ length out.old) }
     ensures { out.new
-        ≡ take 24 out.old ++ chained 0 (map row_in rows.now) ++ drop (24 + 8 * length rows.now) out.old }
+        ≡ take 24 out.old ++ chained 0 (rows_of rows.now) ++ drop (24 + 8 * length rows.now) out.old }
 {
     for (r, row) in rows.iter().enumerate() {
         put_record(out, r, rows.len(), *row);

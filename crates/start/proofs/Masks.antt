@@ -14,6 +14,7 @@ use Rattle.base.specs.Bits.{bit}
 use Rattle.base.proofs.Tests.{test}
 use Rattle.base.proofs.Bits.{bit-zero, bit-suc, bit-of-zero}
 use Rattle.packed.specs.Packed.{members}
+use Rattle.packed.proofs.Masks.{byte-lt}
 
 -- the agents above k are in
 pub record Masked (f : ℕ → Bool) (mask k : ℕ) : Type 0 where
@@ -31,10 +32,6 @@ half : (x : ℕ) (b : Bool) → (x * 2 + bool_byte b) / 2 ≡ x
 half x true = let e : (x * 2 + 1) / 2 ≡ x = omega arith in e
 half x false = let e : (x * 2 + 0) / 2 ≡ x = omega arith in e
 
-one_bit : (b : Bool) → bool_byte b ≤ 1
-one_bit true = let l : 1 ≤ 1 = omega arith in l
-one_bit false = let l : 0 ≤ 1 = omega arith in l
-
 -- ---- the mask from the highest agent down
 
 pub mask-begins : (f : ℕ → Bool) (n : ℕ) → n ≤ 12 → ((k : ℕ) → n < k → f k ≡ false) → Masked f 0 n
@@ -43,7 +40,7 @@ mask-begins f n l h =
 
 pub mask_fits : (f : ℕ → Bool) (mask k : ℕ) (b : Bool) → Masked f mask k → 0 < k → mask * 2 + bool_byte b < 4096
 mask_fits f mask k b M l =
-    let p : 2 ^ (12 - k) ≤ 2 ^ 11 = pow-le-pow_right (omega arith) {i = 12 - k} {j = 11} (omega arith) in omega (arith, M.small, one_bit b)
+    let p : 2 ^ (12 - k) ≤ 2 ^ 11 = pow-le-pow_right (omega arith) {i = 12 - k} {j = 11} (omega arith) in omega (arith, M.small, byte-lt b)
 
 pub mask-goes : (f : ℕ → Bool) (mask k : ℕ) (b : Bool) → Masked f mask k → 0 < k → b ≡ f k → Masked f (mask * 2 + bool_byte b) (k - 1)
 mask-goes f mask zero b M l e = absurd (omega arith)
@@ -52,7 +49,7 @@ mask-goes f mask (suc k) b M l e =
     rw d (record { few = omega (arith, M.few); small = below; bits = bits })
   where
     below : mask * 2 + bool_byte b < 2 ^ (12 - k)
-    below = let d : 12 - k ≡ suc (12 - suc k) = omega (arith, M.few) in rw d (omega (arith, M.small, one_bit b))
+    below = let d : 12 - k ≡ suc (12 - suc k) = omega (arith, M.few) in rw d (omega (arith, M.small, byte-lt b))
 
     bits : (j : ℕ) → bit (mask * 2 + bool_byte b) j ≡ f (suc (k + j))
     bits zero = let z : k + 0 ≡ k = omega arith in rw z (bit-low mask b ∙ e)

@@ -26,6 +26,7 @@ fn listens(bans: &[u64; 66], i: u8) -> u16
 {
     let words = words_before(i);
     let mut mask: u16 = 0;
+    // by number, as in `informs`, where the words do not stand beside each other: so one lemma on masks serves both
     for k in (0..i as usize - 1).rev() {
         mask = mask * 2 + u16::from(bans[words + k] != 0);
     }
@@ -38,6 +39,7 @@ fn informs(bans: &[u64; 66], n: u8, i: u8) -> u16
     ensures { (p : Problem') → p.bans ≡ bans.now → ((k : ℕ) → n < k → linked p i k ≡ false) → members result ≡ (λ k. linked p i k) }
 {
     let mut mask: u16 = 0;
+    // by number: the words of one lower agent do not stand beside each other
     for k in (i..n).rev() {
         let word = words_before(k + 1) + i as usize - 1;
         mask = mask * 2 + u16::from(bans[word] != 0);
@@ -67,6 +69,7 @@ pub fn start(rule: u8, sheet: &[u8]) -> Result<Network, Refusal>
         bans,
         ..network::empty()
     };
+    // by number: an agent that begins changes two arrays of the network at its place, and places of its lines in a third
     for at in 0..count as usize {
         let i = at as u8 + 1;
         let own = Own {

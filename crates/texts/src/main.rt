@@ -11,184 +11,141 @@
 
 use board_text::options::{Options, goes_on, no_options, opens, option, put_unopened, rule_of};
 use board_text::{Begun, Stepped, begin, begin_image, call};
-use cases::kinds::{BOARD, CASE, DOCK, END, OPTION, UNKNOWN, WORD, kind_of};
-use cases::lines::{Numbers, numbers_in, small};
+use cases::kinds::Kind;
+use cases::lines::{Line, first_line};
 use cases::sheets::{Sheet, blank, built};
 use tool::STDIN_FILENO;
 use words::printing::Out;
-
-// ---- the programs
-
-// What `dock` prints of the first n bytes.
-fn put_dock(o: Out, bytes: &[u8], n: usize, rounds: u64) -> Out {
-    match bytes.get(..n) {
-        Some(sheet) => {
-            let mut text = [0u8; 1024];
-            let k = dock_text::text(sheet, rounds, &mut text);
-            o.put(&text[..k])
-        }
-        None => o,
-    }
-}
-
-// What has begun, on the empty rail where it is refused, and what was printed of it.
-fn begun(b: Begun) -> Stepped {
-    let dispatcher = match b.dispatcher {
-        Ok(dispatcher) => dispatcher,
-        Err(_) => dispatch::begin(network::empty()),
-    };
-    Stepped {
-        dispatcher,
-        out: b.out,
-    }
-}
-
-// What `board` prints of the sheet by a rule, and the dispatcher that begins there.
-fn boarded(s: Stepped, sheet: Sheet, rule: u8) -> Stepped {
-    match sheet.bytes.get(..sheet.length) {
-        Some(bytes) => begun(begin(s.out, rule, bytes)),
-        None => s,
-    }
-}
-
-// The same of the bytes as an image.
-fn loaded(s: Stepped, sheet: Sheet) -> Stepped {
-    match sheet.bytes.get(..sheet.length) {
-        Some(bytes) => begun(begin_image(s.out, bytes)),
-        None => s,
-    }
-}
-
-// ---- the text
-
-// The word behind `word` and a blank.
-fn called(s: Stepped, line: &[u8]) -> Stepped {
-    call(s.out, s.dispatcher, line.get(5..).unwrap_or(line))
-}
-
-fn with_line(s: Stepped, line: &[u8]) -> Stepped {
-    Stepped {
-        out: s.out.put(line).put(b"\n"),
-        ..s
-    }
-}
-
-fn docked(s: Stepped, sheet: Sheet, n: Numbers) -> Stepped {
-    Stepped {
-        out: put_dock(s.out, &sheet.bytes, sheet.length, n.values[0]),
-        ..s
-    }
-}
-
-// The rule that a line names, or 1.
-fn rule_in(n: Numbers) -> u8 {
-    if n.count == 0 { 1 } else { small(n, 0) }
-}
-
-// What a line prints. One that is not understood is printed as it stands, so that it shows.
-fn printed(s: Stepped, sheet: Sheet, kind: usize, n: Numbers, line: &[u8]) -> Stepped {
-    match kind {
-        CASE | UNKNOWN => with_line(s, line),
-        DOCK => docked(s, sheet, n),
-        BOARD => boarded(s, sheet, rule_in(n)),
-        WORD => called(s, line),
-        _ => s,
-    }
-}
 
 // What lies on the desk: the sheet of the case under hand, the options read for it, and the board.
 #[derive(Clone, Copy)]
 struct Desk {
     sheet: Sheet,
     options: Options,
-    stepped: Stepped,
+    board: Stepped,
 }
 
-// What the words in front of the calls come to. The sheet under hand stands for the file, be it a sheet or an image.
-fn put_words(s: Stepped, sheet: Sheet, o: Options, word: &[u8]) -> Stepped {
-    if !opens(o) {
-        Stepped {
-            out: put_unopened(s.out, o, word),
-            ..s
+impl Desk {
+    fn new() -> Desk {
+        Desk {
+            sheet: blank(),
+            options: no_options(true),
+            board: Stepped {
+                dispatcher: dispatch::begin(network::empty()),
+                out: Out::new(),
+            },
         }
-    } else if o.image {
-        loaded(s, sheet)
-    } else {
-        boarded(s, sheet, rule_of(o))
     }
-}
 
-// One word more in front of the calls, as long as they are read.
-fn with_word(d: Desk, word: &[u8]) -> Desk {
-    if !goes_on(d.options) {
-        return d;
+    // ---- the programs
+
+    fn put_line(&mut self, line: &[u8]) {
+        self.board.out = self.board.out.put(line).put(b"\n");
     }
-    let options = option(d.options, word);
-    let stepped = if goes_on(options) {
-        d.stepped
-    } else {
-        put_words(d.stepped, d.sheet, options, word)
-    };
-    Desk {
-        options,
-        stepped,
-        ..d
+
+    // What `dock` prints of the sheet.
+    fn put_dock(&mut self, rounds: u64) {
+        let mut text = [0u8; 1024];
+        let n = dock_text::text(self.sheet.filled(), rounds, &mut text);
+        self.board.out = self.board.out.put(&text[..n]);
     }
-}
 
-// No more words.
-fn ended(d: Desk) -> Desk {
-    let stepped = if goes_on(d.options) {
-        put_words(d.stepped, d.sheet, d.options, b"")
-    } else {
-        d.stepped
-    };
-    Desk { stepped, ..d }
-}
+    // What has begun, on the empty rail where it is refused, and what was printed of it.
+    fn begin(&mut self, begun: Begun) {
+        self.board = Stepped {
+            dispatcher: match begun.dispatcher {
+                Ok(dispatcher) => dispatcher,
+                Err(_) => dispatch::begin(network::empty()),
+            },
+            out: begun.out,
+        };
+    }
 
-// A line that is no word in front of the calls. A case begins with no options.
-fn other(d: Desk, kind: usize, n: Numbers, line: &[u8]) -> Desk {
-    let sheet = built(d.sheet, kind, n, line);
-    Desk {
-        sheet,
-        options: if kind == CASE {
-            no_options(true)
+    // What `board` prints of the sheet by a rule, and the dispatcher that begins there.
+    fn begin_sheet(&mut self, rule: u8) {
+        let begun = begin(self.board.out, rule, self.sheet.filled());
+        self.begin(begun);
+    }
+
+    // The same of the bytes as an image.
+    fn begin_image(&mut self) {
+        let begun = begin_image(self.board.out, self.sheet.filled());
+        self.begin(begun);
+    }
+
+    fn call(&mut self, word: &[u8]) {
+        self.board = call(self.board.out, self.board.dispatcher, word);
+    }
+
+    // ---- the words in front of the calls
+
+    // What they come to. The sheet under hand stands for the file, be it a sheet or an image.
+    fn put_words(&mut self, word: &[u8]) {
+        if !opens(self.options) {
+            self.board.out = put_unopened(self.board.out, self.options, word);
+        } else if self.options.image {
+            self.begin_image();
         } else {
-            d.options
-        },
-        stepped: printed(d.stepped, sheet, kind, n, line),
+            self.begin_sheet(rule_of(self.options));
+        }
     }
-}
 
-// A word in front of the calls stands behind `option` and a blank.
-fn followed(d: Desk, line: &[u8]) -> Desk {
-    let n = numbers_in(line);
-    let kind = kind_of(line, n.count);
-    match kind {
-        OPTION => with_word(d, line.get(7..).unwrap_or(line)),
-        END => ended(d),
-        _ => other(d, kind, n, line),
+    // One word more, as long as they are read.
+    fn read_word(&mut self, word: &[u8]) {
+        if goes_on(self.options) {
+            self.options = option(self.options, word);
+            if !goes_on(self.options) {
+                self.put_words(word);
+            }
+        }
+    }
+
+    // No more words.
+    fn end_words(&mut self) {
+        if goes_on(self.options) {
+            self.put_words(b"");
+        }
+    }
+
+    // ---- the text
+
+    // A line builds on the sheet, or prints something. A case begins with no options; its line, and one that is not understood, is printed as it stands.
+    fn follow(&mut self, line: Line<'_>) {
+        let Line {
+            kind,
+            numbers,
+            text,
+        } = line;
+        self.sheet = built(self.sheet, line);
+        match kind {
+            None => self.put_line(text),
+            Some(Kind::Case) => {
+                self.options = no_options(true);
+                self.put_line(text);
+            }
+            Some(Kind::Dock) => self.put_dock(numbers.values[0]),
+            Some(Kind::Board) => self.begin_sheet(numbers.get(0).map_or(1, |k| (k % 256) as u8)),
+            Some(Kind::Word) => self.call(text.get(5..).unwrap_or(text)),
+            Some(Kind::OptionWord) => self.read_word(text.get(7..).unwrap_or(text)),
+            Some(Kind::End) => self.end_words(),
+            _ => {}
+        }
     }
 }
 
 // Line by line, as long as what they print can be written.
 fn play(text: &[u8]) {
-    let mut d = Desk {
-        sheet: blank(),
-        options: no_options(true),
-        stepped: Stepped {
-            dispatcher: dispatch::begin(network::empty()),
-            out: Out::new(),
-        },
-    };
+    let mut desk = Desk::new();
     for line in text.split_inclusive(|b| *b == b'\n') {
-        if d.stepped.out.failed {
+        if desk.board.out.failed {
             return;
         }
-        d = followed(d, line.strip_suffix(b"\n").unwrap_or(line));
+        desk.follow(first_line(line));
     }
 }
 
+// Each program that plays a text has a `main` and a walk over its lines of its own: the walks do not end alike, and a `main` in common that is handed
+// `play` as a closure would be called by a `main` as long.
 fn main() {
     let mut text = io::large_buffer();
     let n = io::read_full(STDIN_FILENO, &mut text);

@@ -1,7 +1,8 @@
 // What the programs share that take files and write bytes: the words given, a file's bytes, all bytes on standard output, one line on standard error.
 #![tactic(auto)]
 
-ghost use Rattle.std.specs.Prelude.{IfSome};
+ghost use Rattle.std.specs.Prelude.{List, ℕ, Some, IfSome, ◌≤◌, length};
+ghost use Rattle.std.specs.Fn.{FnOnceReturnsAt};
 ghost use Rattle.io.specs.Counts.{IsPrefixLen};
 
 use refusals::Refusal;
@@ -18,7 +19,7 @@ pub const STDOUT_FILENO: i32 = 1;
 pub const STDERR_FILENO: i32 = 2;
 
 // The system passes no argument of more bytes.
-pub const LONGEST_ARGUMENT: usize = 131072;
+const LONGEST_ARGUMENT: usize = 131072;
 
 // All of s on standard output, or one line on standard error that says that it cannot be written.
 pub fn written(s: &[u8]) -> bool {
@@ -45,12 +46,15 @@ pub fn say_refused(refusal: Refusal) {
 
 // ---- arguments
 
-// Argument i at the start of a lent buffer, and its length. Argument 0 is the program's name. One that isn't there, or that the buffer doesn't take, is
-// given as the empty word, length 0, and not as a `None`: it is understood as little as an empty one, so that each program would make the one of the other.
-pub fn argument(rt: &impl Env, i: usize, word: &mut [u8]) -> usize
-    ensures { IsPrefixLen result word.new }
+// What is made of argument i; argument 0 is the program's name. One that isn't there, or that is longer than the system passes, is given as the empty word,
+// and not as a `None`: it is understood as little as an empty one, so that each program would make the one of the other.
+pub fn with_argument<T, F: FnOnce(&[u8]) -> T>(rt: &impl Env, i: usize, make: F) -> T
+    requires callable { F.IsAlwaysCallable make }
+    ensures made { (word : List ℕ) × (length word ≤ 131072) × FnOnceReturnsAt F.FnOnce make word result }
 {
-    rt.arg(i, word).unwrap_or(0)
+    let mut word = [0u8; LONGEST_ARGUMENT];
+    let n = rt.arg(i, &mut word).unwrap_or(0);
+    make(&word[..n])
 }
 
 // Whether there is an argument i, even an empty one.
@@ -68,9 +72,37 @@ pub fn argument_count(rt: &impl Env) -> usize {
 
 // Argument i, which the program has no use for, as one line on standard error.
 pub fn say_surplus(rt: &impl Env, i: usize) {
-    let mut word = [0u8; LONGEST_ARGUMENT];
-    let n = argument(rt, i, &mut word);
-    say(b"argument not understood: ", &word[..n]);
+    with_argument(rt, i, |word| say(b"argument not understood: ", word));
+}
+
+// What is read of the one word that a program is given. None, and one line on standard error, where there is no word, where it is not understood, or where
+// another stands behind it.
+pub fn only_word<T: Copy, F: FnOnce(&[u8]) -> Option<T>>(
+    rt: &impl Env,
+    missing: &[u8],
+    unread: &[u8],
+    read: F,
+) -> Option<T>
+    requires callable { F.IsAlwaysCallable read }
+    ensures was_read { IfSome result (λ x. (word : List ℕ) × (length word ≤ 131072) × FnOnceReturnsAt F.FnOnce read word (Some x)) }
+{
+    let count = argument_count(rt);
+    if count < 2 {
+        say(missing, b"");
+        return None;
+    }
+    let found = with_argument(rt, 1, |word| {
+        let found = read(word);
+        if found.is_none() {
+            say(unread, word);
+        }
+        found
+    });
+    if found.is_some() && 2 < count {
+        say_surplus(rt, 2);
+        return None;
+    }
+    found
 }
 
 // ---- files

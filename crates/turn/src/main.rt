@@ -1,11 +1,7 @@
 // Turns a sheet on standard input into one of the other edition, on standard output: `turn bans`, `turn gaps`.
 #![tactic(auto)]
 
-use std::rt::Env;
-use tool::{
-    LONGEST_ARGUMENT, STDIN_FILENO, argument, argument_count, say, say_refused, say_surplus,
-    written,
-};
+use tool::{STDIN_FILENO, only_word, say_refused, written};
 use turning::{to_bans, to_gaps};
 
 // Which sheet is asked for: a ban sheet, or a gap sheet.
@@ -15,6 +11,7 @@ enum Command {
     Gaps,
 }
 
+// `scribe` has the same for its own words: a table of words that both share would be no plainer than the `match`.
 fn command_of(word: &[u8]) -> Option<Command> {
     match word {
         b"bans" => Some(Command::Bans),
@@ -40,23 +37,15 @@ fn turn(command: Command) {
     }
 }
 
-// The command, if it is one and no word stands behind it. Nothing is read before that is clear.
-fn follow(rt: &impl Env, word: &[u8]) {
-    let Some(command) = command_of(word) else {
-        return say(b"command not understood: ", word);
-    };
-    if 2 < argument_count(rt) {
-        say_surplus(rt, 2);
-    } else {
+// Nothing is read before it is clear that the command is one, and that no word stands behind it.
+fn main(rt: HostRuntime) {
+    let command = only_word(
+        &rt,
+        b"no command given: turn bans, or turn gaps",
+        b"command not understood: ",
+        command_of,
+    );
+    if let Some(command) = command {
         turn(command);
     }
-}
-
-fn main(rt: HostRuntime) {
-    if argument_count(&rt) < 2 {
-        return say(b"no command given: turn bans, or turn gaps", b"");
-    }
-    let mut word = [0u8; LONGEST_ARGUMENT];
-    let n = argument(&rt, 1, &mut word);
-    follow(&rt, &word[..n]);
 }

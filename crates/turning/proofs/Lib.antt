@@ -1,3 +1,4 @@
+mod Filling
 mod Runs
 mod Marks
 mod Words

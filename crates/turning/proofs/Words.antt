@@ -2,7 +2,6 @@
 -- A ban between owned slots is a bit of their word; sets of gaps that agree on owned slots are the same.
 use Prim.Native.Nat.{ℕ, suc, pred, ◌-◌, ◌^◌, ◌≤◌, ◌<◌}
 use mathlib.Core.Path.{◌≡◌, sym, ap, fun_ext, ◌∙◌}
-use mathlib.Core.Logic.{◌≢◌}
 use mathlib.Core.Bool.{Bool, true, not, cond, ◌&&◌}
 use mathlib.Core.List.{[], ◌∷◌}
 use native.Mathlib.Omega.{arith}
@@ -20,13 +19,14 @@ use Rattle.base.proofs.Bits.{bit-of-zero, bit-and, bit_not}
 use Rattle.problem.specs.Problem.{Problem, max_agents, max_domain, domain, bit_at, word_at, is_pair, banned, in_range}
 use Rattle.problem.proofs.Range.{Ranged, ranged, domain-small}
 use Rattle.sheet.specs.Abstract.{problem_of}
-use Rattle.sheet.specs.declared.Problem.{Problem as Sheet}
 use Rattle.turn_rules.specs.Bans.{pair_row, bans_with, bans_of}
 use Rattle.turn_rules.specs.Gaps.{gap_places, has_gap, banned_gap, free_gap, mixed_gap, runs_of}
 use Rattle.turn_theorems.proofs.Sayable.{has, to-has}
 use Rattle.turning.specs.Rows.{pair_in, pairs_with, pairs_of, Marked}
 use Rattle.turning.specs.Pairs.{Means, in_word, word_sayable, word_rows, rows_of}
 use Rattle.turning.specs.declared.pair.Pair.{Pair}
+use Rattle.sheet.specs.declared.Problem.{Problem as Sheet}
+use Rattle.turning.specs.declared.accepted.Accepted.{Accepted}
 
 -- ---- sets of gaps
 
@@ -72,9 +72,9 @@ module _ (edition i j d e word : ℕ) where
   unfolding word_rows
   rows-of-bans q = rw (eq-eqb edition 1 q)
 
-  pub rows-of-gaps : edition ≢ 1 → (gaps : ℕ) → Marked 0 gaps (has_gap d e (in_word word)) → word_rows edition i j d e word ≡ runs_of i j (bit gaps)
+  pub rows-of-gaps : edition ≡ 2 → (gaps : ℕ) → Marked 0 gaps (has_gap d e (in_word word)) → word_rows edition i j d e word ≡ runs_of i j (bit gaps)
   unfolding word_rows
-  rows-of-gaps n gaps m = rw (ne_eqb edition 1 n) (ap (runs_of i j) (sym (fun_ext (marked-bit gaps _ m))))
+  rows-of-gaps q gaps m = rw (ne_eqb edition 1 (λ (e : edition ≡ 1). omega arith)) (ap (runs_of i j) (sym (fun_ext (marked-bit gaps _ m))))
 
 -- ---- the word with all bits turned round
 
@@ -134,12 +134,12 @@ module _ (p : Problem) (r : Ranged p) (i j : ℕ) (l : 1 ≤ i) (o : i < j) (u :
   unfolding word_sayable gap_places mixed_gap
   sayable-same = all_to-same 15 _ _ (λ k a b. rw (gaps-same, frees-same (pred k)))
 
-  -- as the code has them
-  module _ (q : Pair) (m : Means p i j q) where
-    pub pair-rows : (edition : ℕ) → word_rows edition q.lower q.higher q.slots q.others q.word ≡ rows_of edition p i j
-    unfolding word
-    pair-rows edition = rw (m.lower, m.higher, m.slots, m.others, m.word) (rows_same edition)
+-- as the code has them
+module _ (a : Accepted) (i j : ℕ) (l : 1 ≤ i) (o : i < j) (u : j ≤ a.problem.count) (q : Pair) (m : Means (problem_of a.problem) i j q) where
+  pub pair-rows : (edition : ℕ) → word_rows edition q.lower q.higher q.slots q.others q.word ≡ rows_of edition (problem_of a.problem) i j
+  unfolding problem_of word
+  pair-rows edition = rw (m.lower, m.higher, m.slots, m.others, m.word) (rows_same (problem_of a.problem) (ranged _ a.good) i j l o u edition)
 
-    pub pair-sayable : word_sayable q.slots q.others q.word ≡ all_to gap_places (λ k. not (mixed_gap p i j (pred k)))
-    unfolding word
-    pair-sayable = rw (m.slots, m.others, m.word) sayable-same
+  pub pair-sayable : word_sayable q.slots q.others q.word ≡ unmixed (problem_of a.problem) j i
+  unfolding problem_of word
+  pair-sayable = rw (m.slots, m.others, m.word) (sayable-same (problem_of a.problem) (ranged _ a.good) i j l o u)

@@ -1,11 +1,15 @@
 -- What the code's parts say of one word of the table: its pairs of slots, the runs of its gaps, and its gaps as bits.
-use Rattle.std.specs.Prelude.{ℕ, ◌^◌, ◌<◌, ◌≡◌, Bool, cond, ◌&&◌, ◌||◌, List, [], ◌∷◌, eqb}
+use Rattle.std.specs.Prelude.{ℕ, ◌+◌, ◌^◌, ◌≤◌, ◌<◌, ◌≡◌, Bool, cond, ◌&&◌, ◌||◌, List, [], ◌∷◌, length, eqb}
 use Rattle.base.specs.Finite.{gather}
 use Rattle.base.specs.Bits.{bit}
 use Rattle.problem.specs.Problem.{bit_at}
 use Rattle.problem.specs.Row.{Row}
 use Rattle.turn_rules.specs.Bans.{pair_row}
 use Rattle.turn_rules.specs.Gaps.{place_of, some_to, begins, run_row}
+
+-- there is room for these behind those that are there. No sheet has more than 4,224 records
+abbrev pub Room : List Row → List Row → Type 0
+Room rows more = length rows + length more ≤ 4224
 
 -- the pair of values v and w, if the word has it
 unfoldable pub pair_in : ℕ → ℕ → ℕ → ℕ → ℕ → List Row

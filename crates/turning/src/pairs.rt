@@ -1,32 +1,66 @@
-// Two agents of a problem: what the table and the slot counts say of them.
-ghost use Rattle.std.specs.Prelude.{◌≡◌, true, ◌≤◌, ◌<◌};
-ghost use Rattle.problem.specs.Problem.{in_range};
-ghost use Rattle.sheet.specs.Abstract.{problem_of};
-ghost use Rattle.turning.specs.Pairs.{Means, word_sayable};
+// What the word of two agents says.
+ghost use Rattle.std.specs.Prelude.{◌≡◌, ◌&&◌, ◌≤◌, eqb};
+ghost use Rattle.base.specs.Bits.{bit};
+ghost use Rattle.problem.specs.Problem.{bit_at};
+ghost use Rattle.turn_rules.specs.Gaps.{place_of, has_gap};
+ghost use Rattle.turning.specs.Rows.{Marked, gap_with};
+ghost use Rattle.turning.specs.Pairs.{word_sayable};
 
-use crate::gaps::gaps_of;
+use crate::bits::has;
+use crate::gaps::Gaps;
 use crate::pair::Pair;
-use sheet::Problem;
-use sheet_parts::index::word_at;
 
-pub fn pair_at(p: &Problem, i: u8, j: u8) -> Pair
-    requires { (in_range (problem_of p.now) ≡ true) × (1 ≤ i) × (i < j) × (j ≤ p.now.count) }
-    ensures { Means (problem_of p.now) i j result }
-{
-    Pair {
-        lower: i,
-        higher: j,
-        slots: p.domains[i as usize - 1],
-        others: p.domains[j as usize - 1],
-        word: p.bans[word_at(i as usize, j as usize)],
+impl Pair {
+    // The lower's value v is banned with the higher's value w.
+    #[tactic(auto, unfolding(problem::specs::Problem::bit_at))]
+    pub fn bans(self, v: u8, w: u8) -> bool
+        requires { (1 ≤ v) × (v ≤ 8) × (1 ≤ w) × (w ≤ 8) }
+        ensures { result ≡ bit self.word (bit_at v w) }
+    {
+        has(self.word, 8 * (v - 1) + (w - 1))
     }
-}
 
-// No gap is both that of a pair of slots that is banned and that of one that is free.
-pub fn pair_sayable(q: Pair) -> bool
-    ensures { result ≡ word_sayable q.slots q.others q.word }
-{
-    let banned = gaps_of(q.slots, q.others, q.word);
-    let free = gaps_of(q.slots, q.others, !q.word);
-    banned & free == 0
+    // With the gap of these two values, if the word has the pair.
+    fn with_gap(self, gaps: Gaps, v: u8, w: u8) -> Gaps
+        requires { (1 ≤ v) × (v ≤ 8) × (1 ≤ w) × (w ≤ 8) }
+        ensures { Marked gaps.bits result.bits (λ k. eqb (place_of v w) k && bit self.word (bit_at v w)) }
+    {
+        if !self.bans(v, w) {
+            return gaps;
+        }
+        Gaps {
+            bits: gaps.bits | 1 << (w + 7 - v),
+        }
+    }
+
+    // With the gaps of the pairs that the word has of the lower's value v.
+    fn gaps_with(self, mut gaps: Gaps, v: u8) -> Gaps
+        requires { (1 ≤ v) × (v ≤ 8) }
+        ensures { Marked gaps.bits result.bits (gap_with self.others self.word v) }
+    {
+        for w in 1..=self.others {
+            gaps = self.with_gap(gaps, v, w);
+        }
+        gaps
+    }
+
+    // The gaps of the pairs that the word has.
+    pub fn gaps(self) -> Gaps
+        ensures { Marked 0 result.bits (has_gap self.slots self.others (λ v w. bit self.word (bit_at v w))) }
+    {
+        let mut gaps = Gaps::none();
+        for v in 1..=self.slots {
+            gaps = self.gaps_with(gaps, v);
+        }
+        gaps
+    }
+
+    // No gap is both that of a pair of slots that is banned and that of one that is free.
+    pub fn is_sayable(self) -> bool
+        ensures { result ≡ word_sayable self.slots self.others self.word }
+    {
+        let mut free = self;
+        free.word = !self.word;
+        self.gaps().bits & free.gaps().bits == 0
+    }
 }

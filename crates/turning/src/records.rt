@@ -1,58 +1,51 @@
 // The records of a sheet, two agents after two agents.
-ghost use Rattle.std.specs.Prelude.{◌≡◌, true, suc, ◌-◌, ◌≤◌, ◌<◌};
+ghost use Rattle.std.specs.Prelude.{◌≡◌, ◌++◌, suc, ◌-◌, ◌≤◌, [], length};
 ghost use Rattle.base.specs.Finite.{gather};
-ghost use Rattle.problem.specs.Problem.{in_range};
+ghost use Rattle.base.specs.Lent.{put};
+ghost use Rattle.problem.specs.Writing.{written};
 ghost use Rattle.sheet.specs.Abstract.{problem_of};
-ghost use Rattle.sheet_writer.specs.Rows.{Filled, Room};
-ghost use Rattle.turning.specs.Pairs.{word_rows, rows_of, all_rows};
+ghost use Rattle.lent.specs.Abstract.{written_of};
+ghost use Rattle.turning.specs.Rows.{Room};
+ghost use Rattle.turning.specs.Pairs.{rows_of, all_rows};
+ghost use Rattle.sheet_writer.specs.Editions.{number_of};
 
-use crate::gaps::gaps_of;
-use crate::pair::Pair;
-use crate::pairs::pair_at;
-use crate::rows::{pairs_of, runs_of};
-use sheet::Problem;
+use crate::accepted::Accepted;
+use refusals::Refusal;
+use sheet_writer::{Edition, Rows, put_sheet};
 
-// The records of this edition, of two agents.
-fn pair_records(rows: &mut [u32], at: usize, edition: u8, q: Pair) -> usize
-    requires { Room rows.old at (word_rows edition q.lower q.higher q.slots q.others q.word) }
-    ensures { Filled rows.old at rows.new result
-        (word_rows edition q.lower q.higher q.slots q.others q.word) }
-{
-    if edition == 1 {
-        pairs_of(rows, at, q)
-    } else {
-        runs_of(
-            rows,
-            at,
-            q.lower,
-            q.higher,
-            gaps_of(q.slots, q.others, q.word),
-        )
+impl Accepted {
+    // Of agent i with each agent below it.
+    fn put_below(&self, rows: &mut Rows<4224>, edition: Edition, i: u8)
+        requires { (1 ≤ i) × (i ≤ self.now.problem.count)
+            × Room rows.old (gather (self.now.problem.count - i) (suc i) (rows_of (number_of edition) (problem_of self.now.problem) i)) }
+        ensures { rows.new
+            ≡ rows.old
+            ++ gather (self.now.problem.count - i) (suc i) (rows_of (number_of edition) (problem_of self.now.problem) i) }
+    {
+        for j in i + 1..=self.problem.count {
+            self.pair(i, j).put_rows(rows, edition);
+        }
     }
-}
 
-// Of agent i with each agent below it.
-fn records_below(rows: &mut [u32], at: usize, edition: u8, p: &Problem, i: u8) -> usize
-    requires { (in_range (problem_of p.now) ≡ true) × (1 ≤ i) × (i ≤ p.now.count)
-        × Room rows.old at (gather (p.now.count - i) (suc i) (rows_of edition (problem_of p.now) i)) }
-    ensures { Filled rows.old at rows.new result
-        (gather (p.now.count - i) (suc i) (rows_of edition (problem_of p.now) i)) }
-{
-    let mut count = at;
-    for j in i + 1..=p.count {
-        count = pair_records(rows, count, edition, pair_at(p, i, j));
+    // Of all agents. No sheet has more than 4,224 records.
+    fn rows(&self, edition: Edition) -> Rows<4224>
+        requires { length (all_rows (number_of edition) (problem_of self.now.problem)) ≤ 4224 }
+        ensures { result ≡ all_rows (number_of edition) (problem_of self.now.problem) }
+    {
+        let mut rows = Rows::new();
+        for i in 1..=self.problem.count {
+            self.put_below(&mut rows, edition, i);
+        }
+        rows
     }
-    count
-}
 
-// Of all agents.
-pub fn records(rows: &mut [u32], edition: u8, p: &Problem) -> usize
-    requires { (in_range (problem_of p.now) ≡ true) × Room rows.old 0 (all_rows edition (problem_of p.now)) }
-    ensures { Filled rows.old 0 rows.new result (all_rows edition (problem_of p.now)) }
-{
-    let mut count = 0;
-    for i in 1..=p.count {
-        count = records_below(rows, count, edition, p, i);
+    // The sheet of this edition that says the problem, where there is room.
+    pub fn put_sheet(&self, out: &mut [u8], edition: Edition) -> Result<usize, Refusal>
+        requires { length (all_rows (number_of edition) (problem_of self.now.problem)) ≤ 4224 }
+        ensures { written_of result out.new
+            ≡ put (written (number_of edition) (problem_of self.now.problem) (all_rows (number_of edition) (problem_of self.now.problem))) out.old }
+    {
+        let rows = self.rows(edition);
+        put_sheet(out, edition.number(), self.problem, rows.as_slice())
     }
-    count
 }

@@ -1,73 +1,89 @@
-// The records of a sheet, each packed in one number, one behind the other in a lent array.
-ghost use Rattle.std.specs.Prelude.{◌≤◌, ◌<◌};
+// The records of two agents, put behind those that are there.
+ghost use Rattle.std.specs.Prelude.{◌≡◌, ◌++◌, ◌≤◌, ◌<◌};
 ghost use Rattle.base.specs.Bits.{bit};
 ghost use Rattle.turn_rules.specs.Gaps.{runs_of};
-ghost use Rattle.sheet_writer.specs.Rows.{Filled, Room};
-ghost use Rattle.turning.specs.Rows.{pair_in, pairs_with, pairs_of, run_in};
+ghost use Rattle.sheet_writer.specs.Rows.{row_of};
+ghost use Rattle.turning.specs.Rows.{Room, pair_in, pairs_with, pairs_of, run_in};
+ghost use Rattle.turning.specs.Pairs.{word_rows};
+ghost use Rattle.sheet_writer.specs.Editions.{number_of};
 
-use crate::bits::bans;
-use crate::gaps::{begins, gap_byte, last_of};
+use crate::gaps::{Gaps, gap_byte};
 use crate::pair::Pair;
-use sheet_writer::pack;
+use sheet_writer::{Edition, Row, Rows};
 
-// Behind the first `at` rows, the lower's value v with the higher's value w, if the word has that pair.
-fn with_pair(rows: &mut [u32], at: usize, q: Pair, v: u8, w: u8) -> usize
-    requires { (1 ≤ v) × (v ≤ 8) × (1 ≤ w) × (w ≤ 8) × Room rows.old at (pair_in q.lower q.higher q.word v w) }
-    ensures { Filled rows.old at rows.new result (pair_in q.lower q.higher q.word v w) }
-{
-    if bans(q.word, v, w) {
-        rows[at] = pack(q.lower, q.higher, v, w);
-        at + 1
-    } else {
-        at
+impl Pair {
+    // A record of the two.
+    fn row(self, low: u8, high: u8) -> Row
+        ensures { row_of result ≡ record { lower = self.lower; higher = self.higher; low = low; high = high } }
+    {
+        let Pair { lower, higher, .. } = self;
+        Row {
+            lower,
+            higher,
+            low,
+            high,
+        }
     }
-}
 
-// The pairs that the word has of the lower's value v.
-fn pairs_with(rows: &mut [u32], at: usize, q: Pair, v: u8) -> usize
-    requires { (1 ≤ v) × (v ≤ 8) × Room rows.old at (pairs_with q.lower q.higher q.others q.word v) }
-    ensures { Filled rows.old at rows.new result (pairs_with q.lower q.higher q.others q.word v) }
-{
-    let mut count = at;
-    for w in 1..=q.others {
-        count = with_pair(rows, count, q, v, w);
+    // The lower's value v with the higher's value w, if the word has that pair.
+    fn put_pair(self, rows: &mut Rows<4224>, v: u8, w: u8)
+        requires { (1 ≤ v) × (v ≤ 8) × (1 ≤ w) × (w ≤ 8) × Room rows.old (pair_in self.lower self.higher self.word v w) }
+        ensures { rows.new ≡ rows.old ++ pair_in self.lower self.higher self.word v w }
+    {
+        if self.bans(v, w) {
+            rows.push(self.row(v, w));
+        }
     }
-    count
-}
 
-// All pairs that the word has.
-pub fn pairs_of(rows: &mut [u32], at: usize, q: Pair) -> usize
-    requires { Room rows.old at (pairs_of q.lower q.higher q.slots q.others q.word) }
-    ensures { Filled rows.old at rows.new result (pairs_of q.lower q.higher q.slots q.others q.word) }
-{
-    let mut count = at;
-    for v in 1..=q.slots {
-        count = pairs_with(rows, count, q, v);
+    // The pairs that the word has of the lower's value v.
+    fn put_pairs_with(self, rows: &mut Rows<4224>, v: u8)
+        requires { (1 ≤ v) × (v ≤ 8) × Room rows.old (pairs_with self.lower self.higher self.others self.word v) }
+        ensures { rows.new ≡ rows.old ++ pairs_with self.lower self.higher self.others self.word v }
+    {
+        for w in 1..=self.others {
+            self.put_pair(rows, v, w);
+        }
     }
-    count
-}
 
-// The run that begins at place k, if one does.
-fn with_run(rows: &mut [u32], at: usize, i: u8, j: u8, gaps: u64, k: u8) -> usize
-    requires { (k < 15) × Room rows.old at (run_in i j (bit gaps) k) }
-    ensures { Filled rows.old at rows.new result (run_in i j (bit gaps) k) }
-{
-    if begins(gaps, k) {
-        rows[at] = pack(i, j, gap_byte(k), gap_byte(last_of(gaps, k)));
-        at + 1
-    } else {
-        at
+    // All pairs that the word has.
+    fn put_pairs(self, rows: &mut Rows<4224>)
+        requires { Room rows.old (pairs_of self.lower self.higher self.slots self.others self.word) }
+        ensures { rows.new ≡ rows.old ++ pairs_of self.lower self.higher self.slots self.others self.word }
+    {
+        for v in 1..=self.slots {
+            self.put_pairs_with(rows, v);
+        }
     }
-}
 
-// The runs of these gaps.
-pub fn runs_of(rows: &mut [u32], at: usize, i: u8, j: u8, gaps: u64) -> usize
-    requires { Room rows.old at (runs_of i j (bit gaps)) }
-    ensures { Filled rows.old at rows.new result (runs_of i j (bit gaps)) }
-{
-    let mut count = at;
-    for k in 0..15 {
-        count = with_run(rows, count, i, j, gaps, k);
+    // The run that begins at place k, if one does.
+    fn put_run(self, rows: &mut Rows<4224>, gaps: Gaps, k: u8)
+        requires { (k < 15) × Room rows.old (run_in self.lower self.higher (bit gaps.bits) k) }
+        ensures { rows.new ≡ rows.old ++ run_in self.lower self.higher (bit gaps.bits) k }
+    {
+        if gaps.begins(k) {
+            rows.push(self.row(gap_byte(k), gap_byte(gaps.last_of(k))));
+        }
     }
-    count
+
+    // The runs of these gaps.
+    fn put_runs(self, rows: &mut Rows<4224>, gaps: Gaps)
+        requires { Room rows.old (runs_of self.lower self.higher (bit gaps.bits)) }
+        ensures { rows.new ≡ rows.old ++ runs_of self.lower self.higher (bit gaps.bits) }
+    {
+        for k in 0..15 {
+            self.put_run(rows, gaps, k);
+        }
+    }
+
+    // The records of this edition.
+    pub fn put_rows(self, rows: &mut Rows<4224>, edition: Edition)
+        requires { Room rows.old (word_rows (number_of edition) self.lower self.higher self.slots self.others self.word) }
+        ensures { rows.new
+            ≡ rows.old ++ word_rows (number_of edition) self.lower self.higher self.slots self.others self.word }
+    {
+        match edition {
+            Edition::Bans => self.put_pairs(rows),
+            Edition::Gaps => self.put_runs(rows, self.gaps()),
+        }
+    }
 }

@@ -1,34 +1,52 @@
 // Whether a table is sayable in gaps.
-ghost use Rattle.std.specs.Prelude.{◌≡◌, true, not, pred, ◌≤◌, ◌<◌};
+ghost use Rattle.std.specs.Prelude.{◌≡◌, not, pred, ◌≤◌, ◌<◌};
 ghost use Rattle.base.specs.Finite.{all_to};
-ghost use Rattle.problem.specs.Problem.{in_range};
 ghost use Rattle.sheet.specs.Abstract.{problem_of};
 ghost use Rattle.turn_rules.specs.Gaps.{gap_places, mixed_gap, sayable};
+ghost use Rattle.turning.specs.Pairs.{Means};
 
-use crate::pairs::{pair_at, pair_sayable};
-use sheet::Problem;
+use crate::accepted::Accepted;
+use crate::pair::Pair;
+use sheet_parts::index::word_at;
 
-// Agent j with each agent above it.
-fn sayable_with(p: &Problem, j: u8) -> bool
-    requires { (in_range (problem_of p.now) ≡ true) × (1 ≤ j) × (j ≤ p.now.count) }
-    ensures { result ≡ all_to (pred j) (λ i. all_to gap_places (λ k. not (mixed_gap (problem_of p.now) i j (pred k)))) }
-{
-    for i in 1..j {
-        if !pair_sayable(pair_at(p, i, j)) {
-            return false;
+impl Accepted {
+    // What the table and the slot counts say of agents i and j.
+    pub fn pair(&self, i: u8, j: u8) -> Pair
+        requires { (1 ≤ i) × (i < j) × (j ≤ self.now.problem.count) }
+        ensures { Means (problem_of self.now.problem) i j result }
+    {
+        let p = &self.problem;
+        Pair {
+            lower: i,
+            higher: j,
+            slots: p.domains[i as usize - 1],
+            others: p.domains[j as usize - 1],
+            word: p.bans[word_at(i as usize, j as usize)],
         }
     }
-    true
-}
 
-pub fn sayable(p: &Problem) -> bool
-    requires { in_range (problem_of p.now) ≡ true }
-    ensures { result ≡ sayable (problem_of p.now) }
-{
-    for j in 1..=p.count {
-        if !sayable_with(p, j) {
-            return false;
+    // Agent j with each agent above it.
+    fn is_sayable_with(&self, j: u8) -> bool
+        requires { (1 ≤ j) × (j ≤ self.now.problem.count) }
+        ensures { result
+            ≡ all_to (pred j) (λ i. all_to gap_places (λ k. not (mixed_gap (problem_of self.now.problem) i j (pred k)))) }
+    {
+        for i in 1..j {
+            if !self.pair(i, j).is_sayable() {
+                return false;
+            }
         }
+        true
     }
-    true
+
+    pub fn is_sayable(&self) -> bool
+        ensures { result ≡ sayable (problem_of self.now.problem) }
+    {
+        for j in 1..=self.problem.count {
+            if !self.is_sayable_with(j) {
+                return false;
+            }
+        }
+        true
+    }
 }

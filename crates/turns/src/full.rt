@@ -1,6 +1,6 @@
 // The gap sheet of twelve scanners with eight slots each that bans every gap between any two.
 
-// It is built up record by record: 66 of eight bytes behind the header.
+// It is built up record by record: 66 of eight bytes behind the header, whose places are fixed; each names the next by its number, so that is counted.
 #[derive(Clone, Copy)]
 struct Full {
     bytes: [u8; 552],

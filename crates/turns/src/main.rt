@@ -10,11 +10,11 @@ mod comparing;
 mod full;
 mod tallies;
 
-use comparing::{alike, unmixed};
+use comparing::{Said, unmixed};
 use full::all_gaps;
 use little_sheet::little;
 use oracle::buffers::{MARK, untouched};
-use oracle::reading::{byte, fault};
+use oracle::reading::{Sheet, byte};
 use random_rails::drafts::drawn;
 use random_rails::draws::next;
 use refusals::Refusal;
@@ -24,26 +24,48 @@ use turning::{to_bans, to_gaps};
 // The longest sheet has so many bytes.
 const LONGEST: usize = 33816;
 
+// ---- turning
+
+// `sheet_writer::Edition` has the same two; what is read here is a second reading, which stands on nothing of the first.
+#[derive(Clone, Copy)]
+enum Edition {
+    Bans,
+    Gaps,
+}
+
+impl Edition {
+    // Bans, where a sheet has neither.
+    fn of(s: &[u8]) -> Edition {
+        if (Sheet { bytes: s }).of_gaps() {
+            Edition::Gaps
+        } else {
+            Edition::Bans
+        }
+    }
+
+    fn other(self) -> Edition {
+        match self {
+            Edition::Bans => Edition::Gaps,
+            Edition::Gaps => Edition::Bans,
+        }
+    }
+}
+
+// `image_mover::store_as` chooses by a form likewise: what the two share is a `match` of two arms.
+fn into(edition: Edition, s: &[u8], out: &mut [u8]) -> Result<usize, Refusal>
+    ensures { InBuffer result out.new }
+{
+    match edition {
+        Edition::Bans => to_bans(s, out),
+        Edition::Gaps => to_gaps(s, out),
+    }
+}
+
 // Into the edition that s does not have, or into gaps where it has neither.
 fn turn(s: &[u8], out: &mut [u8]) -> Result<usize, Refusal>
     ensures { InBuffer result out.new }
 {
-    if byte(s, 1) == 2 {
-        to_bans(s, out)
-    } else {
-        to_gaps(s, out)
-    }
-}
-
-// Into the edition that it has.
-fn turn_wrongly(s: &[u8], out: &mut [u8]) -> Result<usize, Refusal>
-    ensures { InBuffer result out.new }
-{
-    if byte(s, 1) == 2 {
-        to_gaps(s, out)
-    } else {
-        to_bans(s, out)
-    }
+    into(Edition::of(s).other(), s, out)
 }
 
 // ---- what was written
@@ -57,56 +79,66 @@ fn gives(s: &[u8], t: &[u8]) -> bool {
     }
 }
 
+// It is a good sheet, and says the same as the other one.
+fn says_again(sheet: Sheet, other: Sheet) -> bool {
+    sheet.fault().is_none() && Said::of(sheet) == Said::of(other)
+}
+
 // The sheet t turned back says the same, and forth again is t.
 fn comes_back(t: &[u8]) -> bool {
     let mut buffer = [MARK; LONGEST];
     match turn(t, &mut buffer) {
         Ok(n) => {
             let u = &buffer[..n];
-            fault(u) == 0 && alike(t, u) && gives(u, t)
+            says_again(Sheet { bytes: u }, Sheet { bytes: t }) && gives(u, t)
         }
         Err(_) => false,
     }
 }
 
-// Turning s into one byte less than n is refused with 12.
+// Turning s into one byte less than n is refused: the buffer is short.
 fn short_refused(s: &[u8], n: usize) -> bool {
-    0 < n && is_refused(s, n - 1, Refusal::ShortBuffer.number())
+    0 < n && refused(s, n - 1) == Some(Refusal::ShortBuffer)
 }
 
 // s was turned into t.
 fn is_right(s: &[u8], t: &[u8]) -> bool {
-    fault(t) == 0
-        && byte(s, 1) + byte(t, 1) == 3
-        && alike(s, t)
+    says_again(Sheet { bytes: t }, Sheet { bytes: s })
+        && usize::from(byte(s, 1)) + usize::from(byte(t, 1)) == 3
         && comes_back(t)
         && short_refused(s, t.len())
 }
 
 // ---- what was refused
 
-// This is a refusal with this number, and the buffer is as it was.
-fn is_left(turned: Result<usize, Refusal>, out: &[u8], number: u8) -> bool {
-    matches!(turned, Err(refusal) if refusal.number() == number) && untouched(out, 0)
+// The refusal, where the buffer is as it was.
+fn left(turned: Result<usize, Refusal>, out: &[u8]) -> Option<Refusal> {
+    match turned {
+        Err(refusal) if untouched(out, 0) => Some(refusal),
+        _ => None,
+    }
 }
 
-// Turning s is refused with this number, in a buffer of n bytes.
-fn is_refused(s: &[u8], n: usize, number: u8) -> bool {
+// Why turning s is refused, in a buffer of n bytes.
+fn refused(s: &[u8], n: usize) -> Option<Refusal> {
     let mut buffer = [MARK; LONGEST];
     if LONGEST < n {
-        return false;
+        return None;
     }
     let out = &mut buffer[..n];
-    is_left(turn(s, out), out, number)
+    left(turn(s, out), out)
 }
 
 // It is not sayable in gaps, and that comes before a short buffer.
 fn is_mixed(s: &[u8]) -> bool {
-    let number = Refusal::NotSayable.number();
-    byte(s, 1) == 1 && !unmixed(s) && is_refused(s, LONGEST, number) && is_refused(s, 0, number)
+    let refusal = Some(Refusal::NotSayable);
+    byte(s, 1) == 1
+        && !unmixed(Sheet { bytes: s })
+        && refused(s, LONGEST) == refusal
+        && refused(s, 0) == refusal
 }
 
-// Turning s into its own edition is refused with 2, behind a length under 24.
+// Turning s into its own edition is refused for its header, behind a length under 24.
 fn own_refused(s: &[u8]) -> bool {
     let mut buffer = [MARK; LONGEST];
     let refusal = if s.len() < 24 {
@@ -114,7 +146,7 @@ fn own_refused(s: &[u8]) -> bool {
     } else {
         Refusal::BadHeader
     };
-    is_left(turn_wrongly(s, &mut buffer), &buffer, refusal.number())
+    left(into(Edition::of(s), s, &mut buffer), &buffer) == Some(refusal)
 }
 
 // ---- sheets tried
@@ -130,7 +162,7 @@ fn with_little(tally: Tally, ordinal: u64) -> Tally {
     match turn(s, &mut buffer) {
         Ok(n) => {
             let u = &buffer[..n];
-            let right = unmixed(s) && is_right(s, u) && gives(u, s);
+            let right = unmixed(Sheet { bytes: s }) && is_right(s, u) && gives(u, s);
             tally.judged(Kind::LittleGaps, right, b"little, turned", ordinal)
         }
         Err(Refusal::NotSayable) => {
@@ -143,14 +175,13 @@ fn with_little(tally: Tally, ordinal: u64) -> Tally {
 // A sheet that is good.
 fn with_good(tally: Tally, s: &[u8], tried: u64) -> Tally {
     let mut buffer = [MARK; LONGEST];
-    let kind = if byte(s, 1) == 2 {
-        Kind::Bans
-    } else {
-        Kind::Gaps
+    let kind = match Edition::of(s) {
+        Edition::Bans => Kind::Gaps,
+        Edition::Gaps => Kind::Bans,
     };
     match turn(s, &mut buffer) {
         Ok(n) => {
-            let right = unmixed(s) && is_right(s, &buffer[..n]);
+            let right = unmixed(Sheet { bytes: s }) && is_right(s, &buffer[..n]);
             tally.judged(kind, right, b"random, turned", tried)
         }
         Err(Refusal::NotSayable) => {
@@ -164,19 +195,13 @@ fn with_sheet(tally: Tally, s: &[u8], tried: u64) -> Tally {
     if !own_refused(s) {
         return tally.judged(Kind::Refused, false, b"its own edition", tried);
     }
-    match fault(s) {
-        0 => with_good(tally, s, tried),
-        number => {
-            let right = is_refused(s, LONGEST, number);
+    match (Sheet { bytes: s }).fault() {
+        None => with_good(tally, s, tried),
+        Some(fault) => {
+            let right = matches!(refused(s, LONGEST), Some(r) if r.number() == fault.number());
             tally.judged(Kind::Refused, right, b"random, refused", tried)
         }
     }
-}
-
-fn with_drawn(tally: Tally, state: u64) -> Tally {
-    let d = drawn(state);
-    let bytes = d.bytes;
-    with_sheet(tally, bytes.get(..d.length).unwrap_or(&bytes), state)
 }
 
 // Every gap between twelve scanners: 4,224 records, the most there can be.
@@ -199,7 +224,7 @@ fn with_littles(mut tally: Tally) -> Tally {
 fn with_randoms(mut tally: Tally) -> Tally {
     let mut state = 2026;
     for _ in 0..10000 {
-        tally = with_drawn(tally, state);
+        tally = with_sheet(tally, drawn(state).sheet(), state);
         state = next(state);
     }
     tally

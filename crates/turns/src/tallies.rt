@@ -37,7 +37,8 @@ impl Tally {
         self
     }
 
-    // One of this kind; what is not right is printed, with the number of what was tried.
+    // One of this kind; what is not right is printed, with the number of what was tried. Each program that tries much has a tally of its own kinds; what they
+    // share is a line that is printed.
     pub fn judged(self, kind: Kind, right: bool, words: &[u8], tried: u64) -> Tally {
         let tally = self.with_one(kind);
         if right {

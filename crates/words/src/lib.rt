@@ -11,7 +11,7 @@ pub mod printing;
 use engine::Ending;
 use lent::cursor::Cursor;
 
-// The word for how a run ended, at most six letters; none where it was rejected.
+// The word for how a run ended, at most six letters; none where it was rejected: an empty word, and no `None`, as `ending_word` of the definition has it.
 #[tactic(auto, unfolding(protocol::specs::Run::ending_word, engine::specs::Answers::ending_of))]
 pub fn word_for(e: Ending) -> &'static [u8]
     ensures word { result.now ≡ ending_word (ending_of e) }

@@ -7,7 +7,8 @@ use engine::Ending;
 use tool::written;
 
 // Standard output, and whether something could not be written there. It is handed on from part to part, so that a line reads as it is printed. A `Result`
-// from each part would be no plainer: a `?` behind each word of a line, and one more from each function that prints.
+// from each part would be no plainer: a `?` behind each word of a line, and one more from each function that prints. Each part promises of its own
+// that an output that has failed stays failed (`StaysFailed`): no field can say so, since it is said of two outputs.
 #[derive(Clone, Copy)]
 pub struct Out {
     pub failed: bool,
@@ -29,6 +30,7 @@ impl Out {
         }
     }
 
+    // `text::append_number` puts it in a buffer, which is no output: what both have is `io::decimal`.
     pub fn number(self, n: u64) -> Out
         ensures { StaysFailed self result }
     {

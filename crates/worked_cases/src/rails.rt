@@ -4,102 +4,103 @@ ghost use Rattle.std.specs.Prelude.{◌≡◌, true, ◌<◌};
 ghost use Rattle.network.specs.Abstract.{is_channel};
 
 use agent::{Agent, Message};
-use clauses::places::{channel_at, place_at};
-use network::Network;
+use clauses::places::{channel_at, ends_of, is_line, place_at};
+use network::{Network, Place};
 use packed::digit;
 
-// The stored reasons are the same: of each value that has one.
-fn same_reasons(a: &Agent, b: &Agent) -> bool {
-    for k in 0..8_usize {
-        if (a.stored >> k) % 2 == 1 && a.nogoods[k] != b.nogoods[k] {
-            return false;
+// ---- a line of a rail
+
+// A line between two scanners.
+#[derive(Clone, Copy)]
+pub struct Channel {
+    from: u8,
+    to: u8,
+    ghost exists: { is_channel from to ≡ true },
+}
+
+impl Channel {
+    // None where there is no such line.
+    #[tactic(auto, unfolding(protocol::specs::Lines::is_channel, problem::specs::Problem::max_agents))]
+    pub fn between(from: u8, to: u8) -> Option<Channel> {
+        if is_line(12, from, to) {
+            Some(Channel { from, to })
+        } else {
+            None
         }
     }
-    true
-}
 
-// All of the record but the words where no reason is stored.
-fn same_agent(a: &Agent, b: &Agent) -> bool {
-    let with_the_same_words = Agent {
-        nogoods: a.nogoods,
-        ..*b
-    };
-    *a == with_the_same_words && same_reasons(a, b)
-}
-
-fn same_agents(a: &[Agent; 12], b: &[Agent; 12]) -> bool {
-    a.iter().zip(b).all(|(a, b)| same_agent(a, b))
-}
-
-// There is a line between scanners with these numbers.
-pub fn is_line(from: u8, to: u8) -> bool
-    ensures { result ≡ true → is_channel from to ≡ true }
-{
-    0 < from && from <= 12 && 0 < to && to <= 12 && from != to
-}
-
-// How many messages wait on a line.
-pub fn held(r: &Network, from: u8, to: u8) -> u8
-    requires { is_channel from to ≡ true }
-{
-    digit(r.counts[from as usize - 1], to)
-}
-
-// Message t of a line, from the head on.
-fn waiting(r: &Network, from: u8, to: u8, t: u8) -> Message
-    requires { (is_channel from to ≡ true) × (t < 8) }
-{
-    let head = digit(r.heads[from as usize - 1], to);
-    r.places[place_at(channel_at(from, to), head, t)].message
-}
-
-// A line holds as many messages on both rails, the same in the same order.
-fn same_line(a: &Network, b: &Network, from: u8, to: u8) -> bool
-    requires { is_channel from to ≡ true }
-{
-    let count = held(a, from, to);
-    if count != held(b, from, to) {
-        return false;
+    // How many messages wait on the line.
+    #[tactic(auto, using(clauses::proofs::Numbering::ends))]
+    pub fn held(self, r: &Network) -> u8 {
+        digit(r.counts[self.from as usize - 1], self.to)
     }
-    for t in 0..count.min(8) {
-        if waiting(a, from, to, t) != waiting(b, from, to, t) {
-            return false;
-        }
-    }
-    true
-}
 
-// All that waits on a line is news of this slot.
-pub fn all_news(r: &Network, from: u8, to: u8, slot: u8) -> bool
-    requires { is_channel from to ≡ true }
-{
-    for t in 0..held(r, from, to).min(8) {
-        if waiting(r, from, to, t) != Message::Info(slot) {
-            return false;
-        }
+    // The place of message t, from the head on, in a ring whose head stands there.
+    fn place(self, head: u8, t: u8) -> usize
+        requires { (head < 16) × (t < 8) }
+        ensures { result < 1056 }
+    {
+        place_at(channel_at(self.from, self.to), head, t)
     }
-    true
-}
 
-fn same_lines(a: &Network, b: &Network) -> bool {
-    for from in 1..=12 {
-        for to in 1..=12 {
-            if from != to && !same_line(a, b, from, to) {
+    // Message t, from the head on.
+    #[tactic(auto, using(clauses::proofs::Numbering::ends))]
+    fn waiting(self, r: &Network, t: u8) -> Message
+        requires { t < 8 }
+    {
+        let head = digit(r.heads[self.from as usize - 1], self.to);
+        r.places[self.place(head, t)].message
+    }
+
+    // All that waits on the line is this message.
+    pub fn holds_only(self, r: &Network, message: Message) -> bool {
+        for t in 0..self.held(r).min(8) {
+            if self.waiting(r, t) != message {
                 return false;
             }
         }
+        true
     }
-    true
 }
 
-// What was asked for, under which rule, and the bans.
-fn same_problem(a: &Network, b: &Network) -> bool {
-    a.count == b.count && a.rule == b.rule && a.domains == b.domains && a.bans == b.bans
+// ---- all of a rail
+
+// A scanner's record, with zeros for the words where no reason is stored.
+fn bare_agent(a: &Agent) -> Agent {
+    let mut bare = *a;
+    for (k, word) in bare.nogoods.iter_mut().enumerate() {
+        if (a.stored >> k) % 2 == 0 {
+            *word = 0;
+        }
+    }
+    bare
 }
 
+// The same rail, with what counts for nothing left out: the words where no reason is stored, and where in its ring a line's head stands. Each line's
+// messages stand from its first place on, and there is nothing beyond them. Rows of counts are as they stand.
+fn bare(r: &Network) -> Network {
+    let Network { heads, places, .. } = network::empty();
+    let mut bare = Network {
+        heads,
+        places,
+        ..*r
+    };
+    for (agent, of_r) in bare.agents.iter_mut().zip(&r.agents) {
+        *agent = bare_agent(of_r);
+    }
+    for channel in 0..132 {
+        let (from, to) = ends_of(channel);
+        let line = Channel { from, to };
+        for t in 0..line.held(r).min(8) {
+            bare.places[line.place(0, t)] = Place {
+                message: line.waiting(r, t),
+            };
+        }
+    }
+    bare
+}
+
+// The rails may differ in what counts for nothing, so they are not compared as they stand.
 pub fn same_rail(a: &Network, b: &Network) -> bool {
-    a.verdict == b.verdict
-        && same_problem(a, b)
-        && same_agents(&a.agents, &b.agents)
-        && same_lines(a, b)
+    bare(a) == bare(b)
 }

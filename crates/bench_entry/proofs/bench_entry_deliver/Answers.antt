@@ -4,7 +4,7 @@ use native.Mathlib.Omega.{arith}
 use native.Mathlib.Numerals.{add-one}
 use Rattle.protocol.specs.Network.{start_sheet}
 use Rattle.bench_entry.specs.Giving.{mixed, asked_to}
-use Rattle.bench_entry.proofs.Playing.{value-or, one-asked, all_asked}
+use Rattle.bench_entry.proofs.Playing.{value-or, number-given, one-asked, all_asked}
 use Rattle.bench_entry.proofs.bench_entry_deliver.Goals as goal
 
 pub loop-i-init : goal.loop-i-init
@@ -19,5 +19,5 @@ loop-i-preserved c =
 pub returns : goal.returns
 returns c =
     all_asked _ _ _ _ _ _ _
-    (c.play-sum.ensures (start_sheet _ _) (c.answered-number.ensures.0 ∙ c.start.ensures.network) (c.answered-number.ensures.1 ∙ c.start.ensures.number))
+    (c.play-sum.ensures (start_sheet _ _) (c.rail_of.ensures.rail ∙ c.start-begun.ensures.network) (number-given _ _ c.err.ensures.value ∙ c.start-begun.ensures.number))
     (omega arith) c.loop-i.invariant

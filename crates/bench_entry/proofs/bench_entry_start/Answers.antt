@@ -1,7 +1,7 @@
 -- The refusal's number, or the sender's row less what is no channel's.
 use mathlib.Core.Path.{◌∙◌}
 use native.Mathlib.Numerals.{add-one}
-use Rattle.bench_entry.proofs.Giving.{refused-start, row-given, row-held, none-held}
+use Rattle.bench_entry.proofs.Giving.{row-given, row-held, none-held}
 use Rattle.bench_entry.proofs.bench_entry_start.Goals as goal
 
 pub returns-in-Ok : goal.returns-in-Ok
@@ -10,6 +10,3 @@ returns-in-Ok c =
 
 pub returns-in-Ok-2 : goal.returns-in-Ok-2
 returns-in-Ok-2 c = row-given _ _ c.in-Ok-2.field-0 _ c.in-Ok-2.ensures _ (λ j. none-held _ _ j c.if-sender-lt12.false)
-
-pub returns-in-Err : goal.returns-in-Err
-returns-in-Err c = rw (c.from.ensures, c.number.ensures) (refused-start _ _ _ c.in-Err.refusal c.in-Err.ensures)

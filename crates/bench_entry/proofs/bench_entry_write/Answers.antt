@@ -9,10 +9,10 @@ pub loop-init : goal.loop-init
 loop-init c = none_written _ _ _
 
 pub loop-preserved : goal.loop-preserved
-loop-preserved c = rw add-one (one_written _ _ _ _ _ _ c.loop.last _ c.loop.invariant c.stored-last.ensures)
+loop-preserved c = rw add-one (one_written _ _ _ _ _ _ c.loop.last _ c.loop.invariant (rw c.form_for-form.ensures at c.store_as-last.ensures.out_after))
 
 pub returns : goal.returns
 returns c =
     let e : c.loop.counter ≡ c.args.times = omega arith in
     rw c.length_of.ensures
-    (writes _ _ _ _ _ _ c.loop.last (rw e at c.loop.invariant) (c.answered.ensures.0 ∙ loaded-network _ _ c.load.ensures))
+    (writes _ _ _ _ _ _ c.loop.last (rw e at c.loop.invariant) (c.rail_of-network.ensures.rail ∙ loaded-network _ _ c.load.ensures))

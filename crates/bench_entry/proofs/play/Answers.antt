@@ -1,18 +1,14 @@
 -- Call by call, network and sum are the definition's.
 use mathlib.Core.Path.{◌∙◌}
-use native.Mathlib.Omega.{arith}
 use native.Mathlib.Numerals.{add-one}
 use Rattle.bench_entry.specs.Giving.{mixed}
-use Rattle.bench_entry.proofs.Playing.{none-played, one-played, all-played}
+use Rattle.bench_entry.proofs.Playing.{none-played, one-played}
 use Rattle.bench_entry.proofs.play.Goals as goal
 
 pub loop-k-init : goal.loop-k-init
-loop-k-init c = λ s e f. none-played s _ _ _ e (c.from-sum.ensures ∙ f)
+loop-k-init c = λ s e f. none-played s _ _ _ e (c.from-sum.ensures ∙ c.number_of.ensures ∙ f)
 
 pub loop-k-preserved : goal.loop-k-preserved
 unfolding mixed
 loop-k-preserved c =
-    λ s e f. rw (add-one, c.mixed-sum.ensures, c.number_of.ensures) (one-played s _ _ _ _ _ _ (c.loop-k.invariant s e f) c.deliver-answer.ensures.delivers_as)
-
-pub returns : goal.returns
-returns c = λ s e f. all-played s _ _ _ _ _ (c.loop-k.invariant s e f) (omega arith)
+    λ s e f. rw (add-one, c.mixed-sum.ensures, c.number_of-in-loop-k.ensures) (one-played s _ _ _ _ _ _ (c.loop-k.invariant s e f) c.deliver-answer.ensures.delivers_as)

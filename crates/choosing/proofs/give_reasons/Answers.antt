@@ -81,7 +81,3 @@ loop-i-preserved c =
             half-left,
           )
     ]
-
-pub returns-clause-reasoned : goal.returns-clause-reasoned
-returns-clause-reasoned c =
-    let e : c.loop-i.i ≡ c.args.tried = omega arith in (c.loop-i.invariant.0, rw e at c.loop-i.invariant.1)

@@ -5,5 +5,5 @@ use mathlib.Core.Path.{◌≡◌}
 use Rattle.choosing.proofs.Blaming.{Overlaid}
 use Rattle.choosing.proofs.naming.Given as goal
 
-abbrev pub invariant-loop-i : goal.invariant-loop-i
-invariant-loop-i l = Overlaid l.stored l.nogoods l.i l.all × (l.rest ≡ l.stored / 2 ^ l.i)
+abbrev pub invariant-loop-nogood : goal.invariant-loop-nogood
+invariant-loop-nogood l = Overlaid l.stored l.nogoods l.nogood-index l.all × (l.rest ≡ l.stored / 2 ^ l.nogood-index)

@@ -3,7 +3,7 @@
 use native.Mathlib.Omega.{arith}
 use lib.Dec.{eqb}
 use Rattle.packed.proofs.Masks.{byte-lt}
-use Rattle.choosing.proofs.Spared.{sparing-none, sparing-all, sparing-room, sparing-next}
+use Rattle.choosing.proofs.Spared.{sparing-none, sparing-room, sparing-next}
 use Rattle.choosing.proofs.sparing.Goals as goal
 
 pub loop-nogood-init : goal.loop-nogood-init
@@ -22,6 +22,3 @@ overflow_add-mask c =
 pub loop-nogood-preserved : goal.loop-nogood-preserved
 loop-nogood-preserved c =
     sparing-next _ _ _ _ c.loop-nogood.invariant _ _ c.in-Some.ensures.steps c.digit.result c.digit.ensures.0
-
-pub returns : goal.returns
-returns c = sparing-all _ _ _ _ c.loop-nogood.invariant c.in-None.ensures.steps.0

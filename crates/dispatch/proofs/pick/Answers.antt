@@ -10,9 +10,6 @@ use Rattle.dispatch.proofs.pick.Goals.{else-is_odd, then-is_odd+in_default-deliv
 pub returns-in-Some : goal.returns-in-Some
 returns-in-Some c = refused _ _ _ c.in-Some.ensures
 
-pub pick_in_turn-requires : goal.pick_in_turn-requires
-pick_in_turn-requires c = sym c.in_default.ensures
-
 pub returns-in-Some-delivered : goal.returns-in-Some-delivered
 returns-in-Some-delivered c =
     let d = c.in-Some-delivered.ensures in

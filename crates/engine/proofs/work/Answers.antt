@@ -1,10 +1,11 @@
 -- The work on a network: each goal by the laws that the invariants are built on.
-use Prim.Native.Nat.{ℕ, ◌+◌, ◌-◌}
+use Prim.Native.Nat.{ℕ, ◌+◌, ◌-◌, ◌≤◌}
 use mathlib.Core.Bool.{Bool, false, not, cond, ◌&&◌, false≢true}
 use mathlib.Core.Path.{◌≡◌, refl, sym, ap, ◌∙◌}
 use native.Mathlib.Omega.{arith}
 use lib.ListN.{length, get_or, set}
 use borrow.Author.Rules.{rules}
+use Rattle.std.specs.Prelude.{Some}
 use Rattle.base.specs.Finite.{at}
 use Rattle.packed.specs.Packed.{assignment}
 use Rattle.agent.specs.Abstract.{assigned}
@@ -16,10 +17,11 @@ use Rattle.network_laws.proofs.Changes.{FullArrays, rowed, arrived}
 use Rattle.network_laws.proofs.Handing.{Found, Stepped, bars-ask, step-asks, steps, storing}
 use Rattle.network_laws.proofs.Stepping.{few-agents}
 use Rattle.engine.specs.Refused.{refused_number}
-use Rattle.engine.specs.Working.{ends_by, work_by}
+use Rattle.engine.specs.Working.{ends_by}
+use Rattle.engine.specs.Tasks.{work_by}
 use Rattle.engine.proofs.After.{told-ten, told-goes, told-run, told-not-five, jams-run, jams-never}
-use Rattle.engine.proofs.Ahead.{ahead_none, visit-less, none-less, passed-less}
-use Rattle.engine.proofs.Barrings.{no_agent, no_bars, Barred, BarsOf, Readied, had, worked, bars-ready}
+use Rattle.engine.proofs.Ahead.{ahead_none, none-less, passed-less}
+use Rattle.engine.proofs.Barrings.{no_agent, BarsOf, bars-had}
 use Rattle.engine.proofs.Testing.{fresh-line, never-five}
 use Rattle.engine.proofs.Here.{Here}
 use Rattle.engine.proofs.Starting.{Began, running, found, breaks, refused, begins}
@@ -28,11 +30,24 @@ use Rattle.engine.proofs.Storing.{turn-line, turn-ends, turn-stores, turn-full, 
 use Rattle.engine.proofs.Accepting.{stored-jams, stored-goes}
 use Rattle.engine.proofs.Resting.{one_more, no_more, Stop, verdict-stands, round-stuck, nothing-waits, rounds-used, work-stops, round-settled, round-begins}
 use Rattle.engine.proofs.work.Goals as goal
-use Rattle.engine.proofs.work.Goals.{then-not-has, else-not-has, then-not-missed, else-not-missed, then-once+in_default, else-once, then-o-via-then-o, then-o-via-else-o+then-stuck, then-o-via-else-o+else-stuck+then-not-waits, then-o-via-else-o+else-stuck+else-not-waits+then-left-eq0, then-once-2+then-stuck-2, else-once-2, else-once-2-via-then-once-2+else-stuck-2, else-once-2-via-else-once-2, then-not-once, else-not-once, In-Some-next_visit, After-place_at, After-receive-step, After-one_less, Joined-not-has, Joined-not-missed}
+use Rattle.engine.proofs.work.Goals.{in-Deliver+in_default, in-Run, in-Some-bars, in-None, then-not-missed, else-not-missed, then-o-via-then-o, then-o-via-else-o+then-stuck, then-o-via-else-o+else-stuck+then-not-waits, then-o-via-else-o+else-stuck+else-not-waits+then-left-eq0, then-once+then-stuck-2, else-once, else-once-via-then-once+else-stuck-2, else-once-via-else-once, then-not-once, else-not-once, Else-answer, In-Some-next_visit, In-Some-post, After-place_at, After-receive-step, After-one_less, Joined-bars-at, Joined-not-missed}
+
+-- the shape was tested, so there are at most twelve agents
+few : (c : Else-answer) → c.args.r.count ≤ 12
+few c = few-agents _ (sym c.if-answer.ensures)
 
 -- a line is visited: its ends, no verdict, and the message at its head
 visited : (c : In-Some-next_visit) → Ends c.in-Some-next_visit.visit.from c.in-Some-next_visit.visit.to
 visited c = line-ends c.visits.invariant.0 c.in-Some-next_visit.visit c.in-Some-next_visit.ensures
+
+-- .. the receiver has a digit
+received : (c : In-Some-next_visit) → (1 ≤ c.in-Some-next_visit.visit.to) × (c.in-Some-next_visit.visit.to ≤ 16)
+received c = let b = visited c in (b.to_low, omega (arith, b.to_high))
+
+-- .. and so has the agent that a post goes to
+posted : (c : In-Some-post) → (1 ≤ c.in-Some-post.post.to) × (c.in-Some-post.post.to ≤ 16)
+posted c =
+    let b = turn-ends c.posts.invariant.0 c.in-Some-post.post c.in-Some-post.ensures.steps in (b.to_low, omega (arith, b.to_high))
 
 going : (c : In-Some-next_visit) → c.visits.o.verdict ≡ false
 going c = no-verdict c.visits.invariant.0 c.in-Some-next_visit.visit c.in-Some-next_visit.ensures c.visits.invariant.1
@@ -42,24 +57,16 @@ finding c =
     finds c.visits.invariant.0 c.in-Some-next_visit.visit c.in-Some-next_visit.ensures
     (no-verdict c.visits.invariant.0 c.in-Some-next_visit.visit c.in-Some-next_visit.ensures c.visits.invariant.1) c.channel_at.result c.digit-head.result c.place_at.result c.channel_at.ensures.0 c.digit-head.ensures.0 c.place_at.ensures.0
 
--- agent `to` has its bars, or they are worked out now
-readied : (c : Joined-not-has)
-    → Readied c.args.r.bans c.in-Some-next_visit.visit.to c.words_before-words.result (get_or c.visits.o.agents (c.in-Some-next_visit.visit.to - 1) no_agent) c.visits.bars c.visits.ready c.if-not-has.bars c.if-not-has.ready
+-- what agent `to`'s view bars, worked out before or now
+bars-now : (c : Joined-bars-at)
+    → BarsOf c.args.r.bans c.in-Some-next_visit.visit.to c.words_before-words.result (get_or c.visits.o.agents (c.in-Some-next_visit.visit.to - 1) no_agent) c.match-bars-at.barred
 unfolding assigned
-readied c =
-    elim c.if-not-has.branch [
-      | then-not-has a ↦ worked a.of.result a.add-ready.result a.of.ensures a.add-ready.ensures a.bars-is a.ready-is
-      | else-not-has a ↦ had (sym c.has.ensures ∙ a.if-not-has.false) a.bars-is a.ready-is
-    ]
-
-bars-now : (c : Joined-not-has)
-    → (length c.if-not-has.bars ≡ 12)
-    × Barred c.args.r.bans c.visits.o.agents c.if-not-has.bars c.if-not-has.ready
-    × BarsOf c.args.r.bans c.in-Some-next_visit.visit.to c.words_before-words.result (get_or c.visits.o.agents (c.in-Some-next_visit.visit.to - 1) no_agent) (get_or c.if-not-has.bars (c.in-Some-next_visit.visit.to - 1) no_bars)
 bars-now c =
     let e = line-ends c.visits.invariant.0 c.in-Some-next_visit.visit c.in-Some-next_visit.ensures in
-    let live = c.visits.invariant.0.live in
-    bars-ready c.args.r.bans c.in-Some-next_visit.visit.to c.words_before-words.result e.to_low e.to_high c.words_before-words.ensures.0 c.visits.o.agents c.visits.bars c.visits.ready live.beside live.barred c.if-not-has.bars c.if-not-has.ready (readied c)
+    elim c.match-bars-at.branch [
+      | in-Some-bars a ↦ rw a.barred-is (bars-had _ _ _ e.to_low e.to_high c.words_before-words.ensures.0 _ _ c.visits.invariant.0.live.barred _ a.in-Some-bars.is)
+      | in-None a ↦ rw a.barred-is a.of-barred.ensures
+    ]
 
 -- the agent has made its step
 stepped : (c : After-receive-step) → Stepped c.visits.o c.in-Some-next_visit.visit.from c.in-Some-next_visit.visit.to c.place_at.result c.receive-step.result
@@ -70,13 +77,13 @@ stepped c =
     steps found no_agent _ _ c.words_before-words.result h.live.owned h.live.table c.words_before-words.ensures.0 c.receive-step.result c.receive-step.ensures
 
 -- the delivery is made
-gone : (c : After-one_less) (q : (length c.if-not-has.bars ≡ 12) × Barred c.args.r.bans c.visits.o.agents c.if-not-has.bars c.if-not-has.ready) (step : Stepped c.visits.o c.in-Some-next_visit.visit.from c.in-Some-next_visit.visit.to c.place_at.result c.receive-step.result)
-    → Here c.args.once (work_by c.args.once c.args.sender c.args.receiver c.args.allowed (network_of c.args.r)) (arrived (rowed c.posts.o c.in-Some-next_visit.visit.to c.posts.now) c.in-Some-next_visit.visit.from c.in-Some-next_visit.visit.to c.with_digit.result c.one_less.result c.receive-step.result.agent c.receive-step.result.verdict) c.args.r.count c.args.r.domains c.args.r.bans (set c.if-not-has.bars (c.in-Some-next_visit.visit.to - 1) c.receive-step.result.bars) c.if-not-has.ready c.rounds.quota c.posts.missed c.rounds.left c.rounds.made false c.in-Some-next_visit.visit.from c.posts.rest
-gone c q step =
+gone : (c : After-one_less) (step : Stepped c.visits.o c.in-Some-next_visit.visit.from c.in-Some-next_visit.visit.to c.place_at.result c.receive-step.result)
+    → Here c.match-task.once.0 (work_by c.args.task (network_of c.args.r)) (arrived (rowed c.posts.o c.in-Some-next_visit.visit.to c.posts.now) c.in-Some-next_visit.visit.from c.in-Some-next_visit.visit.to c.with_digit.result c.one_less.result c.receive-step.result.agent c.receive-step.result.verdict) c.args.r.count c.args.r.domains c.args.r.bans (set c.visits.bars (c.in-Some-next_visit.visit.to - 1) (Some c.receive-step.result.bars)) c.rounds.quota c.posts.missed c.rounds.left c.rounds.made false c.in-Some-next_visit.visit.from c.posts.rest
+gone c step =
     let h = c.visits.invariant.0 in
     rw (c.posts.invariant.1, c.posts.invariant.2)
-    (stored-goes h c.in-Some-next_visit.visit c.in-Some-next_visit.ensures (no-verdict h c.in-Some-next_visit.visit c.in-Some-next_visit.ensures c.visits.invariant.1) c.if-not-has.bars c.if-not-has.ready q.0 q.1 step
-    (rw (ap letters_left c.into_iter-post-iterator.ensures.into_iter_gives) at c.posts.invariant.0) c.in-None.ensures.steps.0
+    (stored-goes h c.in-Some-next_visit.visit c.in-Some-next_visit.ensures (no-verdict h c.in-Some-next_visit.visit c.in-Some-next_visit.ensures c.visits.invariant.1) c.visits.bars h.live.beside h.live.barred step
+    (rw (ap letters_left c.into_iter-post-iterator.ensures.into_iter_gives) at c.posts.invariant.0) c.in-None-post.ensures.steps.0
     (record { head = head-moved _ _ _ _ c.with_digit.ensures c.digit-in-Some-next_visit.ensures.0; count = c.one_less.ensures.0 }) _ c.words_before-words.ensures.0 c.receive-step.ensures.barring)
 
 -- the rounds made, this one counted if it was full
@@ -90,26 +97,26 @@ counted c =
 pub returns-then-answer : goal.returns-then-answer
 returns-then-answer c =
     record {
-      works_as = breaks c.args.once c.args.sender c.args.receiver c.args.allowed c.args.r (sym c.if-answer.ensures);
+      works_as = breaks c.args.task c.args.r (sym c.if-answer.ensures);
       network_value = λ _. refl;
     }
 
 pub returns-in-Some : goal.returns-in-Some
 returns-in-Some c =
     record {
-      works_as = refused c.args.once c.args.sender c.args.receiver c.args.allowed c.args.r c.cleaned-o.result (record { width = c.cleaned-o.ensures.0; held = c.cleaned-o.ensures.1 })
-          (sym c.if-answer.ensures) c.if-once.true c.in-Some.refusal c.in-Some.ensures _ c.waits.ensures _ c.ending_at.ensures;
+      works_as = rw c.in-Deliver.is (refused c.args.r c.cleaned-o.result (record { width = c.cleaned-o.ensures.0; held = c.cleaned-o.ensures.1 })
+          (sym c.if-answer.ensures) c.in-Deliver.from c.in-Deliver.to c.in-Some.refusal c.in-Some.ensures _ c.waits.ensures _ c.ending_at.ensures);
       network_value = λ e. absurd (never-five _ _ _ _ _ _ c.in-Some.ensures e);
     }
 
 pub tested-requires : goal.tested-requires
-tested-requires c = few-agents _ (sym c.if-answer.ensures)
+tested-requires c = few (goal.at.tested-requires c).Else-answer
 
 pub waits-requires : goal.waits-requires
-waits-requires c = few-agents _ (sym c.if-answer.ensures)
+waits-requires c = few (goal.at.waits-requires c).Else-answer
 
-pub one_more-rest-requires : goal.one_more-rest-requires
-one_more-rest-requires c = fresh-line _ _ _ _ _ (few-agents _ (sym c.if-answer.ensures)) c.in_default.ensures
+pub one_more-requires : goal.one_more-requires
+one_more-requires c = fresh-line _ _ _ _ _ (few (goal.at.one_more-requires c).Else-answer) c.in_default.ensures
 
 pub rounds-init : goal.rounds-init
 rounds-init c =
@@ -122,19 +129,13 @@ rounds-init c =
       counts = search rules;
       places = search rules;
     } in
-    let began : Began c.args.once c.args.sender c.args.receiver c.args.r.count c.args.r.verdict c.cleaned-o.result c.if-once.from c.if-once.rest =
-    elim c.if-once.branch [
-      | then-once+in_default a ↦ found a.if-once.true a.in_default.ensures a.from-is (ap assignment a.rest-is ∙ a.one_more-rest.ensures)
-      | else-once a ↦ running a.if-once.false a.from-is a.rest-is
+    let began : Began c.args.task c.args.r.count c.args.r.verdict c.cleaned-o.result c.match-task.once =
+    elim c.match-task.branch [
+      | in-Deliver+in_default a ↦ found a.in-Deliver.from a.in-Deliver.to _ a.in-Deliver.is a.once-is a.in_default.ensures a.one_more.ensures
+      | in-Run a ↦ running _ a.in-Run.is a.once-is
     ] in
-    begins c.args.once c.args.sender c.args.receiver c.args.allowed c.args.r c.cleaned-o.result (record { width = c.cleaned-o.ensures.0; held = c.cleaned-o.ensures.1 })
-    (sym c.if-answer.ensures) c.requires.allowed_bound _ refl sizes began c.requires.allowed_value
-
-pub visits-init : goal.visits-init
-visits-init c = c.rounds.invariant
-
-pub next_visit-requires : goal.next_visit-requires
-next_visit-requires c = (c.visits.invariant.0.high, c.visits.invariant.0.agents)
+    begins c.args.r c.cleaned-o.result (record { width = c.cleaned-o.ensures.0; held = c.cleaned-o.ensures.1 })
+    (sym c.if-answer.ensures) sizes began c.requires.allowed_bound
 
 pub overflow_sub-at : goal.overflow_sub-at
 overflow_sub-at c = (visited (goal.at.overflow_sub-at c).In-Some-next_visit).to_low
@@ -143,16 +144,10 @@ pub overflow_sub-row : goal.overflow_sub-row
 overflow_sub-row c = (visited (goal.at.overflow_sub-row c).In-Some-next_visit).from_low
 
 pub digit-head-requires : goal.digit-head-requires
-digit-head-requires c = let b = (visited (goal.at.digit-head-requires c).In-Some-next_visit) in (b.to_low, omega (arith, b.to_high))
-
-pub has-requires : goal.has-requires
-has-requires c = let b = (visited (goal.at.has-requires c).In-Some-next_visit) in (b.to_low, omega (arith, b.to_high))
-
-pub add-ready-requires : goal.add-ready-requires
-add-ready-requires c = let b = (visited (goal.at.add-ready-requires c).In-Some-next_visit) in (b.to_low, omega (arith, b.to_high))
+digit-head-requires c = received (goal.at.digit-head-requires c).In-Some-next_visit
 
 pub digit-requires-in-Some-next_visit : goal.digit-requires-in-Some-next_visit
-digit-requires-in-Some-next_visit c = let b = (visited (goal.at.digit-requires-in-Some-next_visit c).In-Some-next_visit) in (b.to_low, omega (arith, b.to_high))
+digit-requires-in-Some-next_visit c = received (goal.at.digit-requires-in-Some-next_visit c).In-Some-next_visit
 
 pub channel_at-requires : goal.channel_at-requires
 channel_at-requires c = line-channel c.visits.invariant.0 c.in-Some-next_visit.visit c.in-Some-next_visit.ensures
@@ -169,18 +164,21 @@ bounds-domains-at c = let b = (visited (goal.at.bounds-domains-at c).In-Some-nex
 pub slice_bounds-mine-end : goal.slice_bounds-mine-end
 slice_bounds-mine-end c = let b = (visited (goal.at.slice_bounds-mine-end c).In-Some-next_visit) in let w : length c.args.r.bans ≡ 66 = rw c.visits.invariant.0.live.table c.visits.invariant.0.sized.bans in search rules
 
-pub of-requires-clause-able : goal.of-requires-clause-able
-of-requires-clause-able c = (bars-ask (finding (goal.at.of-requires-clause-able c).After-place_at) no_agent _ _ c.words_before-words.result c.visits.invariant.0.live.owned c.visits.invariant.0.live.table c.words_before-words.ensures.0).0
+pub of-barred-requires-clause-able : goal.of-barred-requires-clause-able
+of-barred-requires-clause-able c = (bars-ask (finding (goal.at.of-barred-requires-clause-able c).After-place_at) no_agent _ _ c.words_before-words.result c.visits.invariant.0.live.owned c.visits.invariant.0.live.table c.words_before-words.ensures.0).0
 
-pub of-requires-clause-view_fits : goal.of-requires-clause-view_fits
+pub of-barred-requires-clause-view_fits : goal.of-barred-requires-clause-view_fits
 unfolding assigned
-of-requires-clause-view_fits c = (bars-ask (finding (goal.at.of-requires-clause-view_fits c).After-place_at) no_agent _ _ c.words_before-words.result c.visits.invariant.0.live.owned c.visits.invariant.0.live.table c.words_before-words.ensures.0).1
+of-barred-requires-clause-view_fits c = (bars-ask (finding (goal.at.of-barred-requires-clause-view_fits c).After-place_at) no_agent _ _ c.words_before-words.result c.visits.invariant.0.live.owned c.visits.invariant.0.live.table c.words_before-words.ensures.0).1
+
+pub bounds : goal.bounds
+bounds c = let b = (visited (goal.at.bounds c).In-Some-next_visit) in let z = c.visits.invariant.0.live.beside in search rules
 
 pub bounds-bars-at : goal.bounds-bars-at
 bounds-bars-at c = let b = (visited (goal.at.bounds-bars-at c).In-Some-next_visit) in let z = c.visits.invariant.0.live.beside in search rules
 
 pub bounds-bars-at-in-Some-next_visit : goal.bounds-bars-at-in-Some-next_visit
-bounds-bars-at-in-Some-next_visit c = let b = (visited (goal.at.bounds-bars-at-in-Some-next_visit c).In-Some-next_visit) in let z = (bars-now (goal.at.bounds-bars-at-in-Some-next_visit c).Joined-not-has).0 in search rules
+bounds-bars-at-in-Some-next_visit c = let b = (visited (goal.at.bounds-bars-at-in-Some-next_visit c).In-Some-next_visit) in let z = c.visits.invariant.0.live.beside in search rules
 
 pub receive-step-requires-clause-able : goal.receive-step-requires-clause-able
 receive-step-requires-clause-able c = (step-asks (finding (goal.at.receive-step-requires-clause-able c).After-place_at) no_agent _ _ c.words_before-words.result c.visits.invariant.0.live.owned c.visits.invariant.0.live.table c.words_before-words.ensures.0).0
@@ -192,7 +190,7 @@ pub receive-step-requires-clause-message_fits : goal.receive-step-requires-claus
 receive-step-requires-clause-message_fits c = (step-asks (finding (goal.at.receive-step-requires-clause-message_fits c).After-place_at) no_agent _ _ c.words_before-words.result c.visits.invariant.0.live.owned c.visits.invariant.0.live.table c.words_before-words.ensures.0).1.1
 
 pub receive-step-requires-clause-barring : goal.receive-step-requires-clause-barring
-receive-step-requires-clause-barring c = (bars-now (goal.at.receive-step-requires-clause-barring c).Joined-not-has).2
+receive-step-requires-clause-barring c = bars-now (goal.at.receive-step-requires-clause-barring c).Joined-bars-at
 
 pub bounds-o-at-in-Some-next_visit : goal.bounds-o-at-in-Some-next_visit
 bounds-o-at-in-Some-next_visit c = let b = (visited (goal.at.bounds-o-at-in-Some-next_visit c).In-Some-next_visit) in let z = c.visits.invariant.0.sized.counts in search rules
@@ -202,7 +200,7 @@ posts-init c =
     (rw (ap letters_left c.into_iter-post-iterator.ensures.into_iter_gives) (storing (stepped (goal.at.posts-init c).After-receive-step)), refl, refl)
 
 pub digit-waiting-requires : goal.digit-waiting-requires
-digit-waiting-requires c = let b = turn-ends c.posts.invariant.0 c.in-Some-post.post c.in-Some-post.ensures.steps in (b.to_low, omega (arith, b.to_high))
+digit-waiting-requires c = posted (goal.at.digit-waiting-requires c).In-Some-post
 
 pub with_digit-rest-requires : goal.with_digit-rest-requires
 with_digit-rest-requires c = let b = (visited (goal.at.with_digit-rest-requires c).In-Some-next_visit) in (b.to_low, omega (arith, b.to_high), omega arith)
@@ -212,9 +210,9 @@ visits-smaller-then-waiting-ge8 c = let b = (visited (goal.at.visits-smaller-the
 
 pub visits-preserved-then-waiting-ge8 : goal.visits-preserved-then-waiting-ge8
 visits-preserved-then-waiting-ge8 c =
-    let q = bars-now (goal.at.visits-preserved-then-waiting-ge8 c).Joined-not-has in
+    let live = c.visits.invariant.0.live in
     let none = going (goal.at.visits-preserved-then-waiting-ge8 c).In-Some-next_visit in (
-      stored-jams c.visits.invariant.0 c.in-Some-next_visit.visit c.in-Some-next_visit.ensures none c.if-not-has.bars c.if-not-has.ready q.0 q.1 (stepped (goal.at.visits-preserved-then-waiting-ge8 c).After-receive-step) (rw (ap letters_left c.into_iter-post-iterator.ensures.into_iter_gives) at c.posts.invariant.0)
+      stored-jams c.visits.invariant.0 c.in-Some-next_visit.visit c.in-Some-next_visit.ensures none c.visits.bars live.beside live.barred (stepped (goal.at.visits-preserved-then-waiting-ge8 c).After-receive-step) (rw (ap letters_left c.into_iter-post-iterator.ensures.into_iter_gives) at c.posts.invariant.0)
           (turn-full (rw (ap letters_left c.into_iter-post-iterator.ensures.into_iter_gives) at c.posts.invariant.0) c.in-Some-post.post c.in-Some-post.ensures.steps _ c.digit-waiting.ensures.0 c.if-waiting-ge8.true) (c.with_digit-rest.ensures ∙ ap (λ (rest : ℕ). at (assignment rest) c.in-Some-next_visit.visit.to 0) c.posts.invariant.1),
       λ t. absurd (false≢true (sym none ∙ sym c.posts.invariant.0.kept.verdict ∙ t)),
     )
@@ -226,7 +224,7 @@ pub bounds-o-at-in-posts : goal.bounds-o-at-in-posts
 bounds-o-at-in-posts c = let b = (visited (goal.at.bounds-o-at-in-posts c).In-Some-next_visit) in let z = c.posts.invariant.0.sized.heads in search rules
 
 pub digit-requires : goal.digit-requires
-digit-requires c = let b = turn-ends c.posts.invariant.0 c.in-Some-post.post c.in-Some-post.ensures.steps in (b.to_low, omega (arith, b.to_high))
+digit-requires c = posted (goal.at.digit-requires c).In-Some-post
 
 pub one_more-now-requires : goal.one_more-now-requires
 one_more-now-requires c = let b = turn-ends c.posts.invariant.0 c.in-Some-post.post c.in-Some-post.ensures.steps in (b.to_low, omega (arith, b.to_high), omega (arith, c.digit-waiting.ensures.0, c.if-waiting-ge8.false))
@@ -258,20 +256,14 @@ one_less-requires c = let b = (visited (goal.at.one_less-requires c).In-Some-nex
 pub bounds-o-at-in-Some-next_visit-3 : goal.bounds-o-at-in-Some-next_visit-3
 bounds-o-at-in-Some-next_visit-3 c = let b = (visited (goal.at.bounds-o-at-in-Some-next_visit-3 c).In-Some-next_visit) in let z = c.posts.invariant.0.sized.agents in search rules
 
-pub bounds-bars-at-in-Some-next_visit-2 : goal.bounds-bars-at-in-Some-next_visit-2
-bounds-bars-at-in-Some-next_visit-2 c = let b = (visited (goal.at.bounds-bars-at-in-Some-next_visit-2 c).In-Some-next_visit) in let z = (bars-now (goal.at.bounds-bars-at-in-Some-next_visit-2 c).Joined-not-has).0 in search rules
-
 pub visits-smaller-then-step : goal.visits-smaller-then-step
 visits-smaller-then-step c = none-less _ _ c.in-Some-next_visit.ensures
 
 pub visits-preserved-then-step : goal.visits-preserved-then-step
-visits-preserved-then-step c = (passes-all (let at = goal.at.visits-preserved-then-step c in let q = bars-now at.Joined-not-has in gone at.After-one_less (q.0, q.1) (stepped at.After-receive-step)) c.next_visit-then-step.result c.next_visit-then-step.ensures c.is_some.result c.is_some.ensures c.if-step.true, λ _. ahead_none c.rounds.quota c.args.r.count c.args.r.count 0 refl (omega arith))
-
-pub visits-smaller : goal.visits-smaller
-visits-smaller c = rw c.posts.invariant.1 (visit-less _ _ c.in-Some-next_visit.ensures)
+visits-preserved-then-step c = (passes-all (let at = goal.at.visits-preserved-then-step c in gone at.After-one_less (stepped at.After-receive-step)) c.next_visit-then-step.result c.next_visit-then-step.ensures c.is_some.result c.is_some.ensures c.if-step.true, λ _. ahead_none c.rounds.quota c.args.r.count c.args.r.count 0 refl (omega arith))
 
 pub visits-preserved : goal.visits-preserved
-visits-preserved c = ((let at = goal.at.visits-preserved c in let q = bars-now at.Joined-not-has in gone at.After-one_less (q.0, q.1) (stepped at.After-receive-step)), λ t. absurd (false≢true (sym c.if-step.false ∙ t)))
+visits-preserved c = ((let at = goal.at.visits-preserved c in gone at.After-one_less (stepped at.After-receive-step)), λ t. absurd (false≢true (sym c.if-step.false ∙ t)))
 
 pub returns-after-not-once : goal.returns-after-not-once
 returns-after-not-once c =
@@ -282,24 +274,24 @@ returns-after-not-once c =
       | then-o-via-else-o+else-stuck+then-not-waits a ↦ nothing-waits a.if-not-waits.true
       | then-o-via-else-o+else-stuck+else-not-waits+then-left-eq0 a ↦ rounds-used a.if-left-eq0.true
     ] in
-    let told : refused_number c.if-once-2.refusal ≡ cond (c.args.once && c.visits.stuck) 10 0 =
-    elim c.if-once-2.branch [
-      | then-once-2+then-stuck-2 a ↦ ap refused_number a.refusal-is ∙ told-ten a.if-once-2.true a.if-stuck-2.true
-      | else-once-2 a ↦ ap refused_number a.refusal-is ∙ elim a.else-once-2.branch [
-        | else-once-2-via-then-once-2+else-stuck-2 b ↦ told-goes c.args.once b.if-stuck-2.false
-        | else-once-2-via-else-once-2 b ↦ told-run c.visits.stuck b.if-once-2.false
+    let told : refused_number c.if-once.refusal ≡ cond (c.match-task.once.0 && c.visits.stuck) 10 0 =
+    elim c.if-once.branch [
+      | then-once+then-stuck-2 a ↦ ap refused_number a.refusal-is ∙ told-ten a.if-once.true a.if-stuck-2.true
+      | else-once a ↦ ap refused_number a.refusal-is ∙ elim a.else-once.branch [
+        | else-once-via-then-once+else-stuck-2 b ↦ told-goes c.match-task.once.0 b.if-stuck-2.false
+        | else-once-via-else-once b ↦ told-run c.visits.stuck b.if-once.false
       ]
     ] in
-    let jam : c.if-not-once.ending_at ≡ not c.args.once && c.visits.stuck =
+    let jam : c.if-not-once.ending_at ≡ not c.match-task.once.0 && c.visits.stuck =
     elim c.if-not-once.branch [
       | then-not-once a ↦ a.ending_at-is ∙ jams-run c.visits.stuck a.if-not-once.true
       | else-not-once a ↦ a.ending_at-is ∙ jams-never c.visits.stuck a.if-not-once.false
     ] in
     record {
       works_as =
-          work-stops c.visits.invariant.0 c.in_default-next_visit.ensures _ (counted (goal.at.returns-after-not-once c).Joined-not-missed) _ c.waits-waits.ensures stop _ c.if-once-2.refusal
+          work-stops c.visits.invariant.0 c.in_default-next_visit.ensures _ (counted (goal.at.returns-after-not-once c).Joined-not-missed) _ c.waits-waits.ensures stop _ c.if-once.refusal
           (c.ending_at-then-o.ensures ∙ ap (λ (b : Bool). ends_by false c.visits.o.verdict (not c.waits-waits.result) (cond b 10 0)) jam) told;
-      network_value = λ e. absurd (told-not-five (c.args.once && c.visits.stuck) told e);
+      network_value = λ e. absurd (told-not-five (c.match-task.once.0 && c.visits.stuck) told e);
     }
 
 pub rounds-preserved : goal.rounds-preserved

@@ -6,7 +6,7 @@ use Rattle.agent.specs.Posting.{letters_left}
 use Rattle.network.specs.Abstract.{network_of}
 use Rattle.network_laws.proofs.Posting.{Posting}
 use Rattle.engine.specs.Lines.{ahead}
-use Rattle.engine.specs.Working.{work_by}
+use Rattle.engine.specs.Tasks.{work_by}
 use Rattle.engine.proofs.Here.{Here, Settled}
 use Rattle.engine.proofs.work.Given as goal
 
@@ -18,7 +18,7 @@ invariant-posts l =
 
 abbrev pub invariant-visits : goal.invariant-visits
 invariant-visits l =
-    Here l.once (work_by l.once l.sender l.receiver l.allowed (network_of l.fn.r)) l.o l.n l.domains l.bans l.bars l.ready l.quota l.missed l.left l.made l.stuck l.from l.rest
+    Here l.once (work_by l.fn.task (network_of l.fn.r)) l.o l.n l.domains l.bans l.bars l.quota l.missed l.left l.made l.stuck l.from l.rest
     × Settled l.o l.quota l.n l.from l.rest
 
 abbrev pub decreases-visits : goal.decreases-visits
@@ -26,7 +26,7 @@ decreases-visits l = length (ahead l.quota l.n l.from l.rest)
 
 abbrev pub invariant-rounds : goal.invariant-rounds
 invariant-rounds l =
-    Here l.once (work_by l.once l.sender l.receiver l.allowed (network_of l.fn.r)) l.o l.n l.domains l.bans l.bars l.ready l.quota l.missed l.left l.made l.stuck l.from l.rest
+    Here l.once (work_by l.fn.task (network_of l.fn.r)) l.o l.n l.domains l.bans l.bars l.quota l.missed l.left l.made l.stuck l.from l.rest
     × Settled l.o l.quota l.n l.from l.rest
 
 abbrev pub decreases-rounds : goal.decreases-rounds

@@ -1,10 +1,7 @@
 -- `candidate` is the network that the bytes would be the image of, part by part.
 use mathlib.Core.Path.{refl}
-use Rattle.image_reader.proofs.Candidates.{near-all, candidate-is}
+use Rattle.image_reader.proofs.Candidates.{candidate-is}
 use Rattle.image_reader.proofs.candidate.Goals as goal
-
-pub places-requires : goal.places-requires
-places-requires c = near-all c.args.s.now _ c.laid_out-lines.result c.laid_out-lines.ensures
 
 pub returns : goal.returns
 returns c =

@@ -1,7 +1,6 @@
 -- `load_first` answers as the definition does.
 -- Bytes that are too few, or have too many agents, are no image; for others what is read decides, written again.
 use mathlib.Core.Path.{sym, ◌∙◌}
-use native.Mathlib.Omega.{arith}
 use Rattle.image_format.specs.Reading.{bad_image}
 use Rattle.image_reader.specs.Loaded.{loaded_of}
 use Rattle.image_reader.proofs.Owned.{network-fits}
@@ -18,9 +17,6 @@ returns-then-s-lt808 c =
       | then-s-lt808-via-then-s-lt808 u ↦ sym (too_short s u.if-s-lt808.true)
       | then-s-lt808-via-else-s-lt808+then-s-gt12 u ↦ sym (too_many s u.if-s-gt12.true)
     ]
-
-pub candidate-network-requires : goal.candidate-network-requires
-candidate-network-requires c = (omega arith, omega arith)
 
 pub returns-then-is_image : goal.returns-then-is_image
 unfolding loaded_of

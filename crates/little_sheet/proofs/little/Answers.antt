@@ -31,7 +31,7 @@ returns c =
     let rows = chosen d.bans (rows_from d.counts 0) in
     let e =
     c.put_sheet.ensures
-    ∙ ap (λ (l : List Row). put (written 1 (problem_of c.bare.result) l) a.out.now) c.bans_of-records.ensures.0
+    ∙ ap (λ (l : List Row). put (written 1 (problem_of c.bare.result) l) a.out.now) (c.as_slice.ensures.records ∙ c.bans_of-rows.ensures)
     ∙ ap (λ (p : Problem). put (written 1 p rows) a.out.now) c.bare.ensures
     ∙ sym (answers-sheet a.ordinal m.0 d m.1 a.out.now) in
     record { out_after = e; length_in_bounds = counted _ _ _ e (little-within a.ordinal a.out.now) }

@@ -4,8 +4,5 @@ use native.Mathlib.Omega.{arith}
 use Rattle.packed.proofs.Wordwise.{named-marked}
 use Rattle.packed.proofs.named.Goals as goal
 
-pub overflow_mul-result : goal.overflow_mul-result
-overflow_mul-result c = record { fits = (named-marked c.args.x (omega arith)).0 }
-
 pub returns : goal.returns
 returns c = (named-marked c.args.x (omega arith)).1

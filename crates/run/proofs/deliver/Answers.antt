@@ -1,28 +1,20 @@
 -- One delivery is the work once; a refused one hands back what was given.
-use mathlib.Core.Path.{refl, sym}
-use native.Mathlib.Omega.{arith}
+use mathlib.Core.Path.{sym}
 use Rattle.run.proofs.Delivering.{delivered, rejected, stood, some-number, none-number}
 use Rattle.run.proofs.deliver.Goals as goal
-
-pub work-answer-requires : goal.work-answer-requires
-work-answer-requires c =
-    record {
-      allowed_bound = omega arith;
-      allowed_value = λ _. refl;
-    }
 
 pub returns-then-is_some : goal.returns-then-is_some
 returns-then-is_some c =
     let w = c.work-answer.ensures.works_as in
     record {
-      delivers_as = rejected _ _ _ _ c.work-answer.result w (some-number _ (sym c.if-is_some.ensures));
-      rounds_value = stood _ _ _ _ c.work-answer.result w;
+      delivers_as = rejected _ _ _ c.work-answer.result w (some-number _ (sym c.if-is_some.ensures));
+      rounds_value = stood _ _ _ c.work-answer.result w;
     }
 
 pub returns-else-is_some : goal.returns-else-is_some
 returns-else-is_some c =
     let w = c.work-answer.ensures.works_as in
     record {
-      delivers_as = delivered _ _ _ _ c.work-answer.result w (none-number _ (sym c.if-is_some.ensures));
-      rounds_value = stood _ _ _ _ c.work-answer.result w;
+      delivers_as = delivered _ _ _ c.work-answer.result w (none-number _ (sym c.if-is_some.ensures));
+      rounds_value = stood _ _ _ c.work-answer.result w;
     }

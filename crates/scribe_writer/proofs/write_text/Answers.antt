@@ -3,13 +3,11 @@
 use mathlib.Core.Path.{sym, ap, ◌∙◌}
 use mathlib.Core.List.{List}
 use Prim.Native.Nat.{ℕ}
-use lib.Seq.{length-take-le}
 use Rattle.std.proofs.lemmas.Result.{err_from_is_err_and}
 use Rattle.base.specs.Lent.{untouched, put}
 use Rattle.sheet.proofs.Outcomes.{accepted}
 use Rattle.lent.specs.Abstract.{written_of}
 use Rattle.scribe_writer.proofs.Answers.{text-room, answers-refused, answers-text}
-use Rattle.scribe_writer.proofs.Rooms.{room-inside}
 use Rattle.scribe_writer.proofs.write_text.Goals as goal
 
 pub returns-in_err-p : goal.returns-in_err-p
@@ -20,13 +18,6 @@ returns-in_err-p c =
 
 pub append_text-n-requires : goal.append_text-n-requires
 append_text-n-requires c = let v = accepted _ _ c.in_ok-p.ensures in (v, text-room _ _ v)
-
-pub slice_bounds-text-end : goal.slice_bounds-text-end
-slice_bounds-text-end c = room-inside (text-room _ _ (accepted _ _ c.in_ok-p.ensures)) c.append_text-n.ensures
-
-pub slice_bounds-put_whole-end : goal.slice_bounds-put_whole-end
-slice_bounds-put_whole-end c =
-    sym (length-take-le _ _ (room-inside (text-room _ _ (accepted _ _ c.in_ok-p.ensures)) c.append_text-n.ensures))
 
 pub returns : goal.returns
 returns c =

@@ -1,28 +1,14 @@
 -- The mask of the linked agents below, from agent n down to the one next to i.
 use mathlib.Core.Path.{◌≡◌, sym, fun_ext, ◌∙◌}
-use mathlib.Core.Bool.{false, not}
 use Prim.Native.Nat.{◌+◌, ◌-◌}
 use native.Mathlib.Omega.{arith}
-use lib.Dec.{eqb}
-use lib.ListN.{get_or}
 use Rattle.clauses.proofs.Pairs.{word-place}
 use Rattle.start.proofs.Words.{not-linked, is-linked, none-beyond, as-far, all-linked}
-use Rattle.start.proofs.Masks.{mask-begins, mask_fits, mask-goes, mask-moved}
+use Rattle.start.proofs.Masks.{mask-begins, mask-goes, mask-moved}
 use Rattle.start.proofs.informs.Goals as goal
 
 pub loop-k-init : goal.loop-k-init
 loop-k-init c = (c.requires.1, mask-begins _ _ c.requires.2 (λ k h. none-beyond _ _ _ k h), omega arith)
-
-pub words_before-requires : goal.words_before-requires
-words_before-requires c = let d : c.loop-k.k - 1 + 1 ≡ c.loop-k.k = omega arith in rw d (omega arith, c.loop-k.invariant.1.few)
-
-pub overflow_mul-mask : goal.overflow_mul-mask
-overflow_mul-mask c = omega (arith, mask_fits _ _ _ false c.loop-k.invariant.1 (omega arith))
-
-pub overflow_add-mask : goal.overflow_add-mask
-overflow_add-mask c =
-    let word = get_or c.args.bans.now (c.words_before.result + c.args.i - 1) 0 in
-    rw c.from.ensures (omega (arith, mask_fits _ _ _ (not (eqb word 0)) c.loop-k.invariant.1 (omega arith)))
 
 pub loop-k-preserved : goal.loop-k-preserved
 loop-k-preserved c =

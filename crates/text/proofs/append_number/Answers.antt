@@ -6,9 +6,6 @@ use Rattle.text.specs.Text.{decimal}
 use Rattle.text.proofs.Digits.{fewest-decimal, digits-fit}
 use Rattle.text.proofs.append_number.Goals as goal
 
-pub put_all-requires : goal.put_all-requires
-put_all-requires c = omega (arith, c.decimal-count.ensures.in_bounds.1, digits-fit _ _ c.decimal-count.ensures.len (omega arith))
-
 pub returns : goal.returns
 returns c =
     let digits : take c.decimal-count.result c.decimal-count.new.out ≡ decimal c.args.n =

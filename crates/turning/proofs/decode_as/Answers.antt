@@ -10,10 +10,10 @@ pub returns-then-s-lt24 : goal.returns-then-s-lt24
 unfolding fault_number outcome outcome_of
 returns-then-s-lt24 c = rw (as_short _ _ c.if-s-lt24.true)
 
-pub returns-then-s-edition : goal.returns-then-s-edition
+pub returns-then-s-number : goal.returns-then-s-number
 unfolding fault_number outcome outcome_of byte_at edition_in
-returns-then-s-edition c = rw (as-other _ _ c.if-s-lt24.false c.if-s-edition.true)
+returns-then-s-number c = rw (as-other _ _ c.if-s-lt24.false (rw c.number.ensures at c.if-s-number.true))
 
-pub returns-else-s-edition : goal.returns-else-s-edition
+pub returns-else-s-number : goal.returns-else-s-number
 unfolding byte_at edition_in
-returns-else-s-edition c = c.decode.ensures ∙ ap outcome (sym (as_same _ _ c.if-s-lt24.false c.if-s-edition.false))
+returns-else-s-number c = c.decode.ensures ∙ ap outcome (sym (as_same _ _ c.if-s-lt24.false (rw c.number.ensures at c.if-s-number.false)))

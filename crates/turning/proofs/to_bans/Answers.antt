@@ -7,6 +7,7 @@ use Rattle.lent.proofs.Within.{counted}
 use Rattle.sheet.proofs.Outcomes.{accepted}
 use Rattle.turn_rules.specs.Turning.{to_bans}
 use Rattle.turning.proofs.Answers.{bans-within, bans-ready, answers-no-bans, answers-bans}
+use Rattle.turning.proofs.Words.{most}
 use Rattle.turning.proofs.to_bans.Goals as goal
 
 pub returns-in_err-decode_as : goal.returns-in_err-decode_as
@@ -17,11 +18,16 @@ returns-in_err-decode_as c =
     rw (p.1, p.2) (sym (answers-no-bans _ _ _ c.in_err-decode_as.ensures)) in
     record { out_after = e; length_in_bounds = counted _ _ _ e (bans-within c.args.s.now c.args.out.now) }
 
-pub put_turned-requires : goal.put_turned-requires
-put_turned-requires c = bans-ready _ _ (accepted _ _ c.in_ok-decode_as.ensures)
+pub invariant_of-p : goal.invariant_of-p
+invariant_of-p c =
+    let good = (bans-ready _ _ (accepted _ _ c.in_ok-decode_as.ensures)).0 in
+    record { few = most _ good; good = good }
+
+pub put_sheet-requires : goal.put_sheet-requires
+put_sheet-requires c = (bans-ready _ _ (accepted _ _ c.in_ok-decode_as.ensures)).1
 
 pub returns : goal.returns
 returns c =
     let e =
-    c.put_turned.ensures ∙ sym (answers-bans _ _ _ (accepted _ _ c.in_ok-decode_as.ensures)) in
+    c.put_sheet.ensures ∙ sym (answers-bans _ _ _ (accepted _ _ c.in_ok-decode_as.ensures)) in
     record { out_after = e; length_in_bounds = counted _ _ _ e (bans-within c.args.s.now c.args.out.now) }

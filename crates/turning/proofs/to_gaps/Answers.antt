@@ -9,32 +9,35 @@ use Rattle.lent.proofs.Within.{counted}
 use Rattle.turn_rules.specs.Turning.{not_sayable, to_gaps}
 use Rattle.sheet.proofs.Outcomes.{accepted}
 use Rattle.turning.proofs.Answers.{gaps-within, gaps-ready, answers-no-gaps, answers-unsayable, answers-gaps}
+use Rattle.turning.proofs.Words.{most}
 use Rattle.turning.proofs.to_gaps.Goals as goal
 
-pub returns-in_err-p : goal.returns-in_err-p
+pub returns-in_err-decode_as : goal.returns-in_err-decode_as
 unfolding written_of
-returns-in_err-p c =
+returns-in_err-decode_as c =
     let p = err_from_is_err_and c.from_residual.result c.from_residual.ensures.1 in
     let e : written_of c.from_residual.result c.args.out.now ≡ to_gaps c.args.s.now c.args.out.now =
-    rw (p.1, p.2) (sym (answers-no-gaps _ _ _ c.in_err-p.ensures)) in
+    rw (p.1, p.2) (sym (answers-no-gaps _ _ _ c.in_err-decode_as.ensures)) in
     record { out_after = e; length_in_bounds = counted _ _ _ e (gaps-within c.args.s.now c.args.out.now) }
 
-pub sayable-requires : goal.sayable-requires
-sayable-requires c = (gaps-ready _ _ (accepted _ _ c.in_ok-p.ensures)).0
+pub invariant_of-p : goal.invariant_of-p
+invariant_of-p c =
+    let good = (gaps-ready _ _ (accepted _ _ c.in_ok-decode_as.ensures)).0 in
+    record { few = most _ good; good = good }
 
-pub returns-then-not-sayable : goal.returns-then-not-sayable
+pub returns-then-not-is_sayable : goal.returns-then-not-is_sayable
 unfolding written_of not_sayable
-returns-then-not-sayable c =
+returns-then-not-is_sayable c =
     let e : written_of (Err NotSayable) c.args.out.now ≡ to_gaps c.args.s.now c.args.out.now =
-    sym (answers-unsayable _ _ _ (accepted _ _ c.in_ok-p.ensures) (sym c.sayable.ensures ∙ c.if-not-sayable.true)) in
+    sym (answers-unsayable _ _ _ (accepted _ _ c.in_ok-decode_as.ensures) (sym c.is_sayable.ensures ∙ c.if-not-is_sayable.true)) in
     record { out_after = e; length_in_bounds = counted (Err NotSayable) c.args.out.now _ e (gaps-within c.args.s.now c.args.out.now) }
 
-pub put_turned-requires : goal.put_turned-requires
-put_turned-requires c = gaps-ready _ _ (accepted _ _ c.in_ok-p.ensures)
+pub put_sheet-requires : goal.put_sheet-requires
+put_sheet-requires c = (gaps-ready _ _ (accepted _ _ c.in_ok-decode_as.ensures)).1
 
 pub returns : goal.returns
 returns c =
     let e =
-    c.put_turned.ensures
-    ∙ sym (answers-gaps _ _ _ (accepted _ _ c.in_ok-p.ensures) (sym c.sayable.ensures ∙ c.if-not-sayable.false)) in
+    c.put_sheet.ensures
+    ∙ sym (answers-gaps _ _ _ (accepted _ _ c.in_ok-decode_as.ensures) (sym c.is_sayable.ensures ∙ c.if-not-is_sayable.false)) in
     record { out_after = e; length_in_bounds = counted _ _ _ e (gaps-within c.args.s.now c.args.out.now) }

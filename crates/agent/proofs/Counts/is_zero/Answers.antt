@@ -1,13 +1,14 @@
--- The three counts, as the definition goes through them.
-use borrow.Author.Rules.{rules}
+-- `is_zero` compares with the counts of no message.
+use mathlib.Core.Path.{sym}
+use mathlib.Core.Bool.{and_assoc}
+use lib.Dec.{eqb}
 use Rattle.agent_rules.specs.Counts.{each_sort}
 use Rattle.agent.specs.Abstract.{count_of}
+use Rattle.agent.proofs.Start.{default-counts}
 use Rattle.agent.proofs.Counts.is_zero.Goals as goal
 
-pub returns-then-self-eq0-2 : goal.returns-then-self-eq0-2
+pub returns : goal.returns
 unfolding each_sort count_of
-returns-then-self-eq0-2 c = search rules
-
-pub returns-else-self-eq0-2 : goal.returns-else-self-eq0-2
-unfolding each_sort count_of
-returns-else-self-eq0-2 c = search rules
+returns c =
+    let self = c.args.self in
+    rw (c.eq.ensures, default-counts c.default.result c.default.ensures) (sym (and_assoc (eqb self.infos 0) (eqb self.backs 0) (eqb self.links 0)))

@@ -1,25 +1,15 @@
 -- `hear` tells whether a left side holds, and what it brings.
 -- A walk along the agents that it names. The invariant: what those passed have brought.
-use Prim.Native.Nat.{◌≤◌}
 use mathlib.Core.Path.{sym, ◌∙◌}
 use native.Mathlib.Omega.{arith}
-use lib.ListN.{length}
 use Rattle.packed.specs.Packed.{assignment}
 use Rattle.packed.proofs.Digits.{digit-assigned, nobody-assigned}
 use Rattle.choosing.specs.Barring.{bans_in}
 use Rattle.choosing.proofs.Named.{named-range}
-use Rattle.agent.proofs.Hearing.{hear-begins, hear-matched, near, hear-new, hear-ends, hear-fails, hear-within}
+use Rattle.choosing.proofs.Walking.{near}
+use Rattle.agent.proofs.Hearing.{hear-begins, hear-matched, hear-new, hear-ends, hear-fails, hear-within}
 use Rattle.agent.proofs.State.hear.Goals as goal
 use Rattle.agent.proofs.State.hear.Goals.{In-Some}
-
--- the agent met is above
-met : (c : In-Some)
-    → (c.in-Some.k ≤ length c.args.bans.now) × (1 ≤ assignment c.loop-k.k-iterator.0 c.in-Some.k)
-    × (assignment c.loop-k.k-iterator.0 c.in-Some.k ≤ 8)
-met c =
-    let (_, here, lo, hi) = c.in-Some.ensures.steps.0 in
-    near c.args.self _ c.args.bans.now (assignment c.loop-k.k-iterator.0) c.loop-k.h c.loop-k.invariant c.in-Some.k here
-    c.args.own c.requires.able c.requires.view_fits lo hi
 
 pub returns-then-within : goal.returns-then-within
 returns-then-within c =
@@ -52,10 +42,15 @@ with_digit-requires c =
     (first.2, first.3, rw value (digit-assigned c.loop-k.k-iterator.0 c.in-Some.k))
 
 pub bounds-bans-k : goal.bounds-bans-k
-bounds-bans-k c = omega (arith, (met (goal.at.bounds-bans-k c).In-Some).0, c.in-Some.ensures.steps.0)
+bounds-bans-k c =
+    let (_, here, lo, hi) = c.in-Some.ensures.steps.0 in
+    omega (arith, (near _ _ _ _ c.requires.able c.requires.view_fits c.loop-k.invariant.left _ lo hi here).0)
 
 pub barred_at-requires : goal.barred_at-requires
-barred_at-requires c = let m = met (goal.at.barred_at-requires c).In-Some in rw c.in-Some.ensures.steps.1 (m.1, m.2)
+barred_at-requires c =
+    let ((_, here, lo, hi), value, _) = c.in-Some.ensures.steps in
+    let (_, some, few) = near _ _ _ _ c.requires.able c.requires.view_fits c.loop-k.invariant.left _ lo hi here in
+    rw value (some, few)
 
 pub loop-k-preserved : goal.loop-k-preserved
 loop-k-preserved c =

@@ -46,4 +46,4 @@ overflow_shl-state c = omega (arith, (value (goal.at.overflow_shl-state c).Start
 pub returns : goal.returns
 returns c =
     takes-held c.args.own c.args.bans.now c.args.self c.args.nogoods.now c.args.from
-    c.args.lhs c.args.v c.requires c.if-v-self.false c.in-Some.h c.in-Some.ensures
+    c.args.lhs c.args.v c.requires c.if-v-self.false c.in-Some.field-0 c.in-Some.ensures

@@ -1,18 +1,13 @@
 -- `on_info` is the rule of an Info.
 -- The view changes at the sender, and the nogoods that disagree are those that name it at another value.
-use Prim.Native.Nat.{ℕ, ◌≤◌, ◌<◌, ◌^◌}
 use mathlib.Core.Path.{◌≡◌, sym, ◌∙◌}
 use native.Mathlib.Omega.{arith}
 use Rattle.packed.specs.Packed.{assignment}
 use Rattle.choosing.specs.Choosing.{nogoods_of}
-use Rattle.agent.specs.Parts.{keeping, Handed}
-use Rattle.agent.specs.declared.State.{State}
-use Rattle.agent_rules.specs.Message.{Info as Info'}
-use Rattle.choosing.specs.declared.Own.{Own}
-use mathlib.Core.List.{List}
+use Rattle.agent.specs.Parts.{keeping}
 use Rattle.agent.proofs.Fits.{fits-sound}
 use Rattle.agent.proofs.Views.{kept_same, kept_new, kept-other}
-use Rattle.agent.proofs.Infos.{sender, valued, takes-barred, takes-free}
+use Rattle.agent.proofs.Infos.{sender, in_range, valued, takes-barred, takes-free}
 use Rattle.agent.proofs.State.on_info.Goals as goal
 use Rattle.agent.proofs.State.on_info.Goals.{
   Start,
@@ -23,21 +18,9 @@ use Rattle.agent.proofs.State.on_info.Goals.{
   else-old-ne0-via-else-old-ne0,
 }
 
--- the sender has a number
-in-range : (own : Own) (bans : List ℕ) (s : State) (nogoods : List ℕ) (from v : ℕ) → Handed own bans s nogoods from (Info' v) → s.listens < 2 ^ 16
-    → (1 ≤ from) × (from ≤ 16)
-in-range own bans s nogoods from v handed small =
-    let f = sender own bans s nogoods from v handed small in (f.0, omega (arith, f.1, handed.able.fits.last))
-
-pub digit-old-requires : goal.digit-old-requires
-digit-old-requires c = in-range _ _ _ _ _ _ c.requires (omega arith)
-
-pub sparing-requires : goal.sparing-requires
-sparing-requires c = in-range _ _ _ _ _ _ c.requires (omega arith)
-
 pub with_digit-requires : goal.with_digit-requires
 with_digit-requires c =
-    let f = sender _ _ _ _ _ _ c.requires (omega arith) in let r = in-range _ _ _ _ _ _ c.requires (omega arith) in (r.0, r.1, omega (arith, f.3))
+    let f = sender _ _ _ _ _ _ c.requires (omega arith) in let r = in_range _ _ _ _ _ _ c.requires (omega arith) in (r.0, r.1, omega (arith, f.3))
 
 pub bounds-bans-from : goal.bounds-bans-from
 bounds-bans-from c =
@@ -46,9 +29,6 @@ bounds-bans-from c =
 pub barred_at-requires : goal.barred_at-requires
 barred_at-requires c =
     let f = sender _ _ _ _ _ _ c.requires (omega arith) in (f.2, f.3)
-
-pub with-bars-requires : goal.with-bars-requires
-with-bars-requires c = in-range _ _ _ _ _ _ c.requires (omega arith)
 
 pub bars-requires : goal.bars-requires
 bars-requires c =
@@ -61,7 +41,7 @@ kept : (c : Joined-old-ne0)
     ≡ (λ w. keeping c.args.from c.args.v (nogoods_of c.args.self.stored c.args.nogoods.now w))
 kept c =
     let self = c.args.self in
-    let r = in-range _ _ _ _ _ _ c.requires (omega arith) in
+    let r = in_range _ _ _ _ _ _ c.requires (omega arith) in
     let coherent = (fits-sound c.args.own self c.args.nogoods.now c.requires.places c.requires.agent).coherent in
     elim c.if-old-ne0.branch [
       | then-old-ne0+then-old-v u ↦

@@ -5,14 +5,15 @@ use native.Mathlib.Omega.{arith}
 use lib.Dec.{eqb}
 use lib.ListN.{length, length-drop}
 use Rattle.std.specs.List.{position_or_len}
-use Rattle.cases.proofs.Reading.{end-is, rest-is}
+use Rattle.cases.proofs.Reading.{end-is}
+use Rattle.std.proofs.lemmas.List.{take_rest}
 use Rattle.cases.proofs.lines.line_end.Goals as goal
 
 pub returns : goal.returns
 returns c =
-    let e = ap (position_or_len (λ b. eqb b 10)) (rest-is c.args.text.now c.args.from) in
+    let e = ap (position_or_len (λ b. eqb b 10)) (take_rest c.args.text.now c.args.from) in
     let n = length-drop c.args.from c.args.text.now in (
       omega arith,
-      omega (arith, c.line_length.ensures.1, ap length (rest-is c.args.text.now c.args.from), n),
+      omega (arith, c.line_length.ensures.1, ap length (take_rest c.args.text.now c.args.from), n),
       ap (λ (k : ℕ). c.args.from + k) (c.line_length.ensures.0 ∙ e) ∙ end-is _ _,
     )

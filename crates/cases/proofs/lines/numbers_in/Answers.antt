@@ -2,7 +2,8 @@
 use mathlib.Core.Path.{refl, sym, ap, ◌∙◌}
 use native.Mathlib.Omega.{arith}
 use Rattle.cases.specs.Lines.{no_numbers, numbers_in, value_from}
-use Rattle.cases.proofs.Reading.{rest-is, none_left, number_more, no_number, all-numbers}
+use Rattle.std.proofs.lemmas.List.{take_rest}
+use Rattle.cases.proofs.Reading.{none_left, number_more, no_number, all-numbers}
 use Rattle.cases.proofs.lines.numbers_in.Goals as goal
 use Rattle.cases.proofs.lines.numbers_in.Goals.{else-begins, then-begins}
 
@@ -16,7 +17,7 @@ loop-i-preserved c =
     let t = c.loop-i-test.true in
     elim c.if-begins.branch [
       | then-begins w ↦
-          rw (w.before-is, w.n-is, w.with_number-n.ensures, w.number_at.ensures ∙ ap (value_from 0) (rest-is c.args.line.now l.i))
+          rw (w.before-is, w.n-is, w.with_number-n.ensures, w.number_at.ensures ∙ ap (value_from 0) (take_rest c.args.line.now l.i))
           (l.invariant ∙ number_more _ _ t l.before l.n (sym c.begins.ensures ∙ w.if-begins.true))
       | else-begins w ↦ rw (w.before-is, w.n-is) (l.invariant ∙ no_number _ _ t l.before l.n (sym c.begins.ensures ∙ w.if-begins.false))
     ]

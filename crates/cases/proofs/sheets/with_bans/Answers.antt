@@ -1,11 +1,8 @@
 -- The records are added slot by slot. Invariant: those added so far, with those left, come to the same.
-use mathlib.Core.Path.{refl, sym, ◌∙◌}
+use mathlib.Core.Path.{sym, ◌∙◌}
 use native.Mathlib.Omega.{arith}
 use Rattle.cases.proofs.Building.{no-bans, ban-more, last-ban}
 use Rattle.cases.proofs.sheets.with_bans.Goals as goal
-
-pub loop-v-init : goal.loop-v-init
-loop-v-init c = refl
 
 pub loop-v-preserved : goal.loop-v-preserved
 loop-v-preserved c =

@@ -1,13 +1,10 @@
 -- The bytes that a line gives. Invariant: what is there so far, with what the letters left give, comes to the same.
-use mathlib.Core.Path.{refl, sym, ◌∙◌}
+use mathlib.Core.Path.{sym, ◌∙◌}
 use native.Mathlib.Omega.{arith}
 use Rattle.cases.specs.Sheets.{with_hex}
 use Rattle.cases.proofs.Reading.{none_left}
 use Rattle.cases.proofs.Building.{hex-goes, hex-ends}
 use Rattle.cases.proofs.sheets.with_hex.Goals as goal
-
-pub loop-b-init : goal.loop-b-init
-loop-b-init c = refl
 
 pub loop-b-preserved : goal.loop-b-preserved
 loop-b-preserved c =

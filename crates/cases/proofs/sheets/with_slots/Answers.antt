@@ -6,7 +6,7 @@ use lib.ListN.{set}
 use lib.Seq.{sets}
 use Rattle.cases.specs.declared.sheets.Sheet.{Sheet}
 use Rattle.cases.specs.Sheets.{slots_sheet}
-use Rattle.cases.proofs.Building.{same-sheet, counts_from, counts-done, count-goes}
+use Rattle.cases.proofs.Building.{same-sheet, counts_from, counts-done}
 use borrow.Author.Rules.{rules}
 use Rattle.cases.proofs.sheets.with_slots.Goals as goal
 
@@ -18,12 +18,6 @@ loop-i-init c =
       search rules,
       ap (λ (s : Sheet). sets (set (set s.bytes 0 (n.count % 256)) 1 1) 8 (counts_from n 0)) (sym c.blank-o.ensures),
     )
-
-pub loop-i-preserved : goal.loop-i-preserved
-loop-i-preserved c =
-    let l = c.loop-i in
-    let n = c.args.n in
-    (search rules, l.invariant.1, l.invariant.2 ∙ count-goes n (search rules) l.o.bytes l.i c.loop-i-test.true)
 
 pub returns : goal.returns
 unfolding slots_sheet

@@ -4,17 +4,8 @@ use Prim.Native.Nat.{pred, ◌-◌, ◌≤◌}
 use mathlib.Core.Path.{◌≡◌}
 use native.Mathlib.Numerals.{sub-one}
 use native.Mathlib.Omega.{arith}
-use lib.Count.{trailing_le}
 use Rattle.choosing.proofs.Marks.{marks, first-low, first-high, first-none}
 use Rattle.choosing.proofs.Bars.first.Goals as goal
-
-pub overflow_cast-result : goal.overflow_cast-result
-unfolding marks
-overflow_cast-result c = omega (arith, trailing_le 64 (marks c.args.self.low (c.args.w - 1)))
-
-pub overflow_add-result : goal.overflow_add-result
-unfolding marks
-overflow_add-result c = omega (arith, trailing_le 64 (marks c.args.self.low (c.args.w - 1)))
 
 pub returns-then-low-ne0 : goal.returns-then-low-ne0
 unfolding marks
@@ -22,14 +13,6 @@ returns-then-low-ne0 c =
     let args = c.args in
     let some-low : 1 ≤ marks args.self.low (args.w - 1) = omega arith in
     rw (sub-one args.w) (first-low args.self (pred args.w) (omega arith) (rw (sub-one args.w) at some-low))
-
-pub overflow_cast-result-then-high-ne0 : goal.overflow_cast-result-then-high-ne0
-unfolding marks
-overflow_cast-result-then-high-ne0 c = omega (arith, trailing_le 64 (marks c.args.self.high (c.args.w - 1)))
-
-pub overflow_add-result-then-high-ne0 : goal.overflow_add-result-then-high-ne0
-unfolding marks
-overflow_add-result-then-high-ne0 c = omega (arith, trailing_le 64 (marks c.args.self.high (c.args.w - 1)))
 
 pub returns-then-high-ne0 : goal.returns-then-high-ne0
 unfolding marks

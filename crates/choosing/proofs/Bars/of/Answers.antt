@@ -1,31 +1,25 @@
 -- `of` is what a view bars.
 -- A walk along the agents that the view names. The invariant: the bytes are those of the view less the agents that are left.
-use Prim.Native.Nat.{◌≤◌}
 use native.Mathlib.Omega.{arith}
-use lib.ListN.{length}
 use Rattle.packed.specs.Packed.{assignment}
 use Rattle.packed.proofs.Digits.{nobody-assigned}
 use Rattle.choosing.proofs.Walking.{walk_begins, walk_ends, near, walk-goes}
 use Rattle.choosing.proofs.Bars.of.Goals as goal
 use Rattle.choosing.proofs.Bars.of.Goals.{In-Some}
 
--- the agent met is above
-met : (c : In-Some)
-    → (c.in-Some.k ≤ length c.args.bans.now) × (1 ≤ assignment c.loop-k.k-iterator.0 c.in-Some.k)
-    × (assignment c.loop-k.k-iterator.0 c.in-Some.k ≤ 8)
-met c =
-    let (_, here, lo, hi) = c.in-Some.ensures.steps.0 in
-    near c.args.own c.args.bans.now (assignment c.args.view) c.loop-k.b (assignment c.loop-k.k-iterator.0) c.requires.able
-    c.requires.view_fits c.loop-k.invariant c.in-Some.k lo hi here
-
 pub loop-k-init : goal.loop-k-init
-loop-k-init c = rw c.into_iter-k-iterator.ensures.into_iter_gives (walk_begins _ _)
+loop-k-init c = rw c.into_iter-k-iterator.ensures.into_iter_gives (walk_begins _ _ _ c.default-b.ensures)
 
 pub bounds-bans-k : goal.bounds-bans-k
-bounds-bans-k c = omega (arith, (met (goal.at.bounds-bans-k c).In-Some).0, c.in-Some.ensures.steps.0)
+bounds-bans-k c =
+    let (_, here, lo, hi) = c.in-Some.ensures.steps.0 in
+    omega (arith, (near _ _ _ _ c.requires.able c.requires.view_fits c.loop-k.invariant.left _ lo hi here).0)
 
 pub barred_at-requires : goal.barred_at-requires
-barred_at-requires c = let m = met (goal.at.barred_at-requires c).In-Some in rw c.in-Some.ensures.steps.1 (m.1, m.2)
+barred_at-requires c =
+    let ((_, here, lo, hi), value, _) = c.in-Some.ensures.steps in
+    let (_, some, few) = near _ _ _ _ c.requires.able c.requires.view_fits c.loop-k.invariant.left _ lo hi here in
+    rw value (some, few)
 
 pub loop-k-preserved : goal.loop-k-preserved
 loop-k-preserved c =

@@ -1,7 +1,7 @@
 -- `nogoods_fit` is the clause on an agent's nogoods.
 -- From value 8 down. The invariant: what is asked of all values is asked of those left.
 use Prim.Native.Nat.{◌-◌}
-use mathlib.Core.Path.{◌≡◌, refl, sym, ◌∙◌}
+use mathlib.Core.Path.{◌≡◌, sym, ◌∙◌}
 use mathlib.Core.Bool.{true, false, false≢true}
 use native.Mathlib.Omega.{arith}
 use borrow.Author.Tests.{le-leb, not-true, not-false}
@@ -11,9 +11,6 @@ use Rattle.clauses.proofs.Clauses.{nogoods-is, stored-out, stored-seen, unstored
 use Rattle.clauses.proofs.agents.nogoods_fit.Invariants.{fits_at}
 use Rattle.clauses.proofs.agents.nogoods_fit.Goals as goal
 use Rattle.clauses.proofs.agents.nogoods_fit.Goals.{then-d-v, else-d-v, else-a-v-eq1-via-then-a-v-eq1+else-not-within, else-a-v-eq1-via-else-a-v-eq1}
-
-pub loop-v-init : goal.loop-v-init
-loop-v-init c = refl
 
 pub returns-then-not-within : goal.returns-then-not-within
 returns-then-not-within c =

@@ -4,13 +4,10 @@ use Prim.Native.Nat.{◌*◌, ◌-◌}
 use mathlib.Core.Path.{sym, ◌∙◌}
 use native.Mathlib.Nat.{one-mul}
 use native.Mathlib.Omega.{arith}
-use lib.Pow.{pow_pos, shl_exact}
+use lib.Pow.{shl_exact}
 use Rattle.agent.specs.Abstract.{assigned}
 use Rattle.clauses.proofs.Clauses.{lhs-is}
 use Rattle.clauses.proofs.channels.lhs_fits.Goals as goal
-
-pub nonzero_rem-domains : goal.nonzero_rem-domains
-nonzero_rem-domains c = rw (shl_exact {a = 1} 1 (4 * (c.args.j - 1)) 64 (omega arith) (omega arith), one-mul) (pow_pos (4 * (c.args.j - 1)))
 
 pub returns : goal.returns
 unfolding assigned

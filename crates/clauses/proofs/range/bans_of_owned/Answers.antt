@@ -5,18 +5,13 @@ use mathlib.Core.Path.{◌≡◌, sym, ap, ◌∙◌}
 use mathlib.Core.Bool.{and-true}
 use mathlib.Core.List.{List}
 use native.Mathlib.Omega.{arith}
-use native.Mathlib.Numerals.{sub-one}
 use lib.Dec.{eqb}
 use lib.ListN.{get_or}
-use Rattle.base.specs.Finite.{all_to}
 use Rattle.base.proofs.Peeling.{all_to-over}
 use Rattle.problem.specs.Problem.{domain, word_at, word_owned}
 use Rattle.clauses.proofs.Overlaid.{overlaid}
 use Rattle.clauses.proofs.range.bans_of_owned.Invariants.{word}
 use Rattle.clauses.proofs.range.bans_of_owned.Goals as goal
-
-pub loop-k-init : goal.loop-k-init
-loop-k-init c = λ p e o b. ap (λ (m : ℕ). all_to m (word p c.args.j)) (sym (sub-one c.args.j))
 
 pub loop-k-preserved : goal.loop-k-preserved
 unfolding word_at

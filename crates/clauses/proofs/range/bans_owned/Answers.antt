@@ -1,11 +1,10 @@
 -- From the first agent up. The invariant: those before the k-th pass.
 use Prim.Native.Nat.{ℕ, suc, ◌+◌, ◌<◌}
-use mathlib.Core.Path.{◌≡◌, refl, sym, ◌∙◌}
+use mathlib.Core.Path.{◌≡◌, sym, ◌∙◌}
 use mathlib.Core.List.{List}
 use native.Mathlib.Omega.{arith}
 use native.Mathlib.Numerals.{add-one}
 use lib.ListN.{get_or}
-use Rattle.base.specs.Finite.{all_to}
 use Rattle.problem.specs.Problem.{Problem, max_agents, domain, bans_owned}
 use Rattle.clauses.specs.Parts.{Columns, Beyond}
 use Rattle.clauses.proofs.Each.{all_to-more, all_to-misses}
@@ -20,10 +19,6 @@ owned-columns p domains k x e c = rw (domain-next p domains k e) c
 owned-rows : (p : Problem) (domains rows : List ℕ) → p.domains ≡ domains → ((i : ℕ) → i < 12 → Beyond (get_or domains i 0) (get_or rows i 0))
     → (i : ℕ) → i < 12 → Beyond (domain p (suc i)) (get_or rows i 0)
 owned-rows p domains rows e b i h = rw (← add-one i, domain-next p domains i e) (b i h)
-
-pub loop-k-init : goal.loop-k-init
-unfolding all_to
-loop-k-init c = λ p e f. refl
 
 pub returns-then-not-bans_of_owned : goal.returns-then-not-bans_of_owned
 unfolding bans_owned max_agents

@@ -1,26 +1,34 @@
 -- `domain_digits` has the domains as digits.
 -- From agent 12 down, a digit each.
-use Prim.Native.Nat.{◌-◌, ◌%◌}
-use mathlib.Core.Path.{refl}
-use lib.ListN.{get_or}
+use Prim.Native.Nat.{ℕ, ◌-◌, ◌%◌, ◌^◌, ◌<◌}
+use mathlib.Core.Path.{◌≡◌, sym, ap}
 use native.Mathlib.Omega.{arith}
-use Rattle.clauses.proofs.Ranges.{none_yet, room, one_more, all_digits}
+use lib.ListN.{length}
+use Rattle.clauses.proofs.Ranges.{room, one_more, all_digits, from-end}
 use Rattle.clauses.proofs.range.domain_digits.Goals as goal
+use Rattle.clauses.proofs.range.domain_digits.Goals.{In-Some}
 
-pub loop-i-init : goal.loop-i-init
-loop-i-init c = none_yet _
+-- a digit more has room
+fits : (c : In-Some) → c.loop-d.word < 16 ^ 11
+fits c =
+    let s = from-end _ _ _ _ c.loop-d.invariant.1 c.in-Some.ensures.steps in
+    room _ _ c.loop-d.word (omega (arith, s.2)) c.loop-d.invariant.0
 
 pub overflow_mul-word : goal.overflow_mul-word
-overflow_mul-word c = omega (arith, room _ c.loop-i.i c.loop-i.word c.loop-i-test.true c.loop-i.invariant)
-
-pub bounds-domains-i : goal.bounds-domains-i
-bounds-domains-i c = omega (arith, c.loop-i.invariant.few)
+overflow_mul-word c = record { fits = omega (arith, fits (goal.at.overflow_mul-word c).In-Some) }
 
 pub overflow_add-word : goal.overflow_add-word
-overflow_add-word c = omega (arith, room _ c.loop-i.i c.loop-i.word c.loop-i-test.true c.loop-i.invariant)
+overflow_add-word c = record { fits = omega (arith, fits (goal.at.overflow_add-word c).In-Some) }
 
-pub loop-i-preserved : goal.loop-i-preserved
-loop-i-preserved c = one_more _ c.loop-i.i c.loop-i.word (get_or c.args.domains.now (c.loop-i.i - 1) 0 % 16) c.loop-i-test.true c.loop-i.invariant refl
+pub loop-d-preserved : goal.loop-d-preserved
+loop-d-preserved c =
+    let left = c.loop-d.d-iterator.iter.rest.now in
+    let others = c.next.new.self.iter.rest.now in
+    let s = from-end c.args.domains.now left others c.in-Some.d.now c.loop-d.invariant.1 c.in-Some.ensures.steps in
+    let down : length left - 1 ≡ length others = omega (arith, s.2) in
+    let some-left : 0 < length left = omega (arith, s.2) in
+    let more = one_more c.args.domains.now (length left) c.loop-d.word (c.in-Some.d.now % 16) some-left c.loop-d.invariant.0 (ap (λ (d : ℕ). d % 16) (sym s.1)) in
+    (rw down at more, s.0)
 
 pub returns : goal.returns
-returns c = λ p e l k. all_digits p _ c.loop-i.i c.loop-i.word c.loop-i.invariant (omega arith) e l k
+returns c = λ p e l k. all_digits p _ _ c.loop-d.word c.loop-d.invariant.0 c.in-None.ensures.steps.0 e l k

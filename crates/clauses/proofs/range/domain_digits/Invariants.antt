@@ -1,7 +1,11 @@
 -- `domain_digits` has the domains as digits.
--- From agent 12 down, a digit each.
+-- From agent 12 down, a digit each: those that are left are the first ones.
+use mathlib.Core.Path.{◌≡◌}
+use lib.ListN.{length, take}
 use Rattle.clauses.proofs.Ranges.{Digits}
 use Rattle.clauses.proofs.range.domain_digits.Given as goal
 
-abbrev pub invariant-loop-i : goal.invariant-loop-i
-invariant-loop-i l = Digits l.domains l.i l.word
+abbrev pub invariant-loop-d : goal.invariant-loop-d
+invariant-loop-d l =
+    Digits l.domains (length l.d-iterator.iter.rest.now) l.word
+    × (take (length l.d-iterator.iter.rest.now) l.domains ≡ l.d-iterator.iter.rest.now)

@@ -1,15 +1,10 @@
 -- From the first agent up. The invariant: those before the k-th pass.
-use mathlib.Core.Path.{◌≡◌, refl, sym, ◌∙◌}
+use mathlib.Core.Path.{sym, ◌∙◌}
 use native.Mathlib.Omega.{arith}
-use Rattle.base.specs.Finite.{all_to}
 use Rattle.problem.specs.Problem.{max_agents, domain_in_range}
 use Rattle.clauses.proofs.Each.{all_to-more, all_to-misses}
 use Rattle.clauses.proofs.Ranges.{domain-next}
 use Rattle.clauses.proofs.range.domains_in_range.Goals as goal
-
-pub loop-k-init : goal.loop-k-init
-unfolding all_to
-loop-k-init c = λ p e f. refl
 
 pub returns-then-not-domain_in_range : goal.returns-then-not-domain_in_range
 unfolding max_agents
@@ -23,7 +18,3 @@ loop-k-preserved c =
     λ p e f.
     all_to-more c.loop-k.k (domain_in_range p) (c.loop-k.invariant p e f)
     (sym (c.domain_in_range.ensures p e (domain-next p c.args.domains.now c.loop-k.k f)) ∙ c.if-not-domain_in_range.false)
-
-pub returns : goal.returns
-unfolding max_agents
-returns c = λ p e f. let all : c.loop-k.k ≡ 12 = omega arith in sym (rw all at (c.loop-k.invariant p e f))

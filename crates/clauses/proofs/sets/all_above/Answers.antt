@@ -2,12 +2,9 @@
 use mathlib.Core.Path.{sym}
 use native.Mathlib.Omega.{arith}
 use native.Mathlib.Nat.{one-mul}
-use lib.Pow.{pow_pos, shl_exact}
+use lib.Pow.{shl_exact}
 use Rattle.clauses.proofs.Words.{in-above}
 use Rattle.clauses.proofs.sets.all_above.Goals as goal
-
-pub nonzero_rem-result : goal.nonzero_rem-result
-nonzero_rem-result c = rw (shl_exact {a = 1} 1 c.args.i 16 (omega arith) (omega arith), one-mul) (pow_pos c.args.i)
 
 pub returns : goal.returns
 returns c =

@@ -6,9 +6,6 @@ use Rattle.engine.specs.Lines.{ahead}
 use Rattle.engine.proofs.Ahead.{ahead-down, ahead_none, found-later}
 use Rattle.engine.proofs.lines.next_visit.Goals as goal
 
-pub loop-from-init : goal.loop-from-init
-loop-from-init c = ap (ahead c.args.quota.now c.args.n c.args.sender) c.if-left-ne0.false
-
 pub returns-then-row-ne0 : goal.returns-then-row-ne0
 returns-then-row-ne0 c =
     found-later (c.loop-from.invariant ∙ ahead-down _ _ c.loop-from.from _ c.loop-from-test.true refl)

@@ -1,10 +1,6 @@
 -- The rows before the next one are clean.
-use borrow.Author.Rules.{rules}
-use Rattle.engine.proofs.Held.{cleaning-starts, one-cleaned, all-cleaned}
+use Rattle.engine.proofs.Held.{one-cleaned, all-cleaned}
 use Rattle.engine.proofs.tests.cleaned.Goals as goal
-
-pub loop-i-init : goal.loop-i-init
-loop-i-init c = cleaning-starts _ (search rules)
 
 pub loop-i-preserved : goal.loop-i-preserved
 loop-i-preserved c = one-cleaned _ _ _ c.lines_of.result c.loop-i.invariant c.loop-i-test.true c.lines_of.ensures

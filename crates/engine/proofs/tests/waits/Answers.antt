@@ -1,26 +1,51 @@
 -- From the last row down: all rows are idle if those left are.
+use Prim.Native.Nat.{◌-◌, ◌<◌}
 use mathlib.Core.Bool.{not}
-use mathlib.Core.Path.{sym, ap, ◌∙◌}
+use lib.Dec.{eqb}
+use mathlib.Core.Path.{◌≡◌, refl, sym, ap, ◌∙◌}
 use native.Mathlib.Omega.{arith}
 use borrow.Author.Rules.{rules}
 use borrow.Author.Tests.{eq-eqb, ne_eqb}
+use lib.ListN.{length, take}
 use Rattle.base.proofs.Loops.{all_to-goes, all_to-fails}
 use Rattle.base.proofs.Peeling.{all_to-over}
-use Rattle.engine.proofs.Held.{row_idle}
+use Rattle.clauses.proofs.Ranges.{from-end}
+use Rattle.network_laws.specs.Held.{Clean}
+use Rattle.engine.proofs.Held.{idle_row, row_idle}
 use Rattle.engine.proofs.tests.waits.Goals as goal
+use Rattle.engine.proofs.tests.waits.Goals.{In-Some}
 
-pub returns-then-counts-i-ne0 : goal.returns-then-counts-i-ne0
-returns-then-counts-i-ne0 c =
-    λ clean. let loop = c.loop-i in
-    let low = c.loop-i-test.true in
-    sym (ap not (loop.invariant clean ∙ all_to-fails loop.i _ low (row_idle _ clean loop.i low (search rules) ∙ ne_eqb _ 0 c.if-counts-i-ne0.true)))
+-- the row met is that of the last sender left, and is idle where its word is 0
+row : (c : In-Some) → Clean c.args.counts.now
+    → (0 < length c.loop-row.row-iterator.iter.rest.now)
+    × (idle_row c.args.counts.now (length c.loop-row.row-iterator.iter.rest.now) ≡ eqb c.in-Some.row.now 0)
+row c clean =
+    let left = c.loop-row.row-iterator.iter.rest.now in
+    let s = from-end c.args.counts.now left c.next.new.self.iter.rest.now c.in-Some.row.now c.loop-row.invariant.0 c.in-Some.ensures.steps in
+    let low : 0 < length left = omega (arith, s.2) in
+    (low, rw s.1 at (row_idle _ clean (length left) low (search rules)))
 
-pub loop-i-preserved : goal.loop-i-preserved
-loop-i-preserved c =
-    λ clean. let loop = c.loop-i in
-    let low = c.loop-i-test.true in
-    loop.invariant clean ∙ all_to-goes loop.i _ low (row_idle _ clean loop.i low (search rules) ∙ eq-eqb _ 0 c.if-counts-i-ne0.false)
+pub loop-row-init : goal.loop-row-init
+loop-row-init c =
+    let many : length (take c.args.n c.args.counts.now) ≡ c.args.n = search rules in
+    rw (c.into_iter-row-iterator.ensures.into_iter_gives, c.rev-row-items.ensures.source, c.iter.ensures.rest, many) (refl, λ _. refl)
+
+pub returns-then-row-ne0 : goal.returns-then-row-ne0
+returns-then-row-ne0 c =
+    λ clean. let r = row (goal.at.returns-then-row-ne0 c).In-Some clean in
+    sym (ap not (c.loop-row.invariant.1 clean ∙ all_to-fails _ _ r.0 (r.1 ∙ ne_eqb _ 0 c.if-row-ne0.true)))
+
+pub loop-row-preserved : goal.loop-row-preserved
+loop-row-preserved c =
+    let left = c.loop-row.row-iterator.iter.rest.now in
+    let others = c.next.new.self.iter.rest.now in
+    let s = from-end c.args.counts.now left others c.in-Some.row.now c.loop-row.invariant.0 c.in-Some.ensures.steps in
+    let down : length left - 1 ≡ length others = omega (arith, s.2) in (
+      s.0,
+      λ clean. let r = row (goal.at.loop-row-preserved c).In-Some clean in
+          c.loop-row.invariant.1 clean ∙ rw down at (all_to-goes (length left) (idle_row c.args.counts.now) r.0 (r.1 ∙ eq-eqb _ 0 c.if-row-ne0.false)),
+    )
 
 pub returns : goal.returns
 returns c =
-    λ clean. let loop = c.loop-i in sym (ap not (loop.invariant clean ∙ all_to-over loop.i _ (omega arith)))
+    λ clean. sym (ap not (c.loop-row.invariant.1 clean ∙ all_to-over _ _ (omega (arith, c.in-None.ensures.steps.0))))

@@ -1,9 +1,12 @@
--- From the last row down: all rows are idle if those left are.
+-- From the last row down: those left are the first ones, and all rows are idle if those left are.
 use mathlib.Core.Path.{◌≡◌}
+use lib.ListN.{length, take}
 use Rattle.base.specs.Finite.{all_to}
 use Rattle.network_laws.specs.Held.{Clean}
 use Rattle.engine.proofs.Held.{idle_row}
 use Rattle.engine.proofs.tests.waits.Given as goal
 
-abbrev pub invariant-loop-i : goal.invariant-loop-i
-invariant-loop-i l = Clean l.counts → all_to l.n (idle_row l.counts) ≡ all_to l.i (idle_row l.counts)
+abbrev pub invariant-loop-row : goal.invariant-loop-row
+invariant-loop-row l =
+    (take (length l.row-iterator.iter.rest.now) l.counts ≡ l.row-iterator.iter.rest.now)
+    × (Clean l.counts → all_to l.n (idle_row l.counts) ≡ all_to (length l.row-iterator.iter.rest.now) (idle_row l.counts))

@@ -1,5 +1,5 @@
 -- `put_packed_messages` packs the messages one by one, and puts these records by place.
-use Rattle.std.proofs.Common.{refl, sym, ap, ◌∙◌, ◌*◌}
+use Rattle.std.proofs.Common.{◌≡◌, refl, sym, ap, ◌∙◌, ◌*◌, ◌/◌, arith, length}
 use Rattle.image_format.specs.Reading.{message_length}
 use Rattle.image_forms.specs.Places.{by_place}
 use Rattle.image_forms.specs.Packing.{packed_length}
@@ -13,5 +13,7 @@ pub returns : goal.returns
 unfolding message_length packed_length
 returns c =
     let a = c.args in
-    let first = puts_first _ _ _ (10 * a.count) c.pack_all.ensures (records-long a.s.now a.count c.requires.messages.0) in
-    puts-as refl (ap (by_place a.count 10) first ∙ sym (laid-messages a.s.now a.count c.requires.messages.0)) c.put_by_place.ensures
+    let k = length a.s.now / 16 in
+    let whole : length a.s.now ≡ 16 * (length a.s.now / 16) = omega (arith, c.requires.messages.0) in
+    let first = puts_first _ _ _ (10 * k) c.pack_all.ensures (records-long a.s.now k whole) in
+    puts-as refl (ap (by_place k 10) first ∙ sym (laid-messages a.s.now k whole)) c.put_by_place.ensures

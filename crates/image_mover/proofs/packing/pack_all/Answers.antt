@@ -1,20 +1,14 @@
 -- `pack_all` puts the messages one by one, each packed: so many of them are put.
-use Rattle.std.proofs.Common.{◌+◌, ◌*◌, ◌≤◌, refl, ap, arith, length, rules}
+use Rattle.std.proofs.Common.{◌*◌, ◌/◌, refl, ap, arith, length, rules}
 use native.Mathlib.Nat.{zero-add}
 use Rattle.image_forms.specs.Places.{each_record}
 use Rattle.image_forms.specs.Packing.{packed}
 use Rattle.lent.proofs.Puts.{none_gathered, one_more, all-gathered}
-use Rattle.image_mover.proofs.Parts.{part-is, part_length, part_low}
+use Rattle.image_mover.proofs.Parts.{part-is}
 use Rattle.image_mover.proofs.packing.pack_all.Goals as goal
 
 pub loop-r-init : goal.loop-r-init
 loop-r-init c = none_gathered _ _ 0 0 0 (omega arith) refl refl
-
-pub put_packed-requires : goal.put_packed-requires
-put_packed-requires c =
-    let h : 16 * c.loop-r.r + 16 ≤ length c.args.s.now = omega arith in
-    let p = c.loop-r.invariant.put in
-    record { message = (part_length (16 * c.loop-r.r) 16 c.args.s.now h, part_low c.args.s.now c.requires.messages.1 c.loop-r.r); room = omega (arith, p.behind, p.kept) }
 
 pub loop-r-preserved : goal.loop-r-preserved
 loop-r-preserved c = one_more c.loop-r.invariant _ _ c.put_packed.ensures (rw zero-add (ap packed (part-is (16 * c.loop-r.r) 16 c.args.s.now))) refl (omega arith)
@@ -22,5 +16,5 @@ loop-r-preserved c = one_more c.loop-r.invariant _ _ c.put_packed.ensures (rw ze
 pub returns : goal.returns
 unfolding each_record
 returns c =
-    let all = all-gathered c.loop-r.invariant (10 * c.args.count) c.args.count (omega arith) (omega arith) in
+    let all = all-gathered c.loop-r.invariant (10 * (length c.args.s.now / 16)) (length c.args.s.now / 16) (omega arith) (omega arith) in
     search (rules, all.put, all.same)

@@ -1,20 +1,14 @@
 -- `put_all_unpacked` puts the messages one by one, each unpacked: so many of them are put.
-use Rattle.std.proofs.Common.{◌+◌, ◌*◌, ◌≤◌, refl, ap, arith, length}
+use Rattle.std.proofs.Common.{◌*◌, refl, ap, arith}
 use native.Mathlib.Nat.{zero-add}
 use Rattle.image_forms.specs.Places.{each_record}
 use Rattle.image_forms.specs.Packing.{unpacked}
 use Rattle.lent.proofs.Puts.{none_gathered, one_more, all-gathered}
-use Rattle.image_mover.proofs.Parts.{part-is, part_length}
+use Rattle.image_mover.proofs.Parts.{part-is}
 use Rattle.image_mover.proofs.packing.put_all_unpacked.Goals as goal
 
 pub loop-r-init : goal.loop-r-init
 loop-r-init c = none_gathered _ _ 0 0 0 (omega arith) refl refl
-
-pub put_unpacked-requires : goal.put_unpacked-requires
-put_unpacked-requires c =
-    let h : 10 * c.loop-r.r + 10 ≤ length c.args.s.now = omega arith in
-    let p = c.loop-r.invariant.put in
-    record { message = part_length (10 * c.loop-r.r) 10 c.args.s.now h; room = omega (arith, p.behind, p.kept) }
 
 pub loop-r-preserved : goal.loop-r-preserved
 loop-r-preserved c = one_more c.loop-r.invariant _ _ c.put_unpacked.ensures (rw zero-add (ap unpacked (part-is (10 * c.loop-r.r) 10 c.args.s.now))) refl (omega arith)

@@ -1,5 +1,5 @@
 -- `put_packed` puts the bytes before the left side, and the twelve slots of the left side two by two.
-use Rattle.std.proofs.Common.{ℕ, suc, ◌+◌, ◌*◌, ◌<◌, ◌≡◌, refl, ap, [], ◌∷◌, arith, get_or}
+use Rattle.std.proofs.Common.{ℕ, suc, ◌+◌, ◌*◌, ◌≡◌, refl, ap, [], ◌∷◌, arith, get_or}
 use native.Mathlib.Nat.{zero-add}
 use lib.Seq.{length-take-le}
 use Rattle.image_forms.specs.Packing.{front_length, packed}
@@ -8,19 +8,6 @@ use Rattle.image_mover.proofs.packing.put_packed.Goals as goal
 
 pub loop-i-init : goal.loop-i-init
 loop-i-init c = none_gathered _ _ 0 0 0 (omega arith) refl refl
-
-pub overflow_mul-m : goal.overflow_mul-m
-overflow_mul-m c =
-    let high = c.requires.message.1 (5 + 2 * c.loop-i.i) (omega arith) in
-    let h : 16 * get_or c.args.m.now (5 + 2 * c.loop-i.i) 0 < 256 = omega arith in
-    record { fits = h }
-
-pub overflow_add-m : goal.overflow_add-m
-overflow_add-m c =
-    let low = c.requires.message.1 (4 + 2 * c.loop-i.i) (omega arith) in
-    let high = c.requires.message.1 (5 + 2 * c.loop-i.i) (omega arith) in
-    let h : get_or c.args.m.now (4 + 2 * c.loop-i.i) 0 + 16 * get_or c.args.m.now (5 + 2 * c.loop-i.i) 0 < 256 = omega arith in
-    record { fits = h }
 
 pub loop-i-preserved : goal.loop-i-preserved
 loop-i-preserved c =

@@ -3,9 +3,9 @@ use Rattle.std.proofs.Common.{ℕ, ◌≡◌, ◌+◌, ◌-◌, ◌/◌, ◌%◌
 use native.Mathlib.Nat.{zero-add}
 use lib.ListN.{length-drop}
 use lib.Seq.{length-take-le, get_or-drop}
+use Rattle.std.proofs.lemmas.List.{take_rest}
 use Rattle.image_forms.specs.Packing.{front_length, unpacked}
 use Rattle.lent.proofs.Puts.{puts-as, puts_then, none_gathered, one_more, all-gathered}
-use Rattle.image_mover.proofs.Parts.{rest-is}
 use Rattle.image_mover.proofs.packing.put_unpacked.Goals as goal
 
 pub loop-slots-init : goal.loop-slots-init
@@ -15,7 +15,7 @@ pub loop-slots-preserved : goal.loop-slots-preserved
 loop-slots-preserved c =
     let m = c.args.m.now in
     let i = c.loop-slots.slots-index in
-    let here : get_or (take (length m - 4) (drop 4 m)) i 0 ≡ get_or m (4 + i) 0 = rw (rest-is 4 m) (get_or-drop 4 m i 0) in
+    let here : get_or (take (length m - 4) (drop 4 m)) i 0 ≡ get_or m (4 + i) 0 = rw (take_rest m 4) (get_or-drop 4 m i 0) in
     one_more c.loop-slots.invariant _ _ (puts_then c.put.ensures c.put-in-loop-slots.ensures)
     (rw zero-add (ap (λ (b : ℕ). b % 16 ∷ b / 16 ∷ []) here))
     refl
@@ -25,6 +25,6 @@ pub returns : goal.returns
 unfolding unpacked front_length
 returns c =
     let m = c.args.m.now in
-    let long : length (take (length m - 4) (drop 4 m)) ≡ 6 = rw (rest-is 4 m) (omega (arith, length-drop 4 m)) in
+    let long : length (take (length m - 4) (drop 4 m)) ≡ 6 = rw (take_rest m 4) (omega (arith, length-drop 4 m)) in
     let four = puts-as (length-take-le 4 m (omega arith)) refl c.put_all.ensures in
     puts_then four (all-gathered c.loop-slots.invariant 12 6 (omega (arith, long)) (omega (arith, long)))

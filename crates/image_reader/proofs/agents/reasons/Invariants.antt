@@ -4,4 +4,4 @@ use Rattle.image_reader.proofs.Records.{Reasoned}
 use Rattle.image_reader.proofs.agents.reasons.Given as goal
 
 abbrev pub invariant-loop-v : goal.invariant-loop-v
-invariant-loop-v l = record { long : length l.words ≡ 8; reasoned : Reasoned l.s l.at l.words l.v }
+invariant-loop-v l = record { long : length l.words ≡ 8; reasoned : Reasoned l.s 18 l.words l.v }

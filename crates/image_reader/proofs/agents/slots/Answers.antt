@@ -1,19 +1,16 @@
 -- `slots` packs twelve slots, from the last down: what was packed so far.
 use native.Mathlib.Omega.{arith}
-use Rattle.image_reader.proofs.Digits.{none-packed, room, one-packed, all-packed}
+use Rattle.image_reader.proofs.Digits.{room, one-packed, all-packed}
 use Rattle.image_reader.proofs.agents.slots.Goals as goal
 
-pub loop-i-init : goal.loop-i-init
-loop-i-init c = none-packed _ _
-
 pub overflow_mul-word : goal.overflow_mul-word
-overflow_mul-word c = omega (arith, room _ _ c.loop-i.i c.loop-i.word c.loop-i-test.true c.loop-i.invariant)
+overflow_mul-word c = omega (arith, room _ c.loop-i.i c.loop-i.word c.loop-i-test.true c.loop-i.invariant)
 
 pub overflow_add-word : goal.overflow_add-word
-overflow_add-word c = omega (arith, room _ _ c.loop-i.i c.loop-i.word c.loop-i-test.true c.loop-i.invariant)
+overflow_add-word c = omega (arith, room _ c.loop-i.i c.loop-i.word c.loop-i-test.true c.loop-i.invariant)
 
 pub loop-i-preserved : goal.loop-i-preserved
-loop-i-preserved c = rw c.from.ensures (one-packed _ _ c.loop-i.i c.loop-i.word _ c.loop-i-test.true c.loop-i.invariant c.byte.ensures)
+loop-i-preserved c = rw c.from.ensures (one-packed _ c.loop-i.i c.loop-i.word _ c.loop-i-test.true c.loop-i.invariant c.byte.ensures)
 
 pub returns : goal.returns
-returns c = all-packed _ _ c.loop-i.i c.loop-i.word c.loop-i.invariant (omega arith)
+returns c = all-packed _ c.loop-i.i c.loop-i.word c.loop-i.invariant (omega arith)

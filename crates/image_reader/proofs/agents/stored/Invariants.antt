@@ -6,4 +6,4 @@ use Rattle.image_reader.proofs.Masks.{marked}
 use Rattle.image_reader.proofs.agents.stored.Given as goal
 
 abbrev pub invariant-loop-v : goal.invariant-loop-v
-invariant-loop-v l = l.mask ≡ mask_from (marked l.s l.at) (suc l.v) (8 - l.v)
+invariant-loop-v l = l.mask ≡ mask_from (marked l.s 18) (suc l.v) (8 - l.v)

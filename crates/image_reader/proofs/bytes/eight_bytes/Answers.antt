@@ -1,7 +1,20 @@
--- `eight_bytes` is the number that they hold: four and four.
+-- `eight_bytes` is the number that they hold.
 use native.Mathlib.Omega.{arith}
 use Rattle.image_reader.proofs.Windows.{number-eight}
 use Rattle.image_reader.proofs.bytes.eight_bytes.Goals as goal
 
 pub returns : goal.returns
-returns c = omega (arith, number-eight c.args.s.now c.args.k, c.four_bytes.ensures, c.four_bytes-2.ensures)
+returns c =
+    omega (
+      arith,
+      number-eight c.args.s.now c.args.k,
+      c.from_le_bytes.ensures,
+      c.byte.ensures,
+      c.byte-2.ensures,
+      c.byte-3.ensures,
+      c.byte-4.ensures,
+      c.byte-5.ensures,
+      c.byte-6.ensures,
+      c.byte-7.ensures,
+      c.byte-8.ensures,
+    )

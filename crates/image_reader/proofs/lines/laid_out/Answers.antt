@@ -1,9 +1,8 @@
 -- `laid_out` says of each line how many messages it has, and where they stand.
 -- The invariant: so many lines are looked at, and the next one's messages stand from `start` on.
-use native.Mathlib.Omega.{arith}
 use lib.ListN.{length-replicate}
 use Rattle.image_reader.specs.Layout.{empty_line}
-use Rattle.image_reader.proofs.Laying.{none-laid, one-laid, all_laid}
+use Rattle.image_reader.proofs.Laying.{none-laid, one-laid}
 use Rattle.image_reader.proofs.lines.laid_out.Goals as goal
 
 pub loop-k-init : goal.loop-k-init
@@ -12,7 +11,4 @@ loop-k-init c = none-laid c.args.s.now c.args.n _ c.requires (length-replicate 1
 pub loop-k-preserved : goal.loop-k-preserved
 loop-k-preserved c =
     one-laid c.args.s.now c.args.n c.loop-k.lines c.loop-k.start c.loop-k.k _ _ c.loop-k.invariant c.loop-k-test.true
-    c.two_bytes.ensures c.line_length-count.ensures.0 c.line_length-count.ensures.1
-
-pub returns : goal.returns
-returns c = all_laid c.args.s.now c.args.n c.loop-k.lines c.loop-k.start c.loop-k.k (omega arith) c.loop-k.invariant
+    c.two_bytes.ensures (rw c.tail.ensures at c.line_length-count.ensures.0) c.line_length-count.ensures.1

@@ -4,4 +4,4 @@ use Rattle.image_reader.proofs.Chains.{Counting}
 use Rattle.image_reader.proofs.lines.line_length.Given as goal
 
 abbrev pub invariant-loop-before : goal.invariant-loop-before
-invariant-loop-before l = Counting l.s l.at l.before
+invariant-loop-before l = Counting l.s 0 l.before

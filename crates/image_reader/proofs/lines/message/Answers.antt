@@ -10,14 +10,14 @@ use Rattle.image_reader.proofs.lines.message.Goals as goal
 
 pub returns-in-1 : goal.returns-in-1
 unfolding message_of
-returns-in-1 c = is-info c.args.s.now c.args.at _ _ c.byte.ensures c.byte-value.ensures c.in-1.is
+returns-in-1 c = is-info c.args.s.now _ _ c.byte.ensures c.byte-value.ensures c.in-1.is
 
 pub returns-in-2 : goal.returns-in-2
 unfolding message_of unpacked
 returns-in-2 c =
     ap (λ (x : ℕ). Back (assignment x) c.byte-value.result) (in_three c.slots-digits.result)
-    ∙ is-back c.args.s.now c.args.at _ _ c.byte.ensures c.byte-value.ensures c.in-2.is _ c.slots-digits.ensures.0
+    ∙ is-back c.args.s.now _ _ c.byte.ensures c.byte-value.ensures c.in-2.is _ (rw c.tail.ensures at c.slots-digits.ensures.0)
 
 pub returns-in_default : goal.returns-in_default
 unfolding message_of
-returns-in_default c = is-link c.args.s.now c.args.at _ _ c.byte.ensures c.byte-value.ensures (omega arith) (omega arith)
+returns-in_default c = is-link c.args.s.now _ _ c.byte.ensures c.byte-value.ensures (omega arith) (omega arith)

@@ -1,6 +1,6 @@
 -- `put_agents` puts the records of agents 1 to n: so many of them are put.
 use Rattle.std.proofs.Common.{◌≡◌, length, take, refl, arith}
-use Rattle.lent.proofs.Puts.{none_gathered, one_more, all-gathered}
+use Rattle.lent.proofs.Puts.{none_gathered, one_more}
 use Rattle.image_writer.proofs.Records.{agent-here}
 use Rattle.image_writer.proofs.agents.put_agents.Goals as goal
 
@@ -12,6 +12,3 @@ loop-a-preserved c =
     let r = c.args.r.now in
     let long : length (take r.count r.agents) ≡ r.count = omega arith in
     one_more c.loop-a.invariant _ _ c.put_agent.ensures (agent-here r c.loop-a.a-index _ long (omega arith)) refl (omega arith)
-
-pub returns : goal.returns
-returns c = all-gathered c.loop-a.invariant _ _ (omega arith) (omega arith)

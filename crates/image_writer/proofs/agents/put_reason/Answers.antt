@@ -1,15 +1,14 @@
 -- `put_reason` puts a reason: 1 and its left side, or zeros.
 use Rattle.std.proofs.Common.{refl}
+use Rattle.problem.specs.Problem.{max_agents}
+use Rattle.image_format.specs.Image.{reason_bytes}
 use Rattle.lent.proofs.Puts.{puts_then, puts-as}
-use Rattle.image_writer.proofs.Records.{reason-put, no-reason-put}
 use Rattle.image_writer.proofs.agents.put_reason.Goals as goal
-use Rattle.image_writer.proofs.agents.put_reason.Goals.{then-stored, else-stored}
 
-pub returns : goal.returns
-returns c =
-    let a = c.args in
-    let put = puts_then c.put.ensures c.put_slots.ensures in
-    elim c.if-stored.branch [
-      | then-stored w ↦ puts-as refl (reason-put a.stored a.word _ w.if-stored.true w.put_slots-is) put
-      | else-stored w ↦ puts-as refl (no-reason-put a.stored a.word _ w.if-stored.false w.put_slots-is) put
-    ]
+pub returns-in-Some : goal.returns-in-Some
+unfolding reason_bytes
+returns-in-Some c = puts-as refl (rw c.in-Some.is refl) (puts_then c.put.ensures c.put_slots.ensures)
+
+pub returns-in-None : goal.returns-in-None
+unfolding reason_bytes max_agents
+returns-in-None c = puts-as refl (rw c.in-None.is refl) c.put_all.ensures

@@ -11,7 +11,7 @@ loop-v-init c = none_gathered _ _ 0 1 0 (omega arith) refl refl
 pub loop-v-preserved : goal.loop-v-preserved
 loop-v-preserved c =
     let a = c.args in
-    one_more c.loop-v.invariant _ _ c.put_reason.ensures (reason-at a.stored a.nogoods.now c.loop-v.v) refl (omega arith)
+    one_more c.loop-v.invariant _ _ c.put_reason.ensures (rw c.then_some.ensures (reason-at a.stored a.nogoods.now c.loop-v.v)) refl (omega arith)
 
 pub returns : goal.returns
 unfolding max_domain

@@ -10,9 +10,9 @@ use Rattle.random_rails.proofs.rails.delivered.Goals as goal
 pub returns : goal.returns
 returns c =
     let l = c.args.l in
-    let ends = c.chosen-ends.result in
+    let ends = c.chosen-from.result in
     let accepted = accepts c.deliver-out.result.refusal c.is_none-accepted.result c.is_none-accepted.ensures in
-    goes l _ ends.from ends.to (refused_number c.deliver-out.result.refusal) (not c.refusal_right-wrong.result) c.deliver-out.ensures.delivers_as
+    goes l _ ends.0 ends.1 (refused_number c.deliver-out.result.refusal) (not c.refusal_right-wrong.result) c.deliver-out.ensures.delivers_as
     (ap (λ n. l.accepted + n) (c.from.ensures ∙ ap bool_byte accepted))
     (ap (λ n. l.refused + n) (c.from-2.ensures ∙ ap (λ b. bool_byte (not b)) accepted))
     (ap (λ n. l.wrong + n) c.from-3.ensures)

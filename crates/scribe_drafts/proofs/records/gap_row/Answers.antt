@@ -8,5 +8,4 @@ pub returns : goal.returns
 unfolding gap_record
 returns c =
     let q = c.args.q in
-    c.pack.ensures
-    ∙ rw (c.gap_byte.ensures ∙ ap gap_byte (gap-kept q.least c.requires.2), c.gap_byte-2.ensures ∙ ap gap_byte (gap-kept q.greatest c.requires.3)) refl
+    rw (c.gap_byte.ensures ∙ ap gap_byte (gap-kept q.least c.requires.2), c.gap_byte-2.ensures ∙ ap gap_byte (gap-kept q.greatest c.requires.3)) refl

@@ -4,14 +4,14 @@ use mathlib.Core.Path.{sym, ◌∙◌}
 use borrow.Author.Tests.{eqb-true, eqb-false}
 use Rattle.scribe_rules.specs.Words.{is_newline}
 use Rattle.scribe_statements.proofs.Searching.{position-some, position-none}
-use Rattle.scribe_statements.proofs.Pieces.{rest-is}
+use Rattle.std.proofs.lemmas.List.{take_rest}
 use Rattle.scribe_reader.proofs.Walked.{empty_none, next-ended, next-cut, next-last}
 use Rattle.scribe_reader.proofs.lines.next_line.Goals as goal
 use Rattle.scribe_reader.proofs.lines.next_line.Goals.{then-cut, else-cut}
 
 pub returns-in-Some : goal.returns-in-Some
 unfolding is_newline
-returns-in-Some c = next-ended _ _ _ _ (position-some is_newline _ _ c.in-Some.ensures) (rest-is c.args.text.now (c.in-Some.end + 1))
+returns-in-Some c = next-ended _ _ _ _ (position-some is_newline _ _ c.in-Some.ensures) (take_rest c.args.text.now (c.in-Some.end + 1))
 
 pub returns-in-None : goal.returns-in-None
 unfolding is_newline

@@ -1,12 +1,8 @@
 -- By its first word, if there is one. Assumes nothing.
-use Prim.Native.Nat.{ℕ}
-use mathlib.Core.Path.{sym, ap, ◌∙◌}
-use mathlib.Core.List.{List}
-use lib.Pointwise.{pointwise}
-use Rattle.std.specs.Prelude.{nat_eq}
+use mathlib.Core.Path.{◌∙◌}
 use Rattle.scribe_rules.specs.Statements.{slots_word, ban_word, gap_word}
 use Rattle.scribe_drafts.specs.Drafting.{draft_in, judged, taken_of}
-use Rattle.scribe_reader.proofs.Walked.{says_nothing, says-slots, says-ban, says-gap, says-none}
+use Rattle.scribe_reader.proofs.Walked.{compared, says_nothing, says-slots, says-ban, says-gap, says-none}
 use Rattle.scribe_reader.proofs.lines.with_line.Goals as goal
 
 pub returns-in_default : goal.returns-in_default
@@ -14,16 +10,20 @@ returns-in_default c = says_nothing _ _ c.bare.ensures c.args.draft.now c.in_def
 
 pub returns-then-eq : goal.returns-then-eq
 unfolding slots_word
-returns-then-eq c = c.with_slots.ensures ∙ says-slots _ _ c.bare.ensures (draft_in c.args.draft.now) _ _ c.in-Some.ensures.0 (sym (ap (λ (l : List ℕ). pointwise nat_eq c.in-Some.word.now l) c.as_slice.ensures) ∙ (sym c.eq.ensures ∙ c.if-eq.true))
+returns-then-eq c = c.with_slots.ensures ∙ says-slots _ _ c.bare.ensures (draft_in c.args.draft.now) _ _ c.in-Some.ensures.0
+    (compared _ c.as_slice.ensures c.eq.ensures c.if-eq.true)
 
 pub returns-then-eq-2 : goal.returns-then-eq-2
 unfolding slots_word ban_word
-returns-then-eq-2 c = c.with_ban.ensures ∙ says-ban _ _ c.bare.ensures (draft_in c.args.draft.now) _ _ c.in-Some.ensures.0 (sym (ap (λ (l : List ℕ). pointwise nat_eq c.in-Some.word.now l) c.as_slice.ensures) ∙ (sym c.eq.ensures ∙ c.if-eq.false)) (sym (ap (λ (l : List ℕ). pointwise nat_eq c.in-Some.word.now l) c.as_slice-else-eq.ensures) ∙ (sym c.eq-else-eq.ensures ∙ c.if-eq-2.true))
+returns-then-eq-2 c = c.with_ban.ensures ∙ says-ban _ _ c.bare.ensures (draft_in c.args.draft.now) _ _ c.in-Some.ensures.0
+    (compared _ c.as_slice.ensures c.eq.ensures c.if-eq.false) (compared _ c.as_slice-else-eq.ensures c.eq-else-eq.ensures c.if-eq-2.true)
 
 pub returns-then-eq-3 : goal.returns-then-eq-3
 unfolding slots_word ban_word gap_word
-returns-then-eq-3 c = c.with_gap.ensures ∙ says-gap _ _ c.bare.ensures (draft_in c.args.draft.now) _ _ c.in-Some.ensures.0 (sym (ap (λ (l : List ℕ). pointwise nat_eq c.in-Some.word.now l) c.as_slice.ensures) ∙ (sym c.eq.ensures ∙ c.if-eq.false)) (sym (ap (λ (l : List ℕ). pointwise nat_eq c.in-Some.word.now l) c.as_slice-else-eq.ensures) ∙ (sym c.eq-else-eq.ensures ∙ c.if-eq-2.false)) (sym (ap (λ (l : List ℕ). pointwise nat_eq c.in-Some.word.now l) c.as_slice-else-eq-2.ensures) ∙ (sym c.eq-else-eq-2.ensures ∙ c.if-eq-3.true))
+returns-then-eq-3 c = c.with_gap.ensures ∙ says-gap _ _ c.bare.ensures (draft_in c.args.draft.now) _ _ c.in-Some.ensures.0
+    (compared _ c.as_slice.ensures c.eq.ensures c.if-eq.false) (compared _ c.as_slice-else-eq.ensures c.eq-else-eq.ensures c.if-eq-2.false) (compared _ c.as_slice-else-eq-2.ensures c.eq-else-eq-2.ensures c.if-eq-3.true)
 
 pub returns-else-eq-3 : goal.returns-else-eq-3
 unfolding slots_word ban_word gap_word taken_of judged
-returns-else-eq-3 c = says-none _ _ c.bare.ensures (draft_in c.args.draft.now) _ _ c.in-Some.ensures.0 (sym (ap (λ (l : List ℕ). pointwise nat_eq c.in-Some.word.now l) c.as_slice.ensures) ∙ (sym c.eq.ensures ∙ c.if-eq.false)) (sym (ap (λ (l : List ℕ). pointwise nat_eq c.in-Some.word.now l) c.as_slice-else-eq.ensures) ∙ (sym c.eq-else-eq.ensures ∙ c.if-eq-2.false)) (sym (ap (λ (l : List ℕ). pointwise nat_eq c.in-Some.word.now l) c.as_slice-else-eq-2.ensures) ∙ (sym c.eq-else-eq-2.ensures ∙ c.if-eq-3.false))
+returns-else-eq-3 c = says-none _ _ c.bare.ensures (draft_in c.args.draft.now) _ _ c.in-Some.ensures.0
+    (compared _ c.as_slice.ensures c.eq.ensures c.if-eq.false) (compared _ c.as_slice-else-eq.ensures c.eq-else-eq.ensures c.if-eq-2.false) (compared _ c.as_slice-else-eq-2.ensures c.eq-else-eq-2.ensures c.if-eq-3.false)

@@ -3,4 +3,4 @@ use Rattle.scribe_statements.proofs.Sayings.{counted}
 use Rattle.scribe_statements.proofs.Slots.with_count.Goals as goal
 
 pub returns : goal.returns
-returns c = λ counts e. counted c.args.self counts _ _ e (c.with_domain.ensures counts)
+returns c = λ counts e. counted c.args.self counts e _ _ (c.domains_with.ensures counts e)

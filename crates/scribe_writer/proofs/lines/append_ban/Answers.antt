@@ -1,6 +1,5 @@
 -- `append_ban` puts the word and two places.
 -- The four parts one behind the other.
-use Rattle.problem.specs.Sheet.{byte_at, row_at}
 use Rattle.text.specs.Text.{newline}
 use Rattle.lent.proofs.Puts.{adds_then}
 use Rattle.scribe_rules.specs.Statements.{ban_word}
@@ -8,24 +7,20 @@ use Rattle.scribe_rules.specs.Telling.{ban_line}
 use Rattle.scribe_writer.proofs.Rooms.{room-first, room-rest, room-put}
 use Rattle.scribe_writer.proofs.lines.append_ban.Goals as goal
 
-pub put_all-requires : goal.put_all-requires
-unfolding ban_line ban_word
-put_all-requires c = room-put _ (room-first ban_word _ c.requires.1)
-
 pub append_place-requires : goal.append_place-requires
-unfolding ban_line ban_word byte_at row_at
-append_place-requires c = room-first _ _ (room-rest ban_word _ c.requires.1 c.put_all.ensures)
+unfolding ban_line ban_word
+append_place-requires c = room-first _ _ (room-rest ban_word _ c.requires c.put_all.ensures)
 
 pub append_place-requires-2 : goal.append_place-requires-2
-unfolding ban_line ban_word byte_at row_at
-append_place-requires-2 c = room-first _ _ (room-rest _ _ (room-rest ban_word _ c.requires.1 c.put_all.ensures) c.append_place.ensures)
+unfolding ban_line ban_word
+append_place-requires-2 c = room-first _ _ (room-rest _ _ (room-rest ban_word _ c.requires c.put_all.ensures) c.append_place.ensures)
 
 pub put_all-requires-2 : goal.put_all-requires-2
-unfolding ban_line ban_word byte_at row_at newline
+unfolding ban_line ban_word newline
 put_all-requires-2 c =
-    let rest = room-rest _ _ (room-rest ban_word _ c.requires.1 c.put_all.ensures) c.append_place.ensures in
+    let rest = room-rest _ _ (room-rest ban_word _ c.requires c.put_all.ensures) c.append_place.ensures in
     room-put newline (room-rest _ _ rest c.append_place-2.ensures)
 
 pub returns : goal.returns
-unfolding ban_line ban_word byte_at row_at newline
+unfolding ban_line ban_word newline
 returns c = adds_then c.put_all.ensures (adds_then c.append_place.ensures (adds_then c.append_place-2.ensures c.put_all-2.ensures))

@@ -3,12 +3,8 @@
 use Rattle.text.specs.Text.{decimal}
 use Rattle.lent.proofs.Puts.{adds_then}
 use Rattle.scribe_rules.specs.Telling.{blank, figure}
-use Rattle.scribe_writer.proofs.Rooms.{room-first, room-rest, room-put, room-digits}
+use Rattle.scribe_writer.proofs.Rooms.{room-rest, room-digits}
 use Rattle.scribe_writer.proofs.lines.append_figure.Goals as goal
-
-pub put_all-requires : goal.put_all-requires
-unfolding figure blank
-put_all-requires c = room-put _ (room-first blank (decimal c.args.k) c.requires)
 
 pub append_number-requires : goal.append_number-requires
 unfolding figure blank

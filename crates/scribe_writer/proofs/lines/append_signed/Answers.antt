@@ -4,7 +4,7 @@ use mathlib.Core.List.{◌++◌}
 use native.Mathlib.Omega.{arith}
 use Rattle.lent.proofs.Puts.{adds_then}
 use Rattle.scribe_rules.specs.Telling.{blank, dash, signed_figure}
-use Rattle.scribe_writer.proofs.Rooms.{room-first, room-rest, room-put, room-digits}
+use Rattle.scribe_writer.proofs.Rooms.{room-rest, room-digits}
 use Rattle.scribe_writer.proofs.Signs.{sign-none, sign-some, number_is}
 use Rattle.scribe_writer.proofs.lines.append_signed.Goals as goal
 
@@ -15,10 +15,6 @@ append_figure-requires c = rw (sign-none _ c.if-b-lt128.true) at c.requires
 pub returns-then-b-lt128 : goal.returns-then-b-lt128
 unfolding signed_figure
 returns-then-b-lt128 c = rw (sign-none _ c.if-b-lt128.true) c.append_figure.ensures
-
-pub put_all-requires : goal.put_all-requires
-unfolding signed_figure blank dash
-put_all-requires c = room-put _ (room-first (blank ++ dash) _ (rw (sign-some _ c.if-b-lt128.false (omega arith)) at c.requires))
 
 pub append_number-requires : goal.append_number-requires
 unfolding signed_figure blank dash

@@ -34,10 +34,6 @@ next-count p n i e h =
     counts-first p i (omega (arith, e, h, length-take n p.domains))
     ∙ ap (λ (k : ℕ). figure k ++ counts p (p.count - suc i) (suc (suc i))) (sym (get_or-take n p.domains i 0 (omega (arith, h, length-take n p.domains))))
 
-pub put_all-requires : goal.put_all-requires
-unfolding slots_line slots_word
-put_all-requires c = room-put _ (room-first slots_word _ c.requires.1)
-
 pub loop-domain-init : goal.loop-domain-init
 unfolding slots_line slots_word problem_of
 loop-domain-init c =

@@ -7,14 +7,8 @@ use Rattle.problem.specs.Problem.{with_table}
 use Rattle.problem.specs.Sheet.{fault_number, byte_at, agents_in, without_bans}
 use Rattle.problem.proofs.Walk.{free-none, free-ends}
 use Rattle.sheet.specs.Abstract.{problem_of, outcome, outcome_of}
-use Rattle.sheet.proofs.Walking.{starts, fails, good, goes}
+use Rattle.sheet.proofs.Walking.{starts, fails, goes}
 use Rattle.sheet.proofs.walk.walk.Goals as goal
-
-pub two_bytes-r-requires : goal.two_bytes-r-requires
-two_bytes-r-requires c = omega (arith, starts _ c.requires)
-
-pub two_bytes-records-requires : goal.two_bytes-records-requires
-two_bytes-records-requires c = omega (arith, starts _ c.requires)
 
 pub loop-init : goal.loop-init
 loop-init c =
@@ -25,18 +19,13 @@ pub returns-then-r-eq0 : goal.returns-then-r-eq0
 unfolding with_table byte_at agents_in without_bans problem_of outcome outcome_of
 returns-then-r-eq0 c =
     let more : 0 < c.two_bytes-records.result + 1 - c.loop.counter = omega arith in
-    rw (c.domains_in.ensures.0, c.loop.invariant.rest, free-ends _ _ _ _ more c.if-r-eq0.true)
+    rw (c.domains.ensures.0, c.loop.invariant.rest, free-ends _ _ _ _ more c.if-r-eq0.true)
 
 pub returns-then-not-record_good : goal.returns-then-not-record_good
 unfolding fault_number outcome outcome_of
 returns-then-not-record_good c =
     let bad = sym c.record_good.ensures ∙ c.if-not-record_good.true in
     rw (fails _ _ _ _ c.loop.invariant (omega arith) c.if-r-eq0.false bad)
-
-pub add_record-requires : goal.add_record-requires
-add_record-requires c =
-    let l = c.loop in
-    (good _ _ _ _ l.invariant c.if-r-eq0.false (sym c.record_good.ensures ∙ c.if-not-record_good.false), l.invariant.short)
 
 pub loop-preserved : goal.loop-preserved
 loop-preserved c =

@@ -5,4 +5,4 @@ use Rattle.sheet.proofs.Walking.{Walking}
 use Rattle.sheet.proofs.walk.walk.Given as goal
 
 abbrev pub invariant-loop : goal.invariant-loop
-invariant-loop l = Walking l.s l.bans l.r (l.records + 1 - l.counter)
+invariant-loop l = Walking l.sheet.bytes.now l.bans l.r (l.records + 1 - l.counter)

@@ -3,19 +3,23 @@
 use mathlib.Core.Path.{◌≡◌}
 use native.Mathlib.Numerals.{add-one}
 use native.Mathlib.Omega.{arith}
-use lib.ListN.{length}
+use lib.ListN.{length, length-map, get_or-map}
 use borrow.Author.Rules.{rules}
-use Rattle.sheet_writer.proofs.Sheets.{all_left, less-left, none_left}
+use Rattle.sheet_writer.specs.Rows.{row_of, rows_of}
+use Rattle.sheet_writer.proofs.Sheets.{less-left, none_left}
 use Rattle.sheet_writer.proofs.writing.put_records.Goals as goal
-
-pub loop-r-init : goal.loop-r-init
-loop-r-init c = all_left _ _
 
 pub loop-r-preserved : goal.loop-r-preserved
 loop-r-preserved c =
     let l = c.loop-r in
+    let rows = c.args.rows.now in
+    let long : length (rows_of rows) ≡ length rows = length-map rows row_of in
     let same : length c.put_record.new.out ≡ length l.out = search rules in
-    rw (add-one l.r) (less-left _ _ l.out _ l.r (omega arith) c.requires.1 l.invariant c.put_record.ensures same)
+    let here = get_or-map row_of rows l.r (record { lower = 0; higher = 0; low = 0; high = 0 }) in
+    rw (add-one l.r) (less-left (rows_of rows) _ l.out _ l.r _ _ (omega arith) here (omega arith) l.invariant (rw long c.put_record.ensures) same)
 
 pub returns : goal.returns
-returns c = let l = c.loop-r in none_left _ _ _ l.r (omega arith) l.invariant
+returns c =
+    let l = c.loop-r in
+    let long : length (rows_of c.args.rows.now) ≡ length c.args.rows.now = length-map c.args.rows.now row_of in
+    rw long at (none_left (rows_of c.args.rows.now) _ _ l.r (omega arith) l.invariant)

@@ -1,20 +1,17 @@
 -- By how many there are. Assumes nothing.
-use mathlib.Core.Path.{refl, sym, ap}
-use Prim.Native.Nat.{ℕ}
-use native.Mathlib.Omega.{arith}
-use lib.Dec.{ltb}
+use mathlib.Core.Path.{refl}
 use Rattle.problem.specs.Sheet.{max_records}
 use Rattle.scribe_rules.specs.Drafts.{room_tests}
 use Rattle.scribe_drafts.specs.Drafting.{draft_in}
-use Rattle.scribe_drafts.proofs.Testing.{rows-count, room-of}
+use Rattle.scribe_drafts.proofs.Testing.{not-full, room-of}
 use Rattle.scribe_drafts.proofs.Judging.{last}
 use Rattle.scribe_drafts.proofs.draft.Draft.check_room.Goals as goal
 
 pub returns : goal.returns
 unfolding room_tests draft_in max_records
 returns c =
-    let d = c.args.self.now in
+    let e = not-full _ _ c.is_full.ensures.full c.is_full.ensures.room in
     record {
-      tests = last _ (ap (λ (k : ℕ). ltb k 4224) (sym (rows-count d (omega arith)))) refl c.need.result c.need.ensures;
-      room = room-of d.records _ c.need.result c.need.ensures;
+      tests = last _ e refl c.need.result c.need.ensures;
+      room = room-of _ _ _ e c.need.result c.need.ensures;
     }

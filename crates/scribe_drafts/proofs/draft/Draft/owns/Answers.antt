@@ -1,29 +1,39 @@
 -- By the slot count of the agent; there is none beyond the twelve. Assumes nothing.
-use mathlib.Core.Path.{refl, sym, ◌∙◌}
-use mathlib.Core.Bool.{false≢true}
+use Prim.Native.Nat.{ℕ, ◌-◌, ◌≤◌, ◌<◌}
+use mathlib.Core.Path.{◌≡◌, sym, ap, ◌∙◌}
+use mathlib.Core.Bool.{Bool, true, false≢true}
+use mathlib.Core.List.{List}
 use native.Mathlib.Omega.{arith}
+use lib.ListN.{length, get_or}
+use Rattle.base.specs.Finite.{within}
 use Rattle.base.proofs.Tests.{within-true}
+use Rattle.sheet.specs.Abstract.{problem_of}
 use Rattle.scribe_drafts.specs.Drafting.{problem_in}
 use Rattle.scribe_drafts.proofs.Testing.{not-owned, owned}
 use Rattle.scribe_drafts.proofs.draft.Draft.owns.Goals as goal
 
-pub overflow_sub-a : goal.overflow_sub-a
-overflow_sub-a c = omega (arith, within-true 12 c.args.a (sym c.within.ensures ∙ c.if-within.true))
+-- an agent has a place
+placed : {good : Bool} {n a : ℕ} → good ≡ within n a → good ≡ true → (1 ≤ a) × (a - 1 < n)
+placed {n = n} {a} e t = let w = within-true n a (sym e ∙ t) in (w.0, omega (arith, w))
 
-pub bounds-self-a : goal.bounds-self-a
-bounds-self-a c = omega (arith, within-true 12 c.args.a (sym c.within.ensures ∙ c.if-within.true))
+pub overflow_sub-a : goal.overflow_sub-a
+overflow_sub-a c = (placed c.within.ensures c.if-within.true).0
+
+pub bounds-domains-a : goal.bounds-domains-a
+bounds-domains-a c = (placed c.within.ensures c.if-within.true).1
 
 pub returns-then-within : goal.returns-then-within
-unfolding problem_in
+unfolding problem_in problem_of
 returns-then-within c = (
   c.up_to.ensures.0
-      ∙ owned (problem_in c.args.self.now) c.args.a c.args.v (sym c.within.ensures ∙ c.if-within.true) _ refl,
+      ∙ owned (problem_in c.args.self.now) c.args.a c.args.v (placed c.within.ensures c.if-within.true).0 _ (ap (λ (l : List ℕ). get_or l (c.args.a - 1) 0) c.as_slice-domains.ensures),
   c.up_to.ensures.1,
 )
 
 pub returns-else-within : goal.returns-else-within
-unfolding problem_in
+unfolding problem_in problem_of
 returns-else-within c = (
-  c.if-within.false ∙ sym (not-owned (problem_in c.args.self.now) c.args.a c.args.v (omega arith) (sym c.within.ensures ∙ c.if-within.false)),
+  c.if-within.false
+      ∙ sym (not-owned (problem_in c.args.self.now) c.args.a c.args.v _ (ap length c.as_slice-domains.ensures) (sym c.within.ensures ∙ c.if-within.false)),
   λ t. absurd (false≢true (sym c.if-within.false ∙ t)),
 )

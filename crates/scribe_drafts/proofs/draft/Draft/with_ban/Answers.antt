@@ -59,9 +59,6 @@ ban_row-requires c =
       c.owns-2.ensures.1 (need-right _ _ (sym c.need-2.ensures ∙ c.in_ok-need-2.was)),
     )
 
-pub push-requires : goal.push-requires
-push-requires c = c.in_ok-check_room.ensures.room
-
 pub returns : goal.returns
 unfolding taken_of judged ban_tests draft_in
 returns c =

@@ -65,9 +65,6 @@ gap_row-requires c =
     let r = both _ _ (sym c.in_range.ensures ∙ need-right _ _ (sym c.need-2.ensures ∙ c.in_ok-need-2.was)) in
     (m.0, m.1, r.0, r.1)
 
-pub push-requires : goal.push-requires
-push-requires c = c.in_ok-check_room.ensures.room
-
 pub returns : goal.returns
 unfolding taken_of judged gap_tests draft_in
 returns c =

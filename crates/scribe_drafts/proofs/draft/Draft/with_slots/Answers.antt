@@ -56,8 +56,8 @@ returns-in_err-domains c =
     rw (p.1, p.2)
     (slots-wrong words c.in_ok-slots.slots S (draft_in c.args.self.now) (passes _ fresh (sym c.need.ensures ∙ c.in_ok-need.was) (passes _ few (sym c.need-2.ensures ∙ c.in_ok-need-2.was) (stops-at {good = false} DomainSize (sym odd) refl (ap Err (sym (absent _ _ _ n.ok_part n.value)))))))
 
-pub overflow_cast-self : goal.overflow_cast-self
-overflow_cast-self c =
+pub overflow_cast-slots : goal.overflow_cast-slots
+overflow_cast-slots c =
     let w = sym c.within.ensures ∙ need-right _ _ (sym c.need-2.ensures ∙ c.in_ok-need-2.was) in omega (arith, within-true 12 _ w)
 
 pub returns : goal.returns
@@ -70,4 +70,4 @@ returns c =
     let sized = slots-sized words c.in_ok-slots.slots S c.in_ok-domains.domains c.in_ok-domains.ensures.ok_part in
     slots-next words c.in_ok-slots.slots S (draft_in c.args.self.now)
     (passes _ fresh (sym c.need.ensures ∙ c.in_ok-need.was) (passes _ few (sym c.need-2.ensures ∙ c.in_ok-need-2.was) (passes {good = true} DomainSize (sym sized.0) refl passed))) _
-    (rw (slots-count words c.in_ok-slots.slots S, sized.1) refl)
+    (rw (c.without_bans-self.ensures, slots-count words c.in_ok-slots.slots S, sized.1) refl)

@@ -1,8 +1,0 @@
--- Agent by agent, the number so far is the definition's.
-use mathlib.Core.Path.{◌≡◌}
-use Rattle.network.specs.Abstract.{network_of}
-use Rattle.bench_entry.specs.Giving.{values_to}
-use Rattle.bench_entry.proofs.bench_entry_settle.Given as goal
-
-abbrev pub invariant-loop-agent : goal.invariant-loop-agent
-invariant-loop-agent l = l.values ≡ values_to l.agent-index (network_of l.ran.network)

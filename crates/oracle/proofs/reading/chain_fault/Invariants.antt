@@ -1,9 +1,0 @@
--- The chain is followed for as many records as there are: what is left is the fault of the rest.
-use Prim.Native.Nat.{◌-◌, ◌<◌}
-use mathlib.Core.Path.{◌≡◌}
-use Rattle.oracle.specs.Bytes.{word_of}
-use Rattle.oracle.specs.Faults.{chain_fault}
-use Rattle.oracle.proofs.reading.chain_fault.Given as goal
-
-abbrev pub invariant-loop : goal.invariant-loop
-invariant-loop l = (l.r < 65536) × (chain_fault (word_of l.s 4) l.s (word_of l.s 2) ≡ chain_fault (l.end - l.counter) l.s l.r)

@@ -1,0 +1,68 @@
+// The records of a sheet before they are written.
+ghost use Rattle.std.specs.Prelude.{◌≡◌, ◌≤◌, ◌<◌, ◌↔◌, [], ◌∷◌, ◌++◌, length, IsTrue};
+ghost use Rattle.sheet_writer.specs.Rows.{row_of, rows_of};
+
+use sheet_parts::Row;
+use std::marker::Model;
+
+// Records one behind the other, with room for N: in an array, since the core has no heap. No sheet has more than 4,224.
+#[derive(Drop)]
+pub struct Rows<const N: usize> {
+    rows: [Row; N],
+    count: usize,
+}
+
+// Clauses see the records.
+impl<const N: usize> Model for Rows<N> {
+    ghost use Rattle.std.specs.Prelude.{◌≤◌, List, take};
+    ghost use Rattle.problem.specs.Row.{Row as Record};
+
+    ghost Value = { List Record };
+
+    ghost use Rattle.sheet_writer.specs.Rows.{rows_of};
+
+    ghost view = { λ r. rows_of (take r.count r.rows) };
+
+    ghost invariant = { (λ r. (r.count ≤ N) × (N ≤ 4224)) };
+}
+
+impl<const N: usize> Rows<N> {
+    pub fn new() -> Rows<N>
+        requires { N ≤ 4224 }
+        ensures { result ≡ [] }
+    {
+        let none = Row {
+            lower: 0,
+            higher: 0,
+            low: 0,
+            high: 0,
+        };
+        Rows {
+            rows: [none; N],
+            count: 0,
+        }
+    }
+
+    pub fn is_full(&self) -> bool
+        ensures full { IsTrue result ↔ (length self.now ≡ N) }
+        ensures room { length self.now ≤ N }
+    {
+        self.as_slice().len() == N
+    }
+
+    // `lent::cursor::Cursor::put` does so with a byte: an array of its own and a lent slice are no one type, and each clause says what its reader sees.
+    pub fn push(&mut self, row: Row)
+        requires { length self.old < N }
+        ensures { self.new ≡ self.old ++ row_of row ∷ [] }
+    {
+        self.rows[self.count] = row;
+        self.count += 1;
+    }
+
+    pub fn as_slice(&self) -> &[Row]
+        ensures records { rows_of result.now ≡ self.now }
+        ensures room { length result.now ≤ N }
+    {
+        &self.rows[..self.count]
+    }
+}

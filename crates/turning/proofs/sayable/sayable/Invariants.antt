@@ -1,9 +1,0 @@
--- `sayable` tests all pairs.
--- The agents before j are sayable with those above them.
-use Rattle.sheet.specs.Abstract.{problem_of}
-use Rattle.sheet_parts.proofs.Tests.{Passed}
-use Rattle.turning.proofs.Words.{unmixed_above}
-use Rattle.turning.proofs.sayable.sayable.Given as goal
-
-abbrev pub invariant-loop-j : goal.invariant-loop-j
-invariant-loop-j l = Passed (unmixed_above (problem_of l.p)) l.j
