@@ -4,10 +4,9 @@ use Prim.Native.Nat.{ℕ, suc, ◌+◌, ◌-◌, ◌/◌, ◌%◌, ◌≤◌, �
 use mathlib.Core.Path.{◌≡◌, refl, sym, ap, ◌∙◌}
 use mathlib.Core.List.{List, [], ◌∷◌, map}
 use native.Mathlib.Omega.{arith}
-use native.Mathlib.Numerals.{add-one}
 use lib.Dec.{eqb}
-use lib.ListN.{length, get_or, set, take, drop}
-use lib.Seq.{sets, drop-cons, length-take-le, get_or-take, drop-length}
+use lib.ListN.{length, get_or, take, drop}
+use lib.Seq.{length-take-le, drop-length}
 use borrow.Author.Tests.{le-leb, lt-leb}
 use Rattle.std.specs.Prelude.{Option, Some, None}
 use Rattle.base.proofs.Tests.{test}
@@ -50,21 +49,9 @@ module _ (n : Numbers) (long : length n.values ≡ 16) where
   taken : length (take 12 n.values) ≡ 12
   taken = length-take-le 12 n.values (omega arith)
 
-  pub counts-next : (i : ℕ) → i < 12 → counts_from n i ≡ get_or n.values i 0 % 256 ∷ counts_from n (i + 1)
-  counts-next i h =
-      rw add-one
-      (ap (map (λ (v : ℕ). v % 256)) (drop-cons (take 12 n.values) i 0 (rw taken h)) ∙ rw (get_or-take 12 n.values i 0 h))
-
   pub counts-done : (i : ℕ) → i ≡ 12 → counts_from n i ≡ []
   counts-done i e =
       ap (map (λ (v : ℕ). v % 256)) (ap (λ (k : ℕ). drop k (take 12 n.values)) (e ∙ sym taken) ∙ drop-length (take 12 n.values))
-
-  pub count-goes : (bytes : List ℕ) (i : ℕ) → i < 12
-      → sets bytes (8 + i) (counts_from n i) ≡ sets (set bytes (8 + i) (get_or n.values i 0 % 256)) (8 + (i + 1)) (counts_from n (i + 1))
-  count-goes bytes i h =
-      let on : suc (8 + i) ≡ 8 + (i + 1) = omega arith in
-      ap (sets bytes (8 + i)) (counts-next i h)
-      ∙ ap (λ (k : ℕ). sets (set bytes (8 + i) (get_or n.values i 0 % 256)) k (counts_from n (i + 1))) on
 
 -- ---- bans
 

@@ -23,6 +23,3 @@ part_length a w s h =
 module _ (old new bytes : List ℕ) (count : ℕ) (p : new ≡ over 0 bytes old) (e : length bytes ≡ count) where
   pub puts_first : take count new ≡ bytes
   puts_first = rw (← e) (ap (take (length bytes)) p ∙ take_at bytes (drop (0 + length bytes) old) (length bytes) refl)
-
-  pub first-long : length (take count new) ≡ count
-  first-long = ap length puts_first ∙ e

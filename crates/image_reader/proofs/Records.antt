@@ -7,13 +7,13 @@ use mathlib.Core.Option.{none, some}
 use mathlib.Core.List.{List}
 use native.Mathlib.Omega.{arith}
 use lib.Dec.{eqb, ltb}
-use lib.ListN.{length, get_or, set, drop}
-use lib.Seq.{get_or-drop, get_or-set_same, get_or-set_other}
+use lib.ListN.{get_or, drop}
+use lib.Seq.{get_or-drop}
 use borrow.Author.Tests.{ltb-true, ltb-false}
 use Rattle.base.specs.Finite.{from_one, within}
 use Rattle.base.specs.Bits.{bit}
 use Rattle.base.proofs.Bits.{bit-above}
-use Rattle.base.proofs.Tests.{test, eq_test, to-within, not_within}
+use Rattle.base.proofs.Tests.{test, to-within, not_within}
 use Rattle.problem.specs.Problem.{max_domain}
 use Rattle.agent_rules.specs.Counts.{Sort, Infos, Backs, AddLinks}
 use Rattle.packed.specs.Packed.{assignment, members, mask_from}
@@ -46,13 +46,6 @@ module _ (s : List ℕ) (at : ℕ) where
   -- the first m left sides
   abbrev pub Reasoned : List ℕ → ℕ → Type 0
   Reasoned words m = (v : ℕ) → v < m → assignment (get_or words v 0) ≡ narrow_lhs (slots_in (drop (at + 13 * v + 1) s))
-
-  pub one-reason : (words : List ℕ) (m x : ℕ) → m < length words → Reasoned words m → assignment x ≡ narrow_lhs (slots_in (drop (at + 13 * m + 1) s))
-      → Reasoned (set words m x) (m + 1)
-  one-reason words m x h r e v l =
-      eq_test v m
-      (λ q. rw (q, get_or-set_same words m x 0 h) e)
-      (λ n. rw (get_or-set_other words m v x 0 n) (r v (omega (arith, n))))
 
   -- the slots of a stretch
   slots-there : (a n : ℕ) → 12 ≤ n → slots_in (stretch a n s) ≡ slots_in (drop a s)

@@ -7,7 +7,6 @@ use lib.ListN.{length, length-append}
 use Rattle.lent.specs.declared.cursor.Cursor.{Cursor}
 use Rattle.lent.specs.Puts.{Room, Adds}
 use Rattle.lent.proofs.Puts.{Left, left_as, less-left, none_left}
-use Rattle.text.specs.Text.{Appends}
 use Rattle.scribe_writer.specs.Parts.{RoomFor}
 
 pub room-first : {c : Cursor} (s t : List ℕ) → RoomFor c (s ++ t) → RoomFor c s
@@ -26,9 +25,6 @@ room-digits s h = omega (arith, h.fits)
 -- room in a buffer, from its first byte on; what was put ends inside it
 pub room-start : (c : Cursor) (s : List ℕ) → c.at ≡ 0 → length s + 20 ≤ length c.buffer.now → RoomFor c s
 room-start c s z h = record { fits = omega (arith, z, h) }
-
-pub room-inside : {old new s : List ℕ} {n : ℕ} → length s + 20 ≤ length old → Appends old 0 s new n → n ≤ length new
-room-inside h A = omega (arith, h, A.count, A.room)
 
 -- ---- a text of which all but the rest is put
 
