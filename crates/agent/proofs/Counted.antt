@@ -1,45 +1,27 @@
 -- A step with its messages counted, from the step of the agent taken apart, which has no counts.
-use Prim.Native.Nat.{ℕ}
-use mathlib.Core.Path.{◌≡◌, sym, ap, ap₂, ◌∙◌, fun_ext}
+use Prim.Native.Nat.{ℕ, ◌^◌, ◌<◌}
+use mathlib.Core.Bool.{Bool, true}
+use mathlib.Core.Path.{◌≡◌, refl, sym, ap, ap₂, ◌∙◌, fun_ext}
 use mathlib.Core.List.{List, [], ◌∷◌}
+use native.Mathlib.Omega.{arith}
 use Rattle.agent_rules.specs.Message.{Message as Message'}
-use Rattle.agent_rules.specs.Counts.{Sort, Counts as Counts', messages_in, counting}
+use Rattle.agent_rules.specs.Counts.{Sort, Infos, Backs, AddLinks, Counts as Counts', number, messages_in, top, counting}
+use Rattle.agent_rules.proofs.Counts.{raised-none}
 use Rattle.agent_rules.specs.Agent.{Bans, with_counts}
 use Rattle.agent_rules.specs.Receiving.{react, counted, receive}
 use Rattle.choosing.specs.Barring.{self_of}
 use Rattle.choosing.specs.declared.Bars.{Bars}
 use Rattle.choosing.specs.declared.Own.{Own}
-use Rattle.agent.specs.Abstract.{none_counted, counts_of, agent_of}
+use Rattle.agent.specs.Abstract.{none_counted, count_of, counts_of, agent_of}
 use Rattle.agent.specs.Posting.{posts_left, step_of}
 use Rattle.agent.specs.Entries.{StepsAs, Raised}
-use Rattle.agent.specs.Parts.{apart, agent_in, posts_of, step_with}
+use Rattle.agent.specs.Parts.{apart, agent_in, posts_of, step_with, step_whole, tells_to, stays_with, seen_by}
 use Rattle.agent.specs.declared.Agent.{Agent}
 use Rattle.agent.specs.declared.Counts.{Counts}
-use Rattle.agent.specs.declared.Step.{Step}
+use Rattle.agent.specs.declared.State.{State}
 use Rattle.agent.specs.declared.backing.Done.{Done}
+use Rattle.agent.proofs.Steps.{tells-nobody}
 use Rattle.agent.proofs.Uncounted.{receives}
-
--- a step put together again, with these counts
-abbrev pub step_whole : Done → List ℕ → List ℕ → Counts → Counts → Step
-step_whole d nogoods backs sent received =
-    record {
-      agent =
-          record {
-            value = d.state.value;
-            last = d.state.last;
-            stored = d.state.stored;
-            listens = d.state.listens;
-            informs = d.state.informs;
-            view = record { digits = d.state.view };
-            nogoods = nogoods;
-            sent = sent;
-            received = received;
-          };
-      posts = posts_of d;
-      backs = backs;
-      bars = d.state.bars;
-      verdict = d.verdict;
-    }
 
 module _ (own : Own) (bans : Bans) (a : Agent) (b : Bars) (from : ℕ) (m : Message') (d : Done) (nogoods backs : List ℕ) (sent received : Counts)
     (posted : Raised a.sent (messages_in (posts_left (posts_of d) backs)) sent) (got : Raised a.received (m ∷ []) received) where
@@ -47,10 +29,10 @@ module _ (own : Own) (bans : Bans) (a : Agent) (b : Bars) (from : ℕ) (m : Mess
   unfolding counts_of counting agent_of
   counts = ap₂ (λ (f g : Sort → ℕ). record { sent = f; received = g }) (fun_ext λ x. posted x) (fun_ext λ x. got x)
 
-  pub steps-counted : StepsAs own bans (step_with d nogoods backs) (react (self_of own) bans (agent_in (apart a b) a.nogoods) from m)
-      → StepsAs own bans (step_whole d nogoods backs sent received) (receive (self_of own) bans (agent_of a) from m)
+  pub steps-counted : (still : Bool) → StepsAs own bans (step_with d nogoods backs) (react (self_of own) bans (agent_in (apart a b) a.nogoods) from m)
+      → StepsAs own bans (step_whole d nogoods backs sent received still) (receive (self_of own) bans (agent_of a) from m)
   unfolding step_of agent_of counted
-  steps-counted s =
+  steps-counted still s =
       let whole = receives (self_of own) bans (counts_of none_counted none_counted) (agent_of a) from m in
       record {
         step =
@@ -65,3 +47,26 @@ module _ (own : Own) (bans : Bans) (a : Agent) (b : Bars) (from : ℕ) (m : Mess
         others = rw whole s.others;
         barring = s.barring;
       }
+
+-- no message leaves the counts as they are
+unraised : (c : Counts) → c.infos < 2 ^ 64 → c.backs < 2 ^ 64 → c.links < 2 ^ 64 → Raised c [] c
+unfolding count_of number top
+unraised c i b l Infos = sym (raised-none c.infos (omega (arith, i)))
+unraised c i b l Backs = sym (raised-none c.backs (omega (arith, b)))
+unraised c i b l AddLinks = sym (raised-none c.links (omega (arith, l)))
+
+-- .. so a still step has no other counts than those of what was handed over
+pub steps-still : (own : Own) (bans : Bans) (a : Agent) (b : Bars) (from : ℕ) (m : Message') (s : State) (backs : List ℕ) (received : Counts)
+    → a.sent.infos < 2 ^ 64 → a.sent.backs < 2 ^ 64 → a.sent.links < 2 ^ 64 → Raised a.received (m ∷ []) received → s ≡ seen_by (apart a b) s
+    → StepsAs own bans (step_with (tells_to s 0) a.nogoods backs) (react (self_of own) bans (agent_in (apart a b) a.nogoods) from m)
+    → StepsAs own bans (stays_with a s received backs) (receive (self_of own) bans (agent_of a) from m)
+unfolding messages_in
+steps-still own bans a b from m s backs received i k l got e settled =
+    rw same
+    (steps-counted own bans a b from m (tells_to s 0) a.nogoods backs a.sent received
+    (rw (tells-nobody s backs) (unraised a.sent i k l)) got true settled)
+  where
+    same : stays_with a s received backs ≡ step_whole (tells_to s 0) a.nogoods backs a.sent received true
+    same =
+        rw (ap (λ (x : State). x.value) e, ap (λ (x : State). x.last) e, ap (λ (x : State). x.listens) e, ap (λ (x : State). x.informs) e)
+        refl

@@ -2,7 +2,7 @@
 use Prim.Native.Nat.{ℕ, ◌<◌, ◌≤◌}
 use mathlib.Core.Path.{◌≡◌, refl, ap}
 use mathlib.Core.Bool.{true, false}
-use mathlib.Core.List.{List, ◌++◌}
+use mathlib.Core.List.{List, [], ◌++◌}
 use native.Mathlib.Nat.{not-suc-le-zero}
 use native.Mathlib.Omega.{arith}
 use lib.ListN.{length}
@@ -17,18 +17,16 @@ use Rattle.choosing.specs.declared.Own.{Own}
 use Rattle.agent.specs.Abstract.{assigned, agent_of}
 use Rattle.agent.specs.Posting.{news_to, backs_from, posts_left, step_of}
 use Rattle.agent.specs.Entries.{Below, StepsAs}
-use Rattle.agent.specs.Parts.{agent_in, step_with, Sound, Takes}
+use Rattle.agent.specs.Parts.{agent_in, posts_of, step_with, tells_to, Sound, Takes}
 use Rattle.agent.specs.declared.State.{State}
 use Rattle.agent.specs.declared.Todo.TheVariants.{Tell}
 use Rattle.agent.proofs.Sending.{steps-as}
-use Rattle.agent.proofs.ToSet.{none_in, one_in, links-none, news-one}
+use Rattle.agent.proofs.ToSet.{none_in, one_in, links-none, news-none, news-one}
 
 pub steps-quiet : (own : Own) (bans : Bans) (s : State) (nogoods backs : List ℕ) (told : ℕ) → OwnFits own → length backs ≡ 11 → Below own told
     → Barring bans (assignment s.view) s.bars
     → StepsAs own bans
-    (step_with
-    record { state = s; links = 0; told = told; count = 0; verdict = false }
-    nogoods backs)
+    (step_with (tells_to s told) nogoods backs)
     (quiet (agent_in s nogoods) (news_to s.value told))
 unfolding quiet step_of posts_left backs_from assigned
 steps-quiet own bans s nogoods backs told fits long below barring =
@@ -47,6 +45,11 @@ steps-quiet own bans s nogoods backs told fits long below barring =
       verdict = false;
     }) links-none)
     barring
+
+-- nobody is told anything
+pub tells-nobody : (s : State) (backs : List ℕ) → posts_left (posts_of (tells_to s 0)) backs ≡ []
+unfolding posts_left backs_from
+tells-nobody s backs = rw (links-none, news-none s.value)
 
 -- the same, left to do
 pub takes-quiet : (own : Own) (bans : Bans) (s : State) (nogoods : List ℕ) (told : ℕ) (ps : List Post') → Sound own s nogoods

@@ -1,5 +1,5 @@
 -- What the entries of an agent need of the problem and of their caller, and what they promise.
-use Rattle.std.specs.Prelude.{ℕ, ◌≤◌, ◌<◌, ◌≡◌, Bool, true, false, not, ◌&&◌, List, eqb}
+use Rattle.std.specs.Prelude.{ℕ, ◌≤◌, ◌<◌, ◌≡◌, Bool, true, false, not, ◌&&◌, List, [], eqb}
 use Rattle.base.specs.Finite.{within, every}
 use Rattle.problem.specs.Problem.{max_agents}
 use Rattle.agent_rules.specs.Message.{Message as Message'}
@@ -10,7 +10,7 @@ use Rattle.packed.specs.Packed.{members}
 use Rattle.choosing.specs.Barring.{Barring}
 use Rattle.choosing.specs.declared.Own.{Own}
 use Rattle.agent.specs.Abstract.{assigned, count_of, agent_of}
-use Rattle.agent.specs.Posting.{news_to, Ready, step_of}
+use Rattle.agent.specs.Posting.{news_to, posts_left, Ready, step_of}
 use Rattle.agent.specs.declared.Agent.{Agent}
 use Rattle.agent.specs.declared.Counts.{Counts}
 use Rattle.agent.specs.declared.Step.{Step}
@@ -36,6 +36,14 @@ pub record StepsAs (own : Own) (bans : Bans) (r : Step) (t : Step') : Type 0 whe
   pub ready : Ready r.posts r.backs
   pub others : every (λ p. is_other own p.to) t.sent ≡ true
   pub barring : Barring bans (assigned r.agent.view) r.bars
+
+-- the first agent with what the second sees and received
+abbrev pub heard_by : Agent → Agent → Agent
+heard_by a b = record a { stored = b.stored; view = b.view; received = b.received }
+
+-- a still step sends nothing, and its agent is the one before but for what it sees and received
+abbrev pub Still : Agent → Step → Type 0
+Still a r = r.still ≡ true → (posts_left r.posts r.backs ≡ []) × (r.agent ≡ heard_by a r.agent)
 
 -- counts raised by so many messages of each sort
 abbrev pub Raised : Counts → List Message' → Counts → Type 0

@@ -1,5 +1,5 @@
 -- What the parts of an agent's code compute or need, where the rules have no name for it. A primed name is the definitions'.
-use Rattle.std.specs.Prelude.{ℕ, ◌≤◌, ◌<◌, ◌≡◌, true, false, not, cond, ◌||◌, List, [], eqb, length, Option as Option', Some, None}
+use Rattle.std.specs.Prelude.{ℕ, ◌≤◌, ◌<◌, ◌≡◌, Bool, true, false, not, cond, ◌||◌, List, [], eqb, length, Option as Option', Some, None}
 use Rattle.std.proofs.Math.Option.{Option, none, some}
 use Rattle.base.specs.Finite.{all_to}
 use Rattle.problem.specs.Problem.{max_agents}
@@ -17,6 +17,7 @@ use Rattle.agent.specs.Abstract.{none_counted, agent_of}
 use Rattle.agent.specs.Posting.{links_to, news_to}
 use Rattle.agent.specs.Entries.{Above, Below}
 use Rattle.agent.specs.declared.Agent.{Agent}
+use Rattle.agent.specs.declared.Counts.{Counts}
 use Rattle.agent.specs.declared.Posts.{Posts}
 use Rattle.agent.specs.declared.State.{State}
 use Rattle.agent.specs.declared.Step.{Step}
@@ -70,6 +71,35 @@ step_with d nogoods backs =
       backs = backs;
       bars = d.state.bars;
       verdict = d.verdict;
+      still = false;
+    }
+
+-- .. and with its counts
+abbrev pub step_whole : Done → List ℕ → List ℕ → Counts → Counts → Bool → Step
+step_whole d nogoods backs sent received still =
+    record {
+      agent = record (agent_with d.state nogoods) { sent = sent; received = received };
+      posts = posts_of d;
+      backs = backs;
+      bars = d.state.bars;
+      verdict = d.verdict;
+      still = still;
+    }
+
+-- the state that tells its value to the agents of a set and does nothing else
+abbrev pub tells_to : State → ℕ → Done
+tells_to s told = record { state = s; links = 0; told = told; count = 0; verdict = false }
+
+-- the still step
+abbrev pub stays_with : Agent → State → Counts → List ℕ → Step
+stays_with a s received backs =
+    record {
+      agent = record a { stored = s.stored; view = record { digits = s.view }; received = received };
+      posts = posts_of (tells_to s 0);
+      backs = backs;
+      bars = s.bars;
+      verdict = false;
+      still = true;
     }
 
 -- ---- what a step may count on
@@ -142,6 +172,15 @@ pub record Handed (own : Own) (bans : List ℕ) (s : State) (nogoods : List ℕ)
 abbrev pub done_as : Self → Bans → State → Todo → List ℕ → Step'
 done_as s bans a (Choose links refuser) nogoods = after (links_to links) (check_view s bans (refuser_of refuser) (agent_in a nogoods))
 done_as s bans a (Tell told) nogoods = quiet (agent_in a nogoods) (news_to a.value told)
+
+-- what an Info leaves to do, by whether the own value is banned now
+abbrev pub left_by : Bool → Todo
+left_by true = Choose 0 None
+left_by false = Tell 0
+
+-- a state with what another sees
+abbrev pub seen_by : State → State → State
+seen_by s t = record s { stored = t.stored; view = t.view; bars = t.bars }
 
 -- whom it speaks of
 abbrev pub Addresses : Own → Todo → Type 0

@@ -21,7 +21,7 @@ pub(crate) struct Done {
     pub state: State,
     pub links: u16,
     pub told: u16,
-    pub count: u8,
+    pub count: usize,
     pub verdict: bool,
 }
 
@@ -56,7 +56,7 @@ impl State {
     }
 
     // The value taken, which is the last one taken from now on, with whom it is told.
-    fn taking(self, value: u8, told: u16, links: u16, count: u8) -> Done
+    fn taking(self, value: u8, told: u16, links: u16, count: usize) -> Done
         ensures { result ≡ has_taken self value told links count }
     {
         let state = State {
@@ -74,7 +74,7 @@ impl State {
     }
 
     // None is taken: the verdict falls, and the last one taken stays.
-    fn failing(self, links: u16, count: u8) -> Done
+    fn failing(self, links: u16, count: usize) -> Done
         ensures { result ≡ has_failed self links count }
     {
         let state = State { value: 0, ..self };
@@ -108,7 +108,7 @@ impl State {
         ensures { (bans : Bans) → Barring bans (assignment self.view) self.bars → StepsAs own bans (step_with result nogoods.new backs.new) (after (links_to links) (check_view (self_of own) bans (refuser_of refuser) (agent_in self nogoods.old))) }
     {
         let mut s = self;
-        let mut count: u8 = 0;
+        let mut count = 0;
         loop {
             let Choice {
                 value,
@@ -123,7 +123,7 @@ impl State {
             let Some(k) = last_digit(whole) else {
                 return s.failing(links, count);
             };
-            backs[count as usize] = whole;
+            backs[count] = whole;
             count += 1;
             s.stored &= sparing(nogoods, k);
             s.view = with_digit(s.view, k, 0);

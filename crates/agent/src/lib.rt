@@ -1,15 +1,17 @@
 // An agent (scanner): its record by value, and the three messages.
 #![tactic(auto)]
 
-ghost use Rattle.std.specs.Prelude.{◌≡◌};
+ghost use Rattle.std.specs.Prelude.{◌≡◌, true, false, length};
+ghost use Rattle.agent_rules.specs.Counts.{messages_in};
 ghost use Rattle.agent_rules.specs.Agent.{Bans};
 ghost use Rattle.agent_rules.specs.Receiving.{receive, begin};
 ghost use Rattle.agent_rules.specs.Shape.{RecordFits, MessageFits, any_value};
 ghost use Rattle.packed.specs.Packed.{members};
 ghost use Rattle.choosing.specs.Barring.{self_of, OwnFits, Able, bans_in, Barring};
 ghost use Rattle.agent.specs.Abstract.{assigned, message_of, agent_of};
-ghost use Rattle.agent.specs.Entries.{Below, StepsAs, BeginsAs};
-ghost use Rattle.agent.specs.Parts.{apart};
+ghost use Rattle.agent.specs.Posting.{posts_left, Ready};
+ghost use Rattle.agent.specs.Entries.{Below, StepsAs, Raised, heard_by, Still, BeginsAs};
+ghost use Rattle.agent.specs.Parts.{apart, posts_of, step_whole, stays_with};
 
 mod assigning;
 mod backing;
@@ -84,8 +86,8 @@ pub struct Posts {
     pub links: u16,
     pub told: u16,
     pub value: u8,
-    pub next: u8,
-    pub count: u8,
+    pub next: usize,
+    pub count: usize,
 }
 
 // What is left of what a step sends, with the words of its Backs, to be gone through in order by a `for`.
@@ -96,7 +98,8 @@ pub struct Letters<'a> {
 }
 
 // The agent handed back changed, with what it sends, what its view bars now, and whether the verdict "none" fell. A Back stands in `backs` as the whole
-// nogood, packed: it goes to the highest-numbered agent that it names.
+// nogood, packed: it goes to the highest-numbered agent that it names. `still` says that it sends nothing, and that of the agent no more is changed than its
+// view, which nogoods it keeps and what it received: whoever keeps the agent has then no more to store (`Agent::put`). Half of a long run's steps are so.
 #[derive(Clone, Copy, Debug, PartialEq, Eq)]
 pub struct Step {
     pub agent: Agent,
@@ -104,6 +107,7 @@ pub struct Step {
     pub backs: [u64; 11],
     pub bars: Bars,
     pub verdict: bool,
+    pub still: bool,
 }
 
 // An agent taken apart: all of it but the words of its nogoods, which are changed where they lie while this is handed on by value; with what its view bars. It
@@ -158,14 +162,24 @@ impl Agent {
         requires record_fits { RecordFits any_value (self_of own) (agent_of self) }
         requires message_fits { MessageFits any_value (self_of own) (agent_of self) from (message_of m) }
         requires barring { Barring (bans_in bans.now) (assigned self.view) bars }
-        ensures { StepsAs own (bans_in bans.now) result (receive (self_of own) (bans_in bans.now) (agent_of self) from (message_of m)) }
+        ensures steps_as { StepsAs own (bans_in bans.now) result (receive (self_of own) (bans_in bans.now) (agent_of self) from (message_of m)) }
+        ensures still { Still self result }
     {
         let mut nogoods = self.nogoods;
-        let mut backs = [0u64; 11];
         let s = self.apart(bars);
         let received = self.received.handed(m);
         let (state, todo) = match m {
-            Message::Info(v) => s.on_info(own, &nogoods, bans, from, v),
+            Message::Info(v) => {
+                let (state, banned) = s.on_info(own, &self.nogoods, bans, from, v);
+                if !banned {
+                    return self.stays(state, received);
+                }
+                let todo = Todo::Choose {
+                    links: 0,
+                    refuser: None,
+                };
+                (state, todo)
+            }
             Message::Back(v, lhs) => s.on_back(
                 own,
                 &mut nogoods,
@@ -176,16 +190,20 @@ impl Agent {
             ),
             Message::AddLink => s.on_add_link(own, from),
         };
-        let done = match todo {
-            Todo::Choose { links, refuser } => state.settle(
-                own,
-                &mut nogoods,
-                &mut backs,
-                links,
-                refuser,
-            ),
-            Todo::Tell(told) => state.telling(told),
-        };
+        match todo {
+            Todo::Choose { links, refuser } => {
+                let mut backs = [0u64; 11];
+                let done = state.settle(own, &mut nogoods, &mut backs, links, refuser);
+                self.stepped(done, nogoods, backs, received)
+            }
+            Todo::Tell(told) => self.stepped(state.telling(told), nogoods, [0; 11], received),
+        }
+    }
+
+    // A step that chose or told: the agent put together again, and what it sends is counted.
+    fn stepped(self, done: Done, nogoods: [u64; 8], backs: [u64; 11], received: Counts) -> Step
+        ensures { (result ≡ step_whole done nogoods backs result.agent.sent received false) × (Ready (posts_of done) backs → Raised self.sent (messages_in (posts_left (posts_of done) backs)) result.agent.sent) }
+    {
         let Done {
             state,
             links,
@@ -209,7 +227,6 @@ impl Agent {
             next: 0,
             count,
         };
-        let sent = self.sent.posted(posts);
         Step {
             agent: Agent {
                 value,
@@ -219,13 +236,54 @@ impl Agent {
                 informs,
                 view: Lhs { digits: view },
                 nogoods,
-                sent,
+                sent: self.sent.posted(posts),
                 received,
             },
             posts,
             backs,
             bars,
             verdict,
+            still: false,
+        }
+    }
+
+    // A still step: an Info was taken in, "otherwise that is all".
+    fn stays(self, state: State, received: Counts) -> Step
+        ensures { (result ≡ stays_with self state received result.backs) × (length result.backs ≡ 11) }
+    {
+        Step {
+            agent: Agent {
+                stored: state.stored,
+                view: Lhs { digits: state.view },
+                received,
+                ..self
+            },
+            posts: Posts {
+                links: 0,
+                told: 0,
+                value: state.value,
+                next: 0,
+                count: 0,
+            },
+            backs: [0; 11],
+            bars: state.bars,
+            verdict: false,
+            still: true,
+        }
+    }
+
+    // The agent that a step hands back, put where the one stands that was handed over: after a still step only what it sees and received is stored. It is a
+    // method of the agent, and not of the step: a step that is lent stays in memory.
+    pub fn put(self, place: &mut Agent, still: bool)
+        requires { still ≡ true → self ≡ heard_by place.old self }
+        ensures { place.new ≡ self }
+    {
+        if still {
+            place.stored = self.stored;
+            place.view = self.view;
+            place.received = self.received;
+        } else {
+            *place = self;
         }
     }
 

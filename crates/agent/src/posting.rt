@@ -34,7 +34,7 @@ impl Posts {
                 message: Message::AddLink,
             }
         } else if next < count {
-            let whole = backs[next as usize];
+            let whole = backs[next];
             let k = last_digit(whole).unwrap();
             let lhs = Lhs {
                 digits: with_digit(whole, k, 0),

@@ -4,7 +4,7 @@ ghost use Rattle.agent_rules.specs.Message.{Info as Info', Back as Back', AddLin
 ghost use Rattle.agent_rules.specs.Receiving.{on_info, on_back, on_add_link};
 ghost use Rattle.packed.specs.Packed.{assignment};
 ghost use Rattle.choosing.specs.Barring.{self_of, Able, ViewFits, bans_in, Barring};
-ghost use Rattle.agent.specs.Parts.{agent_in, Handed, Listening, Hears, Takes};
+ghost use Rattle.agent.specs.Parts.{agent_in, Handed, Listening, Hears, left_by, seen_by, Takes};
 
 use crate::{State, Todo};
 use choosing::barring::barred_at;
@@ -21,7 +21,8 @@ struct Heard {
 
 impl State {
     // "The view is updated, and reasons that disagree with it are dropped. If the own slot is now banned, it chooses; otherwise that is all." What nogoods
-    // name has its value in the view: they can be left alone where that value stays, and where there was none.
+    // name has its value in the view: they can be left alone where that value stays, and where there was none. Handed back with the state is whether the own
+    // value is banned now.
     #[tactic(auto, using(crate::proofs::Infos::in_range))]
     pub(crate) fn on_info(
         self,
@@ -30,9 +31,10 @@ impl State {
         bans: &[u64],
         from: u8,
         v: u8,
-    ) -> (State, Todo)
+    ) -> (State, bool)
         requires { Handed own bans.now self nogoods.now from (Info' v) }
-        ensures { Takes own (bans_in bans.now) result.0 result.1 nogoods.now (on_info (self_of own) (bans_in bans.now) (agent_in self nogoods.now) from v) }
+        ensures takes { Takes own (bans_in bans.now) result.0 (left_by result.1) nogoods.now (on_info (self_of own) (bans_in bans.now) (agent_in self nogoods.now) from v) }
+        ensures stays { result.0 ≡ seen_by self result.0 }
     {
         let old = digit(self.view, from);
         let stored = if old != 0 && old != v {
@@ -47,15 +49,7 @@ impl State {
             bars,
             ..self
         };
-        let todo = if bars.bars(self.value) {
-            Todo::Choose {
-                links: 0,
-                refuser: None,
-            }
-        } else {
-            Todo::Tell(0)
-        };
-        (state, todo)
+        (state, bars.bars(self.value))
     }
 
     // "each scanner of the left side that the receiver listens to has that slot in its view; unknown does not match." A walk along the left side, which can

@@ -1,11 +1,10 @@
--- Sums over 1 to m: of equals, of two summands, of nothing, where one number alone counts, and with one number taken out.
-use mathlib.Core.Path.{◌≡◌, refl, sym, ap, ◌∙◌}
+-- Sums over 1 to m: of equals, of two summands, of nothing, and where one number alone counts.
+use mathlib.Core.Path.{◌≡◌, refl}
 use mathlib.Core.Logic.{◌≢◌}
 use Prim.Native.Nat.{ℕ, zero, suc, ◌+◌, ◌≤◌}
 use native.Mathlib.Omega.{arith}
-use Rattle.base.specs.Finite.{at, sum}
+use Rattle.base.specs.Finite.{sum}
 use Rattle.base.proofs.Tests.{eq_test}
-use Rattle.base.proofs.Search.{at_same, at_other}
 
 pub sum_same : (m : ℕ) (f g : ℕ → ℕ) → ((k : ℕ) → 1 ≤ k → k ≤ m → f k ≡ g k) → sum m f ≡ sum m g
 unfolding sum
@@ -30,13 +29,3 @@ sum_one (suc m) i f l u h =
     eq_test i (suc m)
     (λ e. rw e (omega (arith, sum-none m f (λ k a b. h k (λ q. omega arith)))))
     (λ n. omega (arith, h (suc m) (λ q. omega (arith, n)), sum_one m i f l (omega (arith, n)) h))
-
--- one taken out of a sum
-pub sum-out : (m k : ℕ) (f : ℕ → ℕ) → 1 ≤ k → k ≤ m → sum m (at f k 0) + f k ≡ sum m f
-sum-out m k f l u =
-    let one : sum m (at (λ _. 0) k (f k)) ≡ f k = sum_one m k (at (λ _. 0) k (f k)) l u (λ j n. at_other (λ _. 0) k (f k) j n) ∙ at_same (λ _. 0) k (f k) in
-    ap (λ (x : ℕ). sum m (at f k 0) + x) (sym one)
-    ∙ sym (sum-add m (at f k 0) (at (λ _. 0) k (f k)))
-    ∙ sum_same m _ f (λ j _ _. eq_test j k
-    (λ q. let a = at_same f k 0 in let b = at_same (λ _. 0) k (f k) in rw q (omega (arith, a, b)))
-    (λ n. let a = at_other f k 0 j n in let b = at_other (λ _. 0) k (f k) j n in omega (arith, a, b)))

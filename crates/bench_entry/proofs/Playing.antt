@@ -1,10 +1,9 @@
 -- Deliveries through the public entry, one more at a time, and then the values.
 use Prim.Native.Nat.{ℕ, suc, ◌+◌, ◌*◌, ◌%◌}
 use Rattle.std.specs.Prelude.{Option, Result, Ok, Err}
-use Rattle.std.specs.Result.{result_unwrap_or, result_err}
+use Rattle.std.specs.Result.{result_err}
 use mathlib.Core.Path.{◌≡◌, refl, ap, ◌∙◌}
 use Rattle.refusals.specs.declared.Refusal.{Refusal}
-use Rattle.network.specs.Asked.{asked_value}
 use mathlib.Core.List.{List}
 use lib.ListN.{get_or}
 use Rattle.protocol.specs.Network.{Network as Network', Started}
@@ -37,11 +36,6 @@ one-played s calls k r o sum number p d =
       network = d.network ∙ ap (λ (w : Network'). (deliver w (get_or calls (2 * k) 0) (get_or calls (2 * k + 1) 0)).network) p.network;
       sum = rw (d.number, p.sum, p.network);
     }
-
--- the value asked, 0 where it is refused
-pub value-or : (r : Result ℕ Refusal) → result_unwrap_or r 0 ≡ asked_value r
-value-or (Ok v) = refl
-value-or (Err e) = refl
 
 pub one-asked : (w : Network') (k all sum value : ℕ) → sum ≡ asked_to k w all → value ≡ (ask_value w k).value
     → sum % 4294967296 * 31 + value ≡ asked_to (suc k) w all

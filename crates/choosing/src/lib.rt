@@ -53,8 +53,10 @@ pub fn sparing(nogoods: &[u64; 8], k: u8) -> u8
     ensures { result ≡ mask_from (λ v. not (known (assignment (get_or nogoods.now (pred v) 0) k))) 1 8 }
 {
     let mut mask = 0;
-    for nogood in nogoods.iter().rev() {
-        mask = mask * 2 + (digit(*nogood, k) == 0) as u8;
+    for (i, nogood) in nogoods.iter().enumerate() {
+        if digit(*nogood, k) == 0 {
+            mask |= 1u8 << i;
+        }
     }
     mask
 }

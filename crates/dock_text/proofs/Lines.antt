@@ -3,13 +3,9 @@ use mathlib.Core.Path.{◌≡◌, refl, sym, ap, subst, ◌∙◌}
 use mathlib.Core.List.{List}
 use Prim.Native.Nat.{ℕ, ◌+◌, ◌-◌, ◌≤◌}
 use native.Mathlib.Omega.{arith}
-use Rattle.std.specs.Prelude.{Result, Ok, Err}
-use Rattle.std.specs.Result.{result_unwrap_or}
 use Rattle.base.specs.Finite.{gather}
 use Rattle.protocol.specs.Network.{Network}
 use Rattle.protocol.specs.Delivery.{ask_value}
-use Rattle.refusals.specs.declared.Refusal.{Refusal}
-use Rattle.network.specs.Asked.{asked_value}
 use Rattle.network.specs.declared.Network.{Network as Record}
 use Rattle.network.specs.Abstract.{problem_of, network_of}
 use Rattle.lent.specs.declared.cursor.Cursor.{Cursor}
@@ -19,10 +15,6 @@ use Rattle.dock_text.specs.Text.{slot_line, slot_lines}
 
 abbrev pub slot_of : Network → ℕ → List ℕ
 slot_of w i = slot_line i (ask_value w i).value
-
-pub unwrapped : (r : Result ℕ Refusal) → result_unwrap_or r 0 ≡ asked_value r
-unwrapped (Ok v) = refl
-unwrapped (Err e) = refl
 
 -- behind the lines of the scanners below i, the line of scanner i
 pub slots-more : (w : Network) (i v : ℕ) {old mid new : Cursor} → 1 ≤ i → Adds old (gather (i - 1) 1 (slot_of w)) mid → v ≡ (ask_value w i).value

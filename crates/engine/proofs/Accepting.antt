@@ -1,9 +1,10 @@
 -- A delivery whose posts the engine has stored as far as they found room: rejected at the first that found none, and else made.
-use Prim.Native.Nat.{ℕ, pred, ◌-◌}
+use Prim.Native.Nat.{ℕ, pred, ◌-◌, ◌≤◌}
 use mathlib.Core.Bool.{Bool, true, false}
-use mathlib.Core.Path.{◌≡◌, sym, ◌∙◌}
+use mathlib.Core.Path.{◌≡◌, refl, sym, ◌∙◌, subst}
 use mathlib.Core.List.{List, []}
 use lib.ListN.{length, set, length-set}
+use lib.Seq.{set-get_or}
 use Rattle.std.specs.Prelude.{Option, Some}
 use Rattle.base.specs.Finite.{at}
 use Rattle.problem.specs.Problem.{pairs_before}
@@ -14,16 +15,37 @@ use Rattle.agent.specs.declared.Step.{Step}
 use Rattle.agent.specs.Posting.{posts_left}
 use Rattle.network.specs.declared.Network.{Network}
 use Rattle.network_laws.specs.Held.{held_at, row_fits}
-use Rattle.network_laws.proofs.Changes.{rowed, arrived, arrived-sized, counted-sized, Taken}
-use Rattle.network_laws.proofs.Handing.{Stepped, finds-no-room, delivers}
+use Rattle.network_laws.proofs.Changes.{word_at, rowed, arrived, arrived-sized, counted-sized, Taken}
+use Rattle.network_laws.proofs.Handing.{Found, Stepped, finds-no-room, delivers}
 use Rattle.engine.specs.Lines.{NextVisit}
 use Rattle.engine.specs.Working.{Worked}
 use Rattle.engine.specs.declared.lines.Visit.{Visit}
 use Rattle.engine.proofs.Barrings.{Barred, BarsOf, bars-stored}
 use Rattle.engine.proofs.Here.{Live, Here}
 use Rattle.network_laws.proofs.Posting.{Posting}
-use Rattle.engine.proofs.Storing.{stays-clean}
+use Rattle.engine.proofs.Storing.{stays-clean, waits-still}
 use Rattle.engine.proofs.Visiting.{line-channel, line-ends, jams, accepts}
+
+-- all posts have found room: the network is one in which they are stored, with the receiver's row of counts raised by them
+pub record Sent (o : Network) (j : ℕ) (all : List Post') (q : Network) : Type 0 where
+  pub before : Network
+  pub row : ℕ
+  pub posting : Posting o j all [] before row
+  pub raised : q ≡ rowed before j row
+
+-- where there are none, nothing was stored
+pub none-sent : {o : Network} {j : ℕ} {all : List Post'} → Posting o j all all o (word_at o.counts j) → all ≡ [] → Sent o j all o
+none-sent {o = o} {j = j} {all = all} st e =
+    record {
+      before = o;
+      row = word_at o.counts j;
+      posting = subst (λ (left : List Post'). Posting o j all left o (word_at o.counts j)) e st;
+      raised = rw (set-get_or o.counts (j - 1) 0) refl;
+    }
+
+-- the sender's message waits still
+pub sent-waits : {o : Network} {i j x : ℕ} {all : List Post'} {q : Network} → Found o i j x → Sent o j all q → 1 ≤ assignment (word_at q.counts i) j
+sent-waits f sent = rw sent.raised (waits-still f sent.posting)
 
 module _ {once : Bool} {whole : Worked} {o : Network} {n : ℕ} {domains bans : List ℕ} {bars : List (Option Bars)}
     {quota : List ℕ} {missed : Bool} {left made : ℕ} {stuck : Bool} {i rest : ℕ}
@@ -76,3 +98,11 @@ module _ {once : Bool} {whole : Worked} {o : Network} {n : ℕ} {domains bans : 
               rw k.agents
               (bars-stored bans v.to a E.to_low E.to_high e o.agents bars' wide barred step.agent step.bars h.sized.agents b);
         })
+
+  -- the same, whether posts were stored or there were none
+  pub sent-goes : (bars' : List (Option Bars)) → length bars' ≡ 12 → Barred bans o.agents bars' → {x : ℕ} {step : Step} → Stepped o v.from v.to x step
+      → {q : Network} → Sent o v.to (posts_left step.posts step.backs) q → {heads counts : ℕ} → Taken q v.from v.to heads counts
+      → (a : ℕ) → a ≡ pairs_before (pred v.to) → BarsOf bans v.to a step.agent step.bars
+      → Here once whole (arrived q v.from v.to heads counts step.agent step.verdict) n domains bans
+      (set bars' (v.to - 1) (Some step.bars)) quota missed left made false v.from v.rest
+  sent-goes bars' wide barred s sent t a e b = rw sent.raised (stored-goes bars' wide barred s sent.posting refl (rw sent.raised at t) a e b)

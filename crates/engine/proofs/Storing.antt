@@ -1,6 +1,6 @@
 -- The engine's loop that stores what the receiver sends: at its head the posts are stored as far as they are not left. At the first that finds no
 -- room the delivery is rejected; with none left it is made.
-use Prim.Native.Nat.{ℕ, ◌+◌, ◌-◌, ◌%◌, ◌≤◌, ◌<◌}
+use Prim.Native.Nat.{ℕ, ◌-◌, ◌≤◌, ◌<◌}
 use mathlib.Core.Bool.{true, false, false≢true}
 use mathlib.Core.Path.{◌≡◌, refl, sym, ap, ◌∙◌}
 use mathlib.Core.List.{List, ◌∷◌}
@@ -44,11 +44,6 @@ module _ {o₀ : Network} {j : ℕ} {o : Network} {all left rest : List Post'} {
   turn-full t d l = post-full h (post_of p) rest e t d l
 
 -- ---- the message taken off
-
--- the sender's row of heads, as the code moves it
-pub head-moved : (row j heads head : ℕ) → assignment heads ≡ at (assignment row) j ((head + 1) % 8) → head ≡ assignment row j
-    → assignment heads ≡ at (assignment row) j ((assignment row j + 1) % 8)
-head-moved row j heads head e h = rw (← h) e
 
 -- the sender's row of counts is not the receiver's
 pub waits-still : {o : Network} {i j x : ℕ} {all left : List Post'} {p : Network} {now : ℕ} → Found o i j x → Posting o j all left p now

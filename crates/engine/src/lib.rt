@@ -18,7 +18,7 @@ use agent::Letters;
 use choosing::{Bars, Own};
 use clauses::places::{channel_at, place_at, words_before};
 use network::{Network, Place};
-use packed::{digit, one_less, one_more, with_digit};
+use packed::{digit, one_further, one_less, one_more, with_digit};
 use refusals::Refusal;
 
 // How a run ends.
@@ -114,35 +114,37 @@ pub fn work(r: Network, task: Task) -> Answer
                     None => Bars::of(agent.view.digits, own, mine),
                 };
                 let step = agent.receive(own, mine, barred, from, message);
-                let mut now = o.counts[at];
-                // beside the step, and not by `step.letters()`: a step that is lent stays in memory, and the long run takes a sixth longer
-                let backs = step.backs;
-                let letters = Letters {
-                    posts: step.posts,
-                    backs: &backs,
-                };
-                'posts: for post in letters {
-                    let waiting = digit(now, post.to);
-                    if 8 <= waiting {
-                        rest = with_digit(rest, to, 0);
-                        missed = true;
-                        continue 'visits;
-                    }
-                    let end = place_at(
-                        channel_at(to, post.to),
-                        digit(o.heads[at], post.to),
-                        waiting,
-                    );
-                    o.places[end] = Place {
-                        message: post.message,
+                // half of the steps are still: they have no posts, and their Backs are not moved
+                if !step.still {
+                    let mut now = o.counts[at];
+                    // beside the step, and not by `step.letters()`: a step that is lent stays in memory, and the long run takes a sixth longer
+                    let backs = step.backs;
+                    let letters = Letters {
+                        posts: step.posts,
+                        backs: &backs,
                     };
-                    now = one_more(now, post.to);
+                    'posts: for post in letters {
+                        let waiting = digit(now, post.to);
+                        if 8 <= waiting {
+                            rest = with_digit(rest, to, 0);
+                            missed = true;
+                            continue 'visits;
+                        }
+                        let end = place_at(
+                            channel_at(to, post.to),
+                            digit(o.heads[at], post.to),
+                            waiting,
+                        );
+                        o.places[end] = Place {
+                            message: post.message,
+                        };
+                        now = one_more(now, post.to);
+                    }
+                    o.counts[at] = now;
                 }
-                o.counts[at] = now;
-                let heads = o.heads[row];
-                o.heads[row] = with_digit(heads, to, (digit(heads, to) + 1) % 8);
+                step.agent.put(&mut o.agents[at], step.still);
+                o.heads[row] = one_further(o.heads[row], to);
                 o.counts[row] = one_less(o.counts[row], to);
-                o.agents[at] = step.agent;
                 bars[at] = Some(step.bars);
                 o.verdict = step.verdict;
                 stuck = false;

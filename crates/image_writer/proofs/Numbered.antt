@@ -1,22 +1,20 @@
 -- The lines by number are all lines in their order, and each has the channel of its number.
 -- The order by computation; the channel's number from the two ends, the receiver before or past the sender.
-use Prim.Native.Nat.{ℕ, zero, suc, ◌+◌, ◌-◌, ◌*◌, ◌/◌, ◌%◌, ◌≤◌, ◌<◌}
+use Prim.Native.Nat.{ℕ, suc, ◌+◌, ◌-◌, ◌*◌, ◌%◌, ◌≤◌, ◌<◌}
 use mathlib.Core.Path.{◌≡◌, refl, sym, ap, ◌∙◌}
 use mathlib.Core.Bool.{true}
-use mathlib.Core.List.{List, [], ◌∷◌}
-use native.Mathlib.Nat.{not-suc-le-zero}
+use mathlib.Core.List.{[], ◌∷◌}
 use native.Mathlib.Omega.{arith}
-use lib.Dec.{leb, ltb}
-use lib.ListN.{length, get_or}
-use borrow.Author.Tests.{leb-true, leb-false, ltb-true, ltb-false}
-use Rattle.base.specs.Finite.{from_one, gather}
+use lib.Dec.{leb}
+use lib.ListN.{length}
+use borrow.Author.Tests.{leb-true, leb-false}
+use Rattle.base.specs.Finite.{gather}
 use Rattle.base.proofs.Tests.{test}
 use Rattle.problem.specs.Problem.{max_agents}
 use Rattle.protocol.specs.Network.{Network as Network'}
-use Rattle.packed.specs.Packed.{assignment}
 use Rattle.network.specs.declared.Network.{Network}
 use Rattle.network.specs.Abstract.{is_channel, channel_at, ring, row_of, channel_of, network_of}
-use Rattle.clauses.proofs.Numbering.{to-channel, ends as between, channel-up, channel-down}
+use Rattle.clauses.proofs.Numbering.{to-channel, channel-up, channel-down}
 use Rattle.network.proofs.Rings.{ring-length, channel-is}
 use Rattle.image_format.specs.Image.{all_lines}
 use Rattle.image_format.proofs.Lengths.{total}
@@ -65,29 +63,6 @@ ends line h =
     let j = line % 11 + 1 in
     ends_at line (sender_of line) j refl (receiver-before line p) (omega arith) (omega arith) (omega arith) (omega arith) (λ q. omega arith)
     (sym (channel-up (sender_of line) j (omega arith) (omega arith)) ∙ omega arith))
-
--- no other channel has its number
-pub ends_are : (line i j : ℕ) → is_channel i j ≡ true → channel_at i j ≡ line → (i ≡ sender_of line) × (j ≡ receiver_of line)
-unfolding sender_of
-ends_are line i j e q =
-    let b = between i j e in
-    test (ltb j i)
-    (λ t.
-    let h = ltb-true j i t in
-    let n : 11 * (i - 1) + j - 1 ≡ line = channel-up i j b.to_low h ∙ q in
-    let from : i ≡ 1 + line / 11 = omega (arith, b.to_high, b.from-high) in
-    (from, omega (arith, receiver-before line (omega arith), b.to_low)))
-    (λ t.
-    let h = ltb-false j i t in
-    let a = b.apart in
-    let n : 11 * (i - 1) + j - 2 ≡ line = channel-down i j (omega (arith, b.from_low)) h ∙ q in
-    let from : i ≡ 1 + line / 11 = omega (arith, b.to_high, b.from_low) in
-    (from, omega (arith, receiver-past line (omega arith), b.from_low)))
-
-pub row-digit : (rows : List ℕ) (i j : ℕ) → 1 ≤ i → assignment (get_or rows (i - 1) 0) j ≡ row_of rows i j
-unfolding row_of from_one
-row-digit rows zero j h = absurd (not-suc-le-zero h)
-row-digit rows (suc i) j h = let e : suc i - 1 ≡ i = omega arith in rw e
 
 -- ---- all lines
 

@@ -4,3 +4,4 @@ mod Passing
 pub mod Whole
 pub mod Zeros
 mod Asking
+pub mod Asked

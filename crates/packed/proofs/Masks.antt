@@ -1,14 +1,16 @@
 -- Masks of own values: their bits are what passes, and their trailing zeros give the lowest value that does.
--- A loop builds one from the highest value down, a doubling each, as the definition recurses.
+-- A loop builds one from the highest value down, a doubling each, as the definition recurses, or from the lowest up, a bit each.
 use Prim.Native.Nat.{ℕ, zero, suc, ◌+◌, ◌-◌, ◌*◌, ◌/◌, ◌%◌, ◌^◌, ◌<◌, ◌≤◌}
 use mathlib.Core.Path.{◌≡◌, refl, sym, ap, ◌∙◌}
 use mathlib.Core.Bool.{Bool, true, false, cond}
 use mathlib.Core.Option.{Option, none, some}
 use native.Mathlib.Nat.{pow-suc, not-suc-le-zero, le_of_suc-le-suc, lt_of_lt_of_le, add-suc, suc-add, add-zero}
+use native.Mathlib.Numerals.{add-one}
 use native.Mathlib.Omega.{arith}
+use lib.Bits.{bit_or, or_shifted_r}
 use lib.Dec.{eqb}
 use lib.Count.{count_trailing_zeros}
-use lib.Pow.{pow_mono}
+use lib.Pow.{pow_mono, shl_exact}
 use mir.Val.{bool_byte}
 use borrow.Author.Tests.{eqb-true, eqb-false}
 use Rattle.base.specs.Finite.{lowest}
@@ -75,6 +77,23 @@ mask-down p d (suc i) l h =
     let g : d - i ≡ suc (d - suc i) = omega arith in
     rw (e, g)
 mask-down p d zero l h = absurd (not-suc-le-zero l)
+
+-- one number more at the upper end
+mask-more : (p : ℕ → Bool) (v n : ℕ) → mask_from p v (suc n) ≡ mask_from p v n + cond (p (v + n)) (2 ^ n) 0
+unfolding mask_from
+mask-more p v zero = rw (add-zero v) refl
+mask-more p v (suc n) =
+    rw (mask-more p (suc v) n, add-suc v n, ← suc-add v n)
+    (test (p (suc v + n)) (λ e. rw e (omega (arith, pow-suc 2 n))) (λ e. rw e (omega arith)))
+
+-- one turn of the loop that builds it from below, as the code has it
+pub mask-up : (p : ℕ → Bool) (i : ℕ) → i < 8
+    → mask_from p 1 (i + 1) ≡ cond (p (suc i)) (bit_or (mask_from p 1 i) (1 * 2 ^ i % 2 ^ 8)) (mask_from p 1 i)
+mask-up p i h =
+    let o : bit_or (mask_from p 1 i) (1 * 2 ^ i % 2 ^ 8) ≡ mask_from p 1 i + 2 ^ i =
+    rw (shl_exact {a = 1} 1 i 8 (omega arith) (omega arith)) (or_shifted_r 1 i (mask_from p 1 i) (mask_lt p 1 i) ∙ omega arith) in
+    let next : 1 + i ≡ suc i = omega arith in
+    rw (add-one i, mask-more p 1 i, o, next) (test (p (suc i)) (λ e. rw e) (λ e. rw e (add-zero (mask_from p 1 i))))
 
 -- ---- the lowest value that passes
 

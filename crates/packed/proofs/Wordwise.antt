@@ -1,23 +1,25 @@
 -- Words compared whole: equal digits make equal words, and a mask that has 15 at each agent that a word names keeps the other word's values of these.
-use Prim.Native.Nat.{ℕ, zero, suc, pred, ◌+◌, ◌*◌, ◌/◌, ◌%◌, ◌^◌, ◌<◌, ◌≤◌}
-use mathlib.Core.Path.{◌≡◌, refl, sym, ap, ◌∙◌}
+-- And a mask that has 7 at one agent and 15 at the others takes that digit modulo 8.
+use Prim.Native.Nat.{ℕ, zero, suc, pred, ◌+◌, ◌*◌, ◌-◌, ◌/◌, ◌%◌, ◌^◌, ◌<◌, ◌≤◌}
+use mathlib.Core.Path.{◌≡◌, refl, sym, ap, fun_ext, ◌∙◌}
 use mathlib.Core.Bool.{Bool, true, not, cond, ◌||◌}
 use native.Mathlib.Nat.{pow-suc, zero-div, lt_of_le_of_lt, mod-eq_of_lt, not-suc-le-zero}
 use native.Mathlib.Omega.{arith}
-use lib.Bits.{bit_and, bit_or, and_shr, and_mod, and_mask, and_zero_r, and_le_l, and_le_r}
+use lib.Bits.{bit_and, bit_or, and_shr, and_mod, and_mask, and_zero_l, and_zero_r, and_le_l, and_le_r}
 use lib.Dec.{eqb, leb}
+use lib.Pow.{shl_exact}
 use borrow.Author.Tests.{eqb-true, eqb-false, eq-eqb, ne_eqb, leb-true, leb-false}
-use Rattle.base.specs.Finite.{from_one, all_to}
+use Rattle.base.specs.Finite.{at, from_one, all_to}
 use Rattle.base.specs.Bits.{bit}
 use Rattle.base.proofs.Tests.{test, eq_test}
-use Rattle.base.proofs.Search.{all_to-at, to-all_to}
+use Rattle.base.proofs.Search.{all_to-at, to-all_to, at_same, at_other}
 use Rattle.base.proofs.Bits.{bit-zero, bit-or}
 use Rattle.base.proofs.Peeling.{same_test, bit-shr, all_to-same}
 use Rattle.agent_rules.specs.Message.{known}
 use Rattle.agent_rules.specs.Shape.{max_named}
-use Rattle.packed.specs.Packed.{digit, assignment}
+use Rattle.packed.specs.Packed.{exchanged, digit, assignment}
 use Rattle.packed.proofs.Known.{known-suc}
-use Rattle.packed.proofs.Digits.{digit-zero, digit-suc, digit_lt, digit-shr, digit-above, digit-bit}
+use Rattle.packed.proofs.Digits.{digit-zero, digit-suc, digit_lt, digit-shr, digit-above, digit-bit, digit-changed}
 
 -- ---- equal digits
 
@@ -174,3 +176,79 @@ within-is x y n h l f =
         → eqb (assignment (bit_and y n) k) (assignment x k) ≡ not (known (assignment x k)) || eqb (assignment x k) (assignment y k)
     each zero a b = absurd (not-suc-le-zero a)
     each (suc k) a b = rw (digit_and y n k, f (suc k)) (kept (digit x k) (digit y k) (digit_lt y k))
+
+-- ---- a digit taken modulo 8
+
+-- all digits below 16 ^ n turned round
+digit_not : (n x k : ℕ) → x < 16 ^ n → k < n → digit (16 ^ n - 1 - x) k ≡ 15 - digit x k
+digit_not zero x k h l = absurd (not-suc-le-zero l)
+digit_not (suc n) x zero h l =
+    let g : x < 16 ^ n * 16 = rw pow-suc at h in
+    rw (digit-zero (16 ^ suc n - 1 - x), digit-zero x, pow-suc 16 n) (omega arith)
+digit_not (suc n) x (suc k) h l =
+    let g : x < 16 ^ n * 16 = rw pow-suc at h in
+    let d : (16 ^ n * 16 - 1 - x) / 16 ≡ 16 ^ n - 1 - x / 16 = omega arith in
+    rw (digit-suc (16 ^ suc n - 1 - x) k, digit-suc x k, pow-suc 16 n, d) (digit_not n (x / 16) k (omega arith) (omega arith))
+
+-- the word that has 8 as digit k alone, and the one that has 7 there and 15 as the others, as the code has them
+abbrev eight : ℕ → ℕ
+eight k = 8 * 2 ^ (4 * (k - 1)) % 2 ^ 64
+
+abbrev pub sevens : ℕ → ℕ
+sevens k = 2 ^ 64 - 1 - eight k
+
+eight-alone : (k : ℕ) → 1 ≤ k → k ≤ 16 → assignment (eight k) ≡ at (assignment 0) k 8
+unfolding exchanged
+eight-alone k l u =
+    let p = 4 * (k - 1) in
+    let e : 0 - 0 / 2 ^ p % 2 ^ 4 * 2 ^ p + 8 * 2 ^ p ≡ 8 * 2 ^ p = omega arith in
+    rw (shl_exact {a = 8} 4 p 64 (omega arith) (omega arith)) (ap assignment (sym e) ∙ digit-changed 0 k 8 l (omega arith))
+
+modulo-eight : (x k : ℕ) → x < 2 ^ 64 → 1 ≤ k → k ≤ 16 → assignment (bit_and x (sevens k)) ≡ at (assignment x) k (assignment x k % 8)
+unfolding assignment from_one
+modulo-eight x k h l u = fun_ext λ j. go j
+  where
+    go : (j : ℕ) → assignment (bit_and x (sevens k)) j ≡ at (assignment x) k (assignment x k % 8) j
+    go zero = sym (at_other (assignment x) k (assignment x k % 8) zero (λ e. omega arith))
+    go (suc j) =
+        test (leb 16 j)
+        (λ t.
+        let b = leb-true 16 j t in
+        let z = digit-above 16 x j h b in
+        rw (digit_and x (sevens k) j, z, and_zero_l, at_other (assignment x) k (assignment x k % 8) (suc j) (λ e. omega arith)) (sym z))
+        (λ t.
+        let small : eight k < 16 ^ 16 = omega arith in
+        let turned : digit (sevens k) j ≡ 15 - at (assignment 0) k 8 (suc j) =
+        digit_not 16 (eight k) j small (leb-false 16 j t) ∙ ap (λ (a : ℕ → ℕ). 15 - a (suc j)) (eight-alone k l u) in
+        rw (digit_and x (sevens k) j, turned)
+        (eq_test (suc j) k
+        (λ e. rw (← e, at_same (assignment 0) (suc j) 8, at_same (assignment x) (suc j) (digit x j % 8)) (and_mask (digit x j) 3))
+        (λ n. rw (
+          at_other (assignment 0) k 8 (suc j) n,
+          at_other (assignment x) k (assignment x k % 8) (suc j) n,
+          digit-of-zero j,
+          and_mask (digit x j) 4,
+        ) (mod-eq_of_lt (digit_lt x j)))))
+
+-- so there is room for one more
+pub room-left : (x k : ℕ) → x < 2 ^ 64 → 1 ≤ k → k ≤ 16 → assignment (bit_and x (sevens k)) k < 15
+room-left x k h l u = rw (modulo-eight x k h l u, at_same (assignment x) k (assignment x k % 8)) (omega arith)
+
+at-again : (f : ℕ → ℕ) (k a b : ℕ) → at (at f k a) k b ≡ at f k b
+at-again f k a b =
+    fun_ext λ j.
+    eq_test j k
+    (λ e. rw (e, at_same (at f k a) k b) (sym (at_same f k b)))
+    (λ n. rw (at_other (at f k a) k b j n, at_other f k a j n) (sym (at_other f k b j n)))
+
+-- r has one more there, and is taken modulo 8 again
+pub one_further : (x k r : ℕ) → x < 2 ^ 64 → r < 2 ^ 64 → 1 ≤ k → k ≤ 16
+    → let y = bit_and x (sevens k) in
+    assignment r ≡ at (assignment y) k (assignment y k + 1)
+    → assignment (bit_and r (sevens k)) ≡ at (assignment x) k ((assignment x k + 1) % 8)
+one_further x k r h s l u e =
+    let d = assignment x k in
+    let after : assignment r ≡ at (assignment x) k (d % 8 + 1) =
+    rw (modulo-eight x k h l u, at_same (assignment x) k (d % 8), at-again (assignment x) k (d % 8) (d % 8 + 1)) at e in
+    let round : (d % 8 + 1) % 8 ≡ (d + 1) % 8 = omega arith in
+    rw (modulo-eight r k s l u, after, at_same (assignment x) k (d % 8 + 1), at-again (assignment x) k (d % 8 + 1) ((d % 8 + 1) % 8), round)

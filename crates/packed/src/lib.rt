@@ -3,7 +3,7 @@
 // plain number too, as the record that is handed over has it.
 #![tactic(auto)]
 
-ghost use Rattle.std.specs.Prelude.{◌≡◌, ℕ, ◌+◌, ◌*◌, ◌-◌, ◌^◌, ◌≤◌, ◌<◌, true, false, not, cond, ◌||◌, eqb, leb, IfSome};
+ghost use Rattle.std.specs.Prelude.{◌≡◌, ℕ, ◌+◌, ◌*◌, ◌-◌, ◌%◌, ◌^◌, ◌≤◌, ◌<◌, true, false, not, cond, ◌||◌, eqb, leb, IfSome};
 ghost use Rattle.std.specs.Iterator.{at_most};
 ghost use Rattle.base.specs.Finite.{at, highest, all_to};
 ghost use Rattle.agent_rules.specs.Message.{known};
@@ -62,6 +62,15 @@ pub fn one_less(x: u64, k: u8) -> u64
     ensures { (assignment result ≡ at (assignment x) k (assignment x k - 1)) × (result < x) }
 {
     x - (1u64 << (4 * (k - 1)))
+}
+
+// The word with digit k one further round a ring of eight: after 7 comes 0, and a digit beyond 7 stands for itself modulo 8.
+pub fn one_further(x: u64, k: u8) -> u64
+    requires { (1 ≤ k) × (k ≤ 16) }
+    ensures { assignment result ≡ at (assignment x) k ((assignment x k + 1) % 8) }
+{
+    let sevens = !(8u64 << (4 * (k - 1)));
+    one_more(x & sevens, k) & sevens
 }
 
 // The lowest digit of a word that is not 0, where there is one.

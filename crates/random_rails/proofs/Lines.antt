@@ -8,34 +8,24 @@ use Rattle.std.specs.Option.{is_some}
 use native.Mathlib.Omega.{arith}
 use lib.Dec.{leb, ltb, eqb}
 use lib.ListN.{get_or}
-use borrow.Author.Tests.{lt-ltb, le-ltb, ltb-true, ltb-false, leb-true, leb-false, eq-eqb, ne_eqb}
+use borrow.Author.Tests.{ltb-true, ltb-false, leb-true, leb-false, eq-eqb, ne_eqb}
 use Rattle.base.specs.Finite.{within}
 use Rattle.base.proofs.Tests.{test, eq_test, not-not, both, within-true}
 use Rattle.protocol.specs.Lines.{is_channel, channel_at}
 use Rattle.packed.specs.Packed.{assignment}
-use Rattle.clauses.proofs.Numbering.{ends, channel-up, channel-down}
+use Rattle.clauses.proofs.Numbering.{channel-below, ends_low, ends-high}
+use Rattle.clauses.proofs.Columns.{channel-one}
 use Rattle.random_rails.specs.Lines.{sender_of, receiver_of, held_on, rests_below, rests_on, Waiting}
 
 -- ---- the ends of a line
 
--- the channel with this number goes from the line's sender to its receiver
-pub ends_of : (line from to : ℕ) → is_channel from to ≡ true → channel_at from to ≡ line → (from ≡ sender_of line) × (to ≡ receiver_of line)
+-- its sender and its receiver have a channel, and its number is the line's
+line-ends : (line : ℕ) → line < 132 → (is_channel (sender_of line) (receiver_of line) ≡ true) × (channel_at (sender_of line) (receiver_of line) ≡ line)
 unfolding sender_of receiver_of
-ends_of line from to h e =
-    let b = ends from to h in
-    test (ltb to from)
-    (λ t.
-    let u = ltb-true to from t in
-    let n = channel-up from to b.to_low u ∙ e in
-    let f : from ≡ line / 11 + 1 = omega arith in
-    let o : to ≡ line % 11 + 1 = omega arith in
-    (f, rw (lt-ltb (line % 11 + 1) (line / 11 + 1) (omega arith)) o))
-    (λ t.
-    let u = ltb-false to from t in
-    let n = channel-down from to (omega (arith, b.apart)) u ∙ e in
-    let f : from ≡ line / 11 + 1 = omega (arith, b.apart) in
-    let o : to ≡ line % 11 + 1 + 1 = omega (arith, b.apart) in
-    (f, rw (le-ltb (line % 11 + 1) (line / 11 + 1) (omega arith)) o))
+line-ends line l =
+    test (ltb (line % 11 + 1) (line / 11 + 1))
+    (λ t. rw t (ends_low line l (ltb-true (line % 11 + 1) (line / 11 + 1) t)))
+    (λ t. rw t (ends-high line l (ltb-false (line % 11 + 1) (line / 11 + 1) t)))
 
 -- the ends of a line are none of them 0
 pub line_low : (n i j : ℕ) (b : Bool) → b ≡ within n i && within n j && not (eqb i j) → b ≡ true → (1 ≤ i) × (1 ≤ j)
@@ -48,7 +38,10 @@ line_low n i j b e t =
 pub held_by : (counts : List ℕ) (line from to n : ℕ) → is_channel from to ≡ true → channel_at from to ≡ line
     → n ≡ assignment (get_or counts (from - 1) 0) to → n ≡ held_on counts line
 unfolding held_on
-held_by counts line from to n h e w = let ends = ends_of line from to h e in rw (← ends.0, ← ends.1) w
+held_by counts line from to n h e w =
+    let its = line-ends line (rw e at (channel-below from to h)) in
+    let ends = channel-one from to (sender_of line) (receiver_of line) h its.0 (e ∙ sym its.1) in
+    rw (← ends.0, ← ends.1) w
 
 -- ---- round all lines
 

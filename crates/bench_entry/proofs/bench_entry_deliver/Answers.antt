@@ -3,8 +3,9 @@ use mathlib.Core.Path.{refl, ◌∙◌}
 use native.Mathlib.Omega.{arith}
 use native.Mathlib.Numerals.{add-one}
 use Rattle.protocol.specs.Network.{start_sheet}
+use Rattle.network.proofs.Asked.{value-or}
 use Rattle.bench_entry.specs.Giving.{mixed, asked_to}
-use Rattle.bench_entry.proofs.Playing.{value-or, number-given, one-asked, all_asked}
+use Rattle.bench_entry.proofs.Playing.{number-given, one-asked, all_asked}
 use Rattle.bench_entry.proofs.bench_entry_deliver.Goals as goal
 
 pub loop-i-init : goal.loop-i-init

@@ -1,24 +1,17 @@
 -- `sparing` is the mask of the nogoods that do not name an agent.
--- From the highest own value down. The invariant: the values above those that are left have their bits.
+-- From the lowest own value up. The invariant: the first i have their bits, and there are no others.
 use native.Mathlib.Omega.{arith}
-use lib.Dec.{eqb}
-use Rattle.packed.proofs.Masks.{byte-lt}
-use Rattle.choosing.proofs.Spared.{sparing-none, sparing-room, sparing-next}
+use Rattle.choosing.proofs.Spared.{sparing-none, sparing-set, sparing-left}
 use Rattle.choosing.proofs.sparing.Goals as goal
+use Rattle.choosing.proofs.sparing.Goals.{then-digit-eq0, else-digit-eq0}
 
-pub loop-nogood-init : goal.loop-nogood-init
-loop-nogood-init c =
-    rw (c.into_iter-nogood-iterator.ensures.into_iter_gives, c.rev-nogood-items.ensures.source, c.iter.ensures.rest)
-    (sparing-none _ _ c.told-nogoods)
+pub loop-i-init : goal.loop-i-init
+loop-i-init c = sparing-none _ _
 
-pub overflow_mul-mask : goal.overflow_mul-mask
-overflow_mul-mask c =
-    record { fits = omega (arith, sparing-room _ _ _ _ c.loop-nogood.invariant _ _ c.in-Some.ensures.steps) }
-
-pub overflow_add-mask : goal.overflow_add-mask
-overflow_add-mask c =
-    record { fits = omega (arith, sparing-room _ _ _ _ c.loop-nogood.invariant _ _ c.in-Some.ensures.steps, byte-lt (eqb c.digit.result 0)) }
-
-pub loop-nogood-preserved : goal.loop-nogood-preserved
-loop-nogood-preserved c =
-    sparing-next _ _ _ _ c.loop-nogood.invariant _ _ c.in-Some.ensures.steps c.digit.result c.digit.ensures.0
+pub loop-i-preserved : goal.loop-i-preserved
+loop-i-preserved c =
+    let loop = c.loop-i in
+    elim c.if-digit-eq0.branch [
+      | then-digit-eq0 w ↦ rw w.mask-is (sparing-set _ _ _ _ _ (omega arith) c.digit.ensures.0 loop.invariant w.if-digit-eq0.true)
+      | else-digit-eq0 w ↦ rw w.mask-is (sparing-left _ _ _ _ _ (omega arith) c.digit.ensures.0 loop.invariant w.if-digit-eq0.false)
+    ]

@@ -1,7 +1,9 @@
 -- `sparing` is the mask of the nogoods that do not name an agent.
--- From the highest own value down. The invariant: the values above those that are left have their bits.
-use Rattle.choosing.proofs.Spared.{Sparing}
+-- From the lowest own value up. The invariant: the first i have their bits, and there are no others.
+use mathlib.Core.Path.{◌≡◌}
+use Rattle.packed.specs.Packed.{mask_from}
+use Rattle.choosing.proofs.Spared.{spares}
 use Rattle.choosing.proofs.sparing.Given as goal
 
-abbrev pub invariant-loop-nogood : goal.invariant-loop-nogood
-invariant-loop-nogood l = Sparing l.nogoods l.k l.nogood-iterator.iter.rest.now l.mask
+abbrev pub invariant-loop-i : goal.invariant-loop-i
+invariant-loop-i l = l.mask ≡ mask_from (spares l.nogoods l.k) 1 l.i

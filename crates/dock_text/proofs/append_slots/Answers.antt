@@ -4,8 +4,9 @@ use mathlib.Core.List.{[]}
 use Prim.Native.Nat.{◌+◌, ◌-◌}
 use native.Mathlib.Omega.{arith}
 use Rattle.base.specs.Finite.{gather}
+use Rattle.network.proofs.Asked.{value-or}
 use Rattle.lent.proofs.Puts.{none_left, all_left}
-use Rattle.dock_text.proofs.Lines.{unwrapped, slots-more, slots-all}
+use Rattle.dock_text.proofs.Lines.{slots-more, slots-all}
 use Rattle.dock_text.proofs.append_slots.Goals as goal
 
 pub loop-i-init : goal.loop-i-init
@@ -20,7 +21,7 @@ loop-i-preserved c =
     let h = c.loop-i in
     let done : (h.i + 1) - 1 ≡ h.i = omega arith in
     record {
-      lines = rw done (slots-more _ h.i _ h.auto.i h.invariant.lines (c.unwrap_or.ensures ∙ unwrapped c.value.result ∙ c.value.ensures.1) c.append_slot.ensures.text);
+      lines = rw done (slots-more _ h.i _ h.auto.i h.invariant.lines (c.unwrap_or.ensures ∙ value-or c.value.result ∙ c.value.ensures.1) c.append_slot.ensures.text);
       few = omega (arith, h.invariant.few, c.append_slot.ensures.short, c.append_slot.ensures.text.behind);
       near = omega arith;
     }
@@ -31,4 +32,4 @@ returns c = let h = c.loop-i in slots-all _ (h.i - 1) h.invariant.lines (omega a
 pub returns-2 : goal.returns-2
 returns-2 c =
     let h = c.loop-i in
-    slots-all _ h.i (slots-more _ h.i _ h.auto.i h.invariant.lines (c.unwrap_or.ensures ∙ unwrapped c.value.result ∙ c.value.ensures.1) c.append_slot.ensures.text) (omega arith)
+    slots-all _ h.i (slots-more _ h.i _ h.auto.i h.invariant.lines (c.unwrap_or.ensures ∙ value-or c.value.result ∙ c.value.ensures.1) c.append_slot.ensures.text) (omega arith)

@@ -9,11 +9,11 @@ use Rattle.std.specs.Prelude.{Some}
 use Rattle.base.specs.Finite.{at}
 use Rattle.packed.specs.Packed.{assignment}
 use Rattle.agent.specs.Abstract.{assigned}
-use Rattle.agent.specs.Posting.{letters_left}
+use Rattle.agent.specs.Posting.{posts_left, letters_left}
 use Rattle.protocol.specs.Run.{one_if}
 use Rattle.network.specs.Abstract.{network_of}
 use Rattle.clauses.proofs.Numbering.{Ends}
-use Rattle.network_laws.proofs.Changes.{FullArrays, rowed, arrived}
+use Rattle.network_laws.proofs.Changes.{FullArrays, arrived}
 use Rattle.network_laws.proofs.Handing.{Found, Stepped, bars-ask, step-asks, steps, storing}
 use Rattle.network_laws.proofs.Stepping.{few-agents}
 use Rattle.engine.specs.Refused.{refused_number}
@@ -26,11 +26,11 @@ use Rattle.engine.proofs.Testing.{fresh-line, never-five}
 use Rattle.engine.proofs.Here.{Here}
 use Rattle.engine.proofs.Starting.{Began, running, found, breaks, refused, begins}
 use Rattle.engine.proofs.Visiting.{passes-all, line-channel, line-ends, no-verdict, finds}
-use Rattle.engine.proofs.Storing.{turn-line, turn-ends, turn-stores, turn-full, head-moved, waits-still}
-use Rattle.engine.proofs.Accepting.{stored-jams, stored-goes}
+use Rattle.engine.proofs.Storing.{turn-line, turn-ends, turn-stores, turn-full}
+use Rattle.engine.proofs.Accepting.{stored-jams, Sent, none-sent, sent-waits, sent-goes}
 use Rattle.engine.proofs.Resting.{one_more, no_more, Stop, verdict-stands, round-stuck, nothing-waits, rounds-used, work-stops, round-settled, round-begins}
 use Rattle.engine.proofs.work.Goals as goal
-use Rattle.engine.proofs.work.Goals.{in-Deliver+in_default, in-Run, in-Some-bars, in-None, then-not-missed, else-not-missed, then-o-via-then-o, then-o-via-else-o+then-stuck, then-o-via-else-o+else-stuck+then-not-waits, then-o-via-else-o+else-stuck+else-not-waits+then-left-eq0, then-once+then-stuck-2, else-once, else-once-via-then-once+else-stuck-2, else-once-via-else-once, then-not-once, else-not-once, Else-answer, In-Some-next_visit, In-Some-post, After-place_at, After-receive-step, After-one_less, Joined-bars-at, Joined-not-missed}
+use Rattle.engine.proofs.work.Goals.{in-Deliver+in_default, in-Run, in-Some-bars, in-None, then-not-missed, else-not-missed, then-o-via-then-o, then-o-via-else-o+then-stuck, then-o-via-else-o+else-stuck+then-not-waits, then-o-via-else-o+else-stuck+else-not-waits+then-left-eq0, then-once+then-stuck-2, else-once, else-once-via-then-once+else-stuck-2, else-once-via-else-once, then-not-once, else-not-once, Else-answer, In-Some-next_visit, In-Some-post, After-place_at, After-receive-step, After-one_less, Joined-bars-at, Joined-not-step, then-not-step+in-None-post, else-not-step, Joined-not-missed}
 
 -- the shape was tested, so there are at most twelve agents
 few : (c : Else-answer) → c.args.r.count ≤ 12
@@ -74,17 +74,44 @@ stepped c =
     let h = c.visits.invariant.0 in
     let none = no-verdict h c.in-Some-next_visit.visit c.in-Some-next_visit.ensures c.visits.invariant.1 in
     let found = finds h c.in-Some-next_visit.visit c.in-Some-next_visit.ensures none c.channel_at.result c.digit-head.result c.place_at.result c.channel_at.ensures.0 c.digit-head.ensures.0 c.place_at.ensures.0 in
-    steps found no_agent _ _ c.words_before-words.result h.live.owned h.live.table c.words_before-words.ensures.0 c.receive-step.result c.receive-step.ensures
+    steps found no_agent _ _ c.words_before-words.result h.live.owned h.live.table c.words_before-words.ensures.0 c.receive-step.result c.receive-step.ensures.steps_as
+
+-- all that the step sends is on its lines
+sent : (c : Joined-not-step)
+    → Stepped c.visits.o c.in-Some-next_visit.visit.from c.in-Some-next_visit.visit.to c.place_at.result c.receive-step.result
+    → Sent c.visits.o c.in-Some-next_visit.visit.to (posts_left c.receive-step.result.posts c.receive-step.result.backs) c.if-not-step.o
+sent c step =
+    elim c.if-not-step.branch [
+      | then-not-step+in-None-post a ↦
+          rw a.o-is
+          (record {
+            before = a.posts.o;
+            row = a.posts.now;
+            posting =
+                rw a.in-None-post.ensures.steps.0 at (rw (ap letters_left a.into_iter-post-iterator.ensures.into_iter_gives) at a.posts.invariant.0);
+            raised = refl;
+          })
+      | else-not-step a ↦ rw a.o-is (none-sent (storing step) (c.receive-step.ensures.still a.if-not-step.false).0)
+    ]
+
+-- .. and the line is visited no more than it was to be
+unpassed : (c : Joined-not-step) → (c.if-not-step.rest ≡ c.in-Some-next_visit.visit.rest) × (c.if-not-step.missed ≡ c.visits.missed)
+unpassed c =
+    elim c.if-not-step.branch [
+      | then-not-step+in-None-post a ↦ (a.rest-is ∙ a.posts.invariant.1, a.missed-is ∙ a.posts.invariant.2)
+      | else-not-step a ↦ (a.rest-is, a.missed-is)
+    ]
 
 -- the delivery is made
 gone : (c : After-one_less) (step : Stepped c.visits.o c.in-Some-next_visit.visit.from c.in-Some-next_visit.visit.to c.place_at.result c.receive-step.result)
-    → Here c.match-task.once.0 (work_by c.args.task (network_of c.args.r)) (arrived (rowed c.posts.o c.in-Some-next_visit.visit.to c.posts.now) c.in-Some-next_visit.visit.from c.in-Some-next_visit.visit.to c.with_digit.result c.one_less.result c.receive-step.result.agent c.receive-step.result.verdict) c.args.r.count c.args.r.domains c.args.r.bans (set c.visits.bars (c.in-Some-next_visit.visit.to - 1) (Some c.receive-step.result.bars)) c.rounds.quota c.posts.missed c.rounds.left c.rounds.made false c.in-Some-next_visit.visit.from c.posts.rest
-gone c step =
+    → Sent c.visits.o c.in-Some-next_visit.visit.to (posts_left c.receive-step.result.posts c.receive-step.result.backs) c.if-not-step.o
+    → (c.if-not-step.rest ≡ c.in-Some-next_visit.visit.rest) × (c.if-not-step.missed ≡ c.visits.missed)
+    → Here c.match-task.once.0 (work_by c.args.task (network_of c.args.r)) (arrived c.if-not-step.o c.in-Some-next_visit.visit.from c.in-Some-next_visit.visit.to c.one_further.result c.one_less.result c.put.new.place c.receive-step.result.verdict) c.args.r.count c.args.r.domains c.args.r.bans (set c.visits.bars (c.in-Some-next_visit.visit.to - 1) (Some c.receive-step.result.bars)) c.rounds.quota c.if-not-step.missed c.rounds.left c.rounds.made false c.in-Some-next_visit.visit.from c.if-not-step.rest
+gone c step sent unpassed =
     let h = c.visits.invariant.0 in
-    rw (c.posts.invariant.1, c.posts.invariant.2)
-    (stored-goes h c.in-Some-next_visit.visit c.in-Some-next_visit.ensures (no-verdict h c.in-Some-next_visit.visit c.in-Some-next_visit.ensures c.visits.invariant.1) c.visits.bars h.live.beside h.live.barred step
-    (rw (ap letters_left c.into_iter-post-iterator.ensures.into_iter_gives) at c.posts.invariant.0) c.in-None-post.ensures.steps.0
-    (record { head = head-moved _ _ _ _ c.with_digit.ensures c.digit-in-Some-next_visit.ensures.0; count = c.one_less.ensures.0 }) _ c.words_before-words.ensures.0 c.receive-step.ensures.barring)
+    rw (unpassed.0, unpassed.1, c.put.ensures)
+    (sent-goes h c.in-Some-next_visit.visit c.in-Some-next_visit.ensures (no-verdict h c.in-Some-next_visit.visit c.in-Some-next_visit.ensures c.visits.invariant.1) c.visits.bars h.live.beside h.live.barred step
+    sent (record { head = c.one_further.ensures; count = c.one_less.ensures.0 }) _ c.words_before-words.ensures.0 c.receive-step.ensures.steps_as.barring)
 
 -- the rounds made, this one counted if it was full
 counted : (c : Joined-not-missed) → c.if-not-missed.made ≡ c.rounds.made + one_if (not c.visits.missed)
@@ -146,8 +173,8 @@ overflow_sub-row c = (visited (goal.at.overflow_sub-row c).In-Some-next_visit).f
 pub digit-head-requires : goal.digit-head-requires
 digit-head-requires c = received (goal.at.digit-head-requires c).In-Some-next_visit
 
-pub digit-requires-in-Some-next_visit : goal.digit-requires-in-Some-next_visit
-digit-requires-in-Some-next_visit c = received (goal.at.digit-requires-in-Some-next_visit c).In-Some-next_visit
+pub one_further-requires : goal.one_further-requires
+one_further-requires c = received (goal.at.one_further-requires c).In-Some-next_visit
 
 pub channel_at-requires : goal.channel_at-requires
 channel_at-requires c = line-channel c.visits.invariant.0 c.in-Some-next_visit.visit c.in-Some-next_visit.ensures
@@ -192,8 +219,8 @@ receive-step-requires-clause-message_fits c = (step-asks (finding (goal.at.recei
 pub receive-step-requires-clause-barring : goal.receive-step-requires-clause-barring
 receive-step-requires-clause-barring c = bars-now (goal.at.receive-step-requires-clause-barring c).Joined-bars-at
 
-pub bounds-o-at-in-Some-next_visit : goal.bounds-o-at-in-Some-next_visit
-bounds-o-at-in-Some-next_visit c = let b = (visited (goal.at.bounds-o-at-in-Some-next_visit c).In-Some-next_visit) in let z = c.visits.invariant.0.sized.counts in search rules
+pub bounds-o-at-then-not-step : goal.bounds-o-at-then-not-step
+bounds-o-at-then-not-step c = let b = (visited (goal.at.bounds-o-at-then-not-step c).In-Some-next_visit) in let z = c.visits.invariant.0.sized.counts in search rules
 
 pub posts-init : goal.posts-init
 posts-init c =
@@ -244,26 +271,31 @@ posts-preserved c = (
   c.posts.invariant.2,
 )
 
-pub bounds-o-at-in-Some-next_visit-2 : goal.bounds-o-at-in-Some-next_visit-2
-bounds-o-at-in-Some-next_visit-2 c = let b = (visited (goal.at.bounds-o-at-in-Some-next_visit-2 c).In-Some-next_visit) in let z = c.posts.invariant.0.sized.counts in search rules
+pub bounds-o-at-then-not-step-2 : goal.bounds-o-at-then-not-step-2
+bounds-o-at-then-not-step-2 c = let b = (visited (goal.at.bounds-o-at-then-not-step-2 c).In-Some-next_visit) in let z = c.posts.invariant.0.sized.counts in search rules
 
-pub with_digit-requires : goal.with_digit-requires
-with_digit-requires c = let b = (visited (goal.at.with_digit-requires c).In-Some-next_visit) in (b.to_low, omega (arith, b.to_high), omega arith)
+pub bounds-o-at-in-Some-next_visit : goal.bounds-o-at-in-Some-next_visit
+bounds-o-at-in-Some-next_visit c = let b = (visited (goal.at.bounds-o-at-in-Some-next_visit c).In-Some-next_visit) in let z = c.visits.invariant.0.sized.agents in search rules
+
+pub put-requires : goal.put-requires
+put-requires c =
+    λ still.
+    elim c.if-not-step.branch [
+      | then-not-step+in-None-post a ↦ absurd (false≢true (sym a.if-not-step.true ∙ still))
+      | else-not-step a ↦ rw a.o-is (c.receive-step.ensures.still still).1
+    ]
 
 pub one_less-requires : goal.one_less-requires
-one_less-requires c = let b = (visited (goal.at.one_less-requires c).In-Some-next_visit) in (b.to_low, omega (arith, b.to_high), waits-still (finding (goal.at.one_less-requires c).After-place_at) c.posts.invariant.0)
-
-pub bounds-o-at-in-Some-next_visit-3 : goal.bounds-o-at-in-Some-next_visit-3
-bounds-o-at-in-Some-next_visit-3 c = let b = (visited (goal.at.bounds-o-at-in-Some-next_visit-3 c).In-Some-next_visit) in let z = c.posts.invariant.0.sized.agents in search rules
+one_less-requires c = let b = (visited (goal.at.one_less-requires c).In-Some-next_visit) in (b.to_low, omega (arith, b.to_high), sent-waits (finding (goal.at.one_less-requires c).After-place_at) (sent (goal.at.one_less-requires c).Joined-not-step (stepped (goal.at.one_less-requires c).After-receive-step)))
 
 pub visits-smaller-then-step : goal.visits-smaller-then-step
 visits-smaller-then-step c = none-less _ _ c.in-Some-next_visit.ensures
 
 pub visits-preserved-then-step : goal.visits-preserved-then-step
-visits-preserved-then-step c = (passes-all (let at = goal.at.visits-preserved-then-step c in gone at.After-one_less (stepped at.After-receive-step)) c.next_visit-then-step.result c.next_visit-then-step.ensures c.is_some.result c.is_some.ensures c.if-step.true, λ _. ahead_none c.rounds.quota c.args.r.count c.args.r.count 0 refl (omega arith))
+visits-preserved-then-step c = (passes-all (let at = goal.at.visits-preserved-then-step c in gone at.After-one_less (stepped at.After-receive-step) (sent at.Joined-not-step (stepped at.After-receive-step)) (unpassed at.Joined-not-step)) c.next_visit-then-step.result c.next_visit-then-step.ensures c.is_some.result c.is_some.ensures c.if-step.true, λ _. ahead_none c.rounds.quota c.args.r.count c.args.r.count 0 refl (omega arith))
 
 pub visits-preserved : goal.visits-preserved
-visits-preserved c = ((let at = goal.at.visits-preserved c in gone at.After-one_less (stepped at.After-receive-step)), λ t. absurd (false≢true (sym c.if-step.false ∙ t)))
+visits-preserved c = ((let at = goal.at.visits-preserved c in gone at.After-one_less (stepped at.After-receive-step) (sent at.Joined-not-step (stepped at.After-receive-step)) (unpassed at.Joined-not-step)), λ t. absurd (false≢true (sym c.if-step.false ∙ t)))
 
 pub returns-after-not-once : goal.returns-after-not-once
 returns-after-not-once c =

@@ -3,6 +3,7 @@
 use borrow.Author.Rules.{rules}
 use Prim.Native.Nat.{ℕ}
 use lib.ListN.{length}
+use mathlib.Core.Bool.{false}
 use mathlib.Core.List.{List}
 use mathlib.Core.Path.{◌≡◌, refl}
 use Rattle.problem.specs.Problem.{max_agents}
@@ -19,9 +20,11 @@ use Rattle.agent.specs.Parts.{apart, agent_in, step_with, Handed, Takes}
 use Rattle.agent.specs.declared.Agent.{Agent}
 use Rattle.agent.specs.declared.Message.{Message}
 use Rattle.agent.proofs.Uncounted.{fits-recounted, message-recounted}
-use Rattle.agent.proofs.Counted.{steps-counted}
+use Rattle.agent.proofs.Counted.{steps-counted, steps-still}
+use Rattle.agent.proofs.Steps.{steps-quiet, tells-nobody}
+use native.Mathlib.Omega.{arith}
 use Rattle.agent.proofs.Agent.receive.Goals as goal
-use Rattle.agent.proofs.Agent.receive.Goals.{Joined-m, in-Info, in-Back, in-AddLink, in-Choose, in-Tell}
+use Rattle.agent.proofs.Agent.receive.Goals.{Joined-m, After-on_info-banned, in-Info+else-not-banned, in-Back, in-AddLink}
 
 -- the rule, for the agent taken apart
 abbrev reaction : Own → List ℕ → Agent → Bars → ℕ → Message → Step'
@@ -41,9 +44,9 @@ handed own bans a bars from m places able fits message barring =
       barring = barring;
     }
 
-pub on_info-requires : goal.on_info-requires
+pub on_info-banned-requires : goal.on_info-banned-requires
 unfolding message_of
-on_info-requires c =
+on_info-banned-requires c =
     rw c.apart-s.ensures
     (handed _ _ _ _ _ _ (search rules) c.requires.able c.requires.record_fits (rw c.in-Info.is at c.requires.message_fits) c.requires.barring)
 
@@ -64,7 +67,7 @@ taken : (c : Joined-m)
 unfolding message_of react
 taken c =
     elim c.match-m.branch [
-      | in-Info u ↦ rw (u.todo-is, u.nogoods-is, u.in-Info.is) (rw c.apart-s.ensures at u.on_info.ensures)
+      | in-Info+else-not-banned u ↦ rw (u.todo-is, u.nogoods-is, u.in-Info.is) (rw (c.apart-s.ensures, u.if-not-banned.false) at u.on_info-banned.ensures.takes)
       | in-Back u ↦
           rw (u.todo-is, u.nogoods-is, u.in-Back.is, ← u.unpack.ensures) (rw c.apart-s.ensures at u.on_back.ensures)
       | in-AddLink u ↦
@@ -84,16 +87,36 @@ pub settle-done-requires-clause-refuser : goal.settle-done-requires-clause-refus
 settle-done-requires-clause-refuser c =
     (rw c.in-Choose.is at (taken (goal.at.settle-done-requires-clause-refuser c).Joined-m).addresses).1
 
-pub returns : goal.returns
-returns c =
-    let t = taken (goal.at.returns c).Joined-m in
-    let settled : StepsAs c.args.own (bans_in c.args.bans.now) (step_with c.match-todo.done c.match-todo.nogoods c.match-todo.backs)
+-- an Info after which the agent holds what it had: it tells nobody
+pub returns-then-not-banned-clause-steps_as : goal.returns-then-not-banned-clause-steps_as
+unfolding message_of react
+returns-then-not-banned-clause-steps_as c =
+    let t = rw (c.if-not-banned.true, c.apart-s.ensures) at c.on_info-banned.ensures.takes in
+    let backs = c.stays.result.backs in
+    rw c.stays.ensures.0
+    (steps-still _ _ c.args.self c.args.bars _ _ c.on_info-banned.result.0 backs _
+    (omega arith) (omega arith) (omega arith) c.handed-received.ensures (rw c.apart-s.ensures at c.on_info-banned.ensures.stays)
+    (rw (c.in-Info.is, ← t.taken) (steps-quiet _ _ _ c.args.self.nogoods backs 0 c.requires.able.fits c.stays.ensures.1 t.addresses t.barring)))
+
+pub returns-then-not-banned-clause-still : goal.returns-then-not-banned-clause-still
+returns-then-not-banned-clause-still c =
+    λ _. (rw c.stays.ensures.0 (tells-nobody c.on_info-banned.result.0 c.stays.result.backs), rw c.stays.ensures.0 refl)
+
+pub returns-in-Choose-clause-steps_as : goal.returns-in-Choose-clause-steps_as
+returns-in-Choose-clause-steps_as c =
+    let t = taken (goal.at.returns-in-Choose-clause-steps_as c).Joined-m in
+    let done = c.settle-done in
+    let settled : StepsAs c.args.own (bans_in c.args.bans.now) (step_with done.result done.new.nogoods done.new.backs)
     (reaction c.args.own c.args.bans.now c.args.self c.args.bars c.args.from c.args.m) =
-    elim c.match-todo.branch [
-      | in-Choose u ↦
-          rw (u.nogoods-is, u.backs-is, u.done-is, ← t.taken, u.in-Choose.is) (u.settle-done.ensures _ t.barring)
-      | in-Tell u ↦
-          rw (u.nogoods-is, u.backs-is, u.done-is, ← t.taken, u.in-Tell.is)
-          (u.telling-done.ensures _ _ _ _ c.requires.able.fits refl (rw u.in-Tell.is at t.addresses) t.barring)
-    ] in
-    steps-counted _ _ _ c.args.bars _ _ c.match-todo.done _ _ _ _ (c.posted-sent.ensures _ settled.ready) c.handed-received.ensures settled
+    rw (← t.taken, c.in-Choose.is) (done.ensures _ t.barring) in
+    rw c.stepped.ensures.0
+    (steps-counted _ _ _ c.args.bars _ _ done.result _ _ _ _ (c.stepped.ensures.1 settled.ready) c.handed-received.ensures false settled)
+
+pub returns-in-Tell-clause-steps_as : goal.returns-in-Tell-clause-steps_as
+returns-in-Tell-clause-steps_as c =
+    let t = taken (goal.at.returns-in-Tell-clause-steps_as c).Joined-m in
+    let settled : StepsAs c.args.own (bans_in c.args.bans.now) (step_with c.telling.result c.match-m.nogoods _)
+    (reaction c.args.own c.args.bans.now c.args.self c.args.bars c.args.from c.args.m) =
+    rw (← t.taken, c.in-Tell.is) (c.telling.ensures _ _ _ _ c.requires.able.fits refl (rw c.in-Tell.is at t.addresses) t.barring) in
+    rw c.stepped-in-Tell.ensures.0
+    (steps-counted _ _ _ c.args.bars _ _ c.telling.result _ _ _ _ (c.stepped-in-Tell.ensures.1 settled.ready) c.handed-received.ensures false settled)

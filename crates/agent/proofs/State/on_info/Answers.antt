@@ -4,6 +4,7 @@ use mathlib.Core.Path.{◌≡◌, sym, ◌∙◌}
 use native.Mathlib.Omega.{arith}
 use Rattle.packed.specs.Packed.{assignment}
 use Rattle.choosing.specs.Choosing.{nogoods_of}
+use Rattle.base.proofs.Tests.{test}
 use Rattle.agent.specs.Parts.{keeping}
 use Rattle.agent.proofs.Fits.{fits-sound}
 use Rattle.agent.proofs.Views.{kept_same, kept_new, kept-other}
@@ -60,14 +61,17 @@ kept c =
           ])
     ]
 
-pub returns-then-bars : goal.returns-then-bars
-returns-then-bars c =
-    takes-barred c.args.own c.args.bans.now c.args.self c.args.nogoods.now c.args.from c.args.v
-    c.requires (omega arith) c.if-old-ne0.stored c.with_digit.result c.with-bars.result (omega arith) (kept (goal.at.returns-then-bars c).Joined-old-ne0)
-    c.with_digit.ensures (λ j l h. rw (← c.barred_at.ensures) (c.with-bars.ensures j l h)) (sym c.bars.ensures ∙ c.if-bars.true)
-
-pub returns-else-bars : goal.returns-else-bars
-returns-else-bars c =
-    takes-free c.args.own c.args.bans.now c.args.self c.args.nogoods.now c.args.from c.args.v
-    c.requires (omega arith) c.if-old-ne0.stored c.with_digit.result c.with-bars.result (omega arith) (kept (goal.at.returns-else-bars c).Joined-old-ne0)
-    c.with_digit.ensures (λ j l h. rw (← c.barred_at.ensures) (c.with-bars.ensures j l h)) (sym c.bars.ensures ∙ c.if-bars.false)
+pub returns-clause-takes : goal.returns-clause-takes
+returns-clause-takes c =
+    let stored-kept = kept (goal.at.returns-clause-takes c).Joined-old-ne0 in
+    test c.bars.result
+    (λ t.
+    rw t
+    (takes-barred c.args.own c.args.bans.now c.args.self c.args.nogoods.now c.args.from c.args.v
+    c.requires (omega arith) c.if-old-ne0.stored c.with_digit.result c.with-bars.result (omega arith) stored-kept
+    c.with_digit.ensures (λ j l h. rw (← c.barred_at.ensures) (c.with-bars.ensures j l h)) (sym c.bars.ensures ∙ t)))
+    (λ t.
+    rw t
+    (takes-free c.args.own c.args.bans.now c.args.self c.args.nogoods.now c.args.from c.args.v
+    c.requires (omega arith) c.if-old-ne0.stored c.with_digit.result c.with-bars.result (omega arith) stored-kept
+    c.with_digit.ensures (λ j l h. rw (← c.barred_at.ensures) (c.with-bars.ensures j l h)) (sym c.bars.ensures ∙ t)))

@@ -1,11 +1,14 @@
 -- `on_line` reads the receiver's digit in the sender's row.
-use mathlib.Core.Path.{refl, ◌∙◌}
+use mathlib.Core.Path.{refl, sym, ◌∙◌}
 use Rattle.clauses.proofs.Numbering.{ends}
-use Rattle.image_writer.proofs.Numbered.{ends_are, row-digit}
+use Rattle.clauses.proofs.Columns.{channel-one}
+use Rattle.network.proofs.Rings.{row-at}
+use Rattle.image_writer.proofs.Numbered.{ends as line_ends}
 use Rattle.image_writer.proofs.lines.on_line.Goals as goal
 
 pub returns : goal.returns
 returns c =
     let e = c.ends_of-from.ensures in
-    let are = ends_are _ _ _ e.0 e.1 in
-    (c.digit.ensures.0 ∙ row-digit c.args.rows.now _ _ (ends _ _ e.0).from_low ∙ rw (are.0, are.1) refl, c.digit.ensures.1)
+    let its = line_ends c.args.line c.requires in
+    let are = channel-one _ _ _ _ e.0 its.channel (e.1 ∙ sym its.number) in
+    (c.digit.ensures.0 ∙ sym (row-at c.args.rows.now _ _ (ends _ _ e.0).from_low) ∙ rw (are.0, are.1) refl, c.digit.ensures.1)
