@@ -1,4 +1,4 @@
 pub mod Messages
 pub mod Assignments
-mod Cases
+pub mod Cases
 pub mod Counts

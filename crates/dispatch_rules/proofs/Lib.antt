@@ -1,4 +1,4 @@
-mod Nights
+pub mod Nights
 pub mod Turns
 pub mod AllLines
 pub mod Deliveries

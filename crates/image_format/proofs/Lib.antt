@@ -10,4 +10,4 @@ pub mod Holding
 pub mod Parsing
 pub mod Plainness
 pub mod Theorems
-mod Cases
+pub mod Cases

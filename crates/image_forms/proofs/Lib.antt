@@ -5,4 +5,4 @@ pub mod Forms
 pub mod Bounds
 pub mod Buffers
 pub mod Theorems
-mod Cases
+pub mod Cases

@@ -10,4 +10,4 @@ pub mod Sheet
 pub mod Writing
 pub mod Same
 pub mod Longest
-mod Cases
+pub mod Cases

@@ -1,2 +1,2 @@
 pub mod Rounds
-mod Nights
+pub mod Nights

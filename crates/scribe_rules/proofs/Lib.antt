@@ -1,2 +1,2 @@
-mod Cases
+pub mod Cases
 pub mod Pieces

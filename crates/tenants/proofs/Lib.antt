@@ -3,4 +3,4 @@ pub mod Room
 pub mod Numbers
 pub mod Answering
 pub mod Theorems
-mod Nights
+pub mod Nights

@@ -1,1 +1,1 @@
-mod Cases
+pub mod Cases

@@ -1,0 +1,6 @@
+-- Each clause is proved where its claim is stated; these are the proofs. Assumes nothing.
+use Rattle.turn_theorems.proofs.Theorems.{refused-as-said}
+use Rattle.promises.proofs.editions.refused.Goals as goal
+
+pub returns : goal.returns
+returns c = refused-as-said

@@ -1,0 +1,6 @@
+-- Each clause is proved where its claim is stated; these are the proofs. Assumes nothing.
+use Rattle.tenants.proofs.Nights.{nights-hold}
+use Rattle.promises.proofs.worked.pairs.Goals as goal
+
+pub returns : goal.returns
+returns c = nights-hold

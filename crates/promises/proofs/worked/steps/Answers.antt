@@ -1,0 +1,6 @@
+-- Each clause is proved where its claim is stated; these are the proofs. Assumes nothing.
+use Rattle.agent_rules.proofs.Cases.{steps-hold}
+use Rattle.promises.proofs.worked.steps.Goals as goal
+
+pub returns : goal.returns
+returns c = steps-hold

@@ -1,0 +1,14 @@
+//! What holds of one agent's step, by the rules alone.
+ghost use Rattle.promises.specs.Claims.{CountsUnread, OutdatedAnswered};
+
+/// An outdated refusal of the own value is answered with that value.
+pub fn outdated()
+    ensures answered { OutdatedAnswered }
+{
+}
+
+/// No rule reads or changes a count: with other counts the step is the same.
+pub fn counts()
+    ensures unread { CountsUnread }
+{
+}
