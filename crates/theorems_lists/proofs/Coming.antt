@@ -8,6 +8,7 @@ use Rattle.base.specs.Lists.{All}
 use Rattle.base.proofs.Lists.{All-append}
 use Rattle.protocol.specs.Network.{Network}
 use Rattle.protocol.specs.Shape.{in_shape}
+use Rattle.protocol.specs.Run.{Line}
 use Rattle.theorems.specs.Calls.{Call, Deliver, Run, left_by, left_by_all, tried_by_all, made_by_all}
 use Rattle.theorems.specs.Marking.{parts_of_all}
 use Rattle.theorems.specs.Deeds.{handed_to, posts_by, handed_in, posts_in}
@@ -108,7 +109,7 @@ comes-next x xs d D C =
     let rest = calls_in_items xs (left_by_item x d) in
     record {
       leaves = rw (left-join cs rest w, ← D.leaves) C.leaves;
-      tries = rw (tried-join cs rest w, ← D.leaves, C.tries);
+      tries = rw (tried-join cs rest w, ← D.leaves) (ap (λ (ls : List Line). tried_by_all cs w ++ ls) C.tries);
       makes = rw (made-join cs rest w, ← D.leaves, C.makes);
       parts = rw (parts-join cs rest w, ← D.leaves, C.parts);
       hands = λ j. rw (handed-join j cs rest w, ← D.leaves, C.hands j);

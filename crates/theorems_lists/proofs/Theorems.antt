@@ -103,7 +103,7 @@ unfolding above
 runs-count-mixed rule is-rule p r picks place items k =
     let C = comes-to-calls rule is-rule p r picks place items in
     let R = runs-count rule is-rule p r (calls_from rule p picks place items) k in
-    record { cuts = rw C.leaves R.cuts; exact = rw (C.leaves, C.tries) R.exact; returned = rw C.leaves R.returned }
+    record { cuts = rw C.leaves R.cuts; exact = rw (← C.leaves, ← C.tries) at R.exact; returned = rw C.leaves R.returned }
 
 pub runs-mark-mixed : EveryProblem RunsMarkMixed
 unfolding above own_marking
