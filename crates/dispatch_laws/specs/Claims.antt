@@ -18,16 +18,16 @@ PicksAreCalls = (d : Dispatcher) (steps : List Step) → (left_by_steps steps d)
 unfoldable pub above : Network → ℕ → Line → Dispatcher
 above w picks place = record { network = w; picks = picks; place = place }
 
--- ---- so the demands hold of lists of picks, deliveries and runs together
+-- ---- so what is claimed of lists of calls holds of lists of picks, deliveries and runs together
 
--- Demand 2: a network reached from the start with nothing waiting and no verdict breaks no ban.
+-- A network reached from the start with nothing waiting and no verdict breaks no ban.
 abbrev pub SoundWithPicks : ℕ → Problem → Type 0
 SoundWithPicks rule p =
     (picks : ℕ) (place : Line) (steps : List Step) → (left_by_steps steps (above (start rule p) picks place)).network.verdict ≡ false
     → idle (left_by_steps steps (above (start rule p) picks place)).network ≡ true
     → Obeys p (λ i. ((left_by_steps steps (above (start rule p) picks place)).network.agents i).value)
 
--- Demand 2: the verdict comes only where no choice of values obeys all bans.
+-- The verdict comes only where no choice of values obeys all bans.
 abbrev pub CompleteWithPicks : ℕ → Problem → Type 0
 CompleteWithPicks rule p =
     (picks : ℕ) (place : Line) (steps : List Step) → (left_by_steps steps (above (start rule p) picks place)).network.verdict ≡ true
@@ -38,7 +38,7 @@ abbrev pub InShapeWithPicks : ℕ → Problem → Type 0
 InShapeWithPicks rule p =
     (picks : ℕ) (place : Line) (steps : List Step) → in_shape (left_by_steps steps (above (start rule p) picks place)).network ≡ true
 
--- Demand 3: however the deliveries of the list, those that picks made among them, are marked off into rounds without overlap, the full ones are at most
+-- However the deliveries of the list, those that picks made among them, are marked off into rounds without overlap, the full ones are at most
 -- 16 × n × (d + 2)^n; so are those that its runs return together.
 abbrev pub RoundBoundWithPicks : ℕ → Problem → Type 0
 RoundBoundWithPicks rule p =

@@ -27,20 +27,20 @@ pub record Carried (entries : List Entry) (w : Network) : Type 0 where
 abbrev pub CarriesAcross : ℕ → Problem → Type 0
 CarriesAcross rule p = (entries : List Entry) → Carried entries (start rule p)
 
--- ---- so the demands hold of such lists
+-- ---- so what is claimed of lists of calls holds of such lists
 
--- Demand 2: a network reached from the start with nothing waiting and no verdict breaks no ban.
+-- A network reached from the start with nothing waiting and no verdict breaks no ban.
 abbrev pub SoundAcross : ℕ → Problem → Type 0
 SoundAcross rule p =
     (entries : List Entry) → (left_by_entries entries (start rule p)).verdict ≡ false → idle (left_by_entries entries (start rule p)) ≡ true
     → Obeys p (λ i. ((left_by_entries entries (start rule p)).agents i).value)
 
--- Demand 2: the verdict comes only where no choice of values obeys all bans.
+-- The verdict comes only where no choice of values obeys all bans.
 abbrev pub CompleteAcross : ℕ → Problem → Type 0
 CompleteAcross rule p =
     (entries : List Entry) → (left_by_entries entries (start rule p)).verdict ≡ true → (σ : ℕ → ℕ) → Obeys p σ → ⊥
 
--- Demand 3: the full rounds, marked off in any way, and those that the runs return, are at most 16 × n × (d + 2)^n.
+-- The full rounds, marked off in any way, and those that the runs return, are at most 16 × n × (d + 2)^n.
 abbrev pub RoundBoundAcross : ℕ → Problem → Type 0
 RoundBoundAcross rule p =
     (entries : List Entry) (marking : List Stretch) → lines_of marking ≡ tried_by_entries entries (start rule p) → AllFull rule p [] marking

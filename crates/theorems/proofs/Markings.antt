@@ -1,7 +1,7 @@
 -- A full round of the claims, at its place in the list, is a full stretch from the network reached there; a marking of the claims marks off
 -- rounds in the list of tries.
 use mathlib.Core.Path.{◌≡◌, refl, sym}
-use mathlib.Core.List.{List, [], ◌∷◌, ◌++◌, append-nil, append_assoc}
+use mathlib.Core.List.{List, [], ◌∷◌, ◌++◌, append_assoc}
 use Prim.Native.Nat.{ℕ, suc, ◌+◌}
 use native.Mathlib.Omega.{arith}
 use Rattle.base.proofs.Tests.{test}
@@ -24,13 +24,6 @@ pub marked_append : (ss ts : List Stretch) → marked_in (ss ++ ts) ≡ marked_i
 unfolding marked_in
 marked_append [] ts = omega arith
 marked_append (s ∷ ss) ts = omega (arith, marked_append ss ts)
-
-pub full-append : (rule : ℕ) (p : Problem) (before : List Line) (ss ts : List Stretch) → AllFull rule p before ss
-    → AllFull rule p (before ++ lines_of ss) ts → AllFull rule p before (ss ++ ts)
-unfolding lines_of
-full-append rule p before [] ts E F = rw (append-nil before) at F
-full-append rule p before (s ∷ ss) ts E F =
-    (E.0, full-append rule p (before ++ s.lines) ss ts E.1 (rw (append_assoc before s.lines (lines_of ss)) F))
 
 -- ---- rounds
 

@@ -1,4 +1,4 @@
--- Demand 3 over lists of tries: however full rounds are marked off in one from a problem's start, they are at most 16 × n × (d + 2)^n.
+-- The round bound over lists of tries: however full rounds are marked off in one from a problem's start, they are at most 16 × n × (d + 2)^n.
 -- Up to a verdict the list is a window of 0; the try that brings the verdict costs one more round, and after it no try is accepted.
 use mathlib.Core.Path.{◌≡◌, refl}
 use mathlib.Core.Logic.{◌⊎◌, inl, inr}

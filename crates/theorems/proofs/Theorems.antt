@@ -13,6 +13,7 @@ use Rattle.protocol.specs.Delivery.{deliver}
 use Rattle.protocol.specs.Run.{run}
 use Rattle.shape_laws.proofs.Shape.{deliver-keeps as delivered, run-keeps as ran, start-in-shape}
 use Rattle.theorems.specs.Calls.{Call, Deliver, Run, left_by, left_by_all, tried_by_all, replay, lines_of, marked_in}
+use Rattle.theorems.specs.Marking.{own_marking}
 use Rattle.theorems.specs.Claims.{
   SoundAtRest,
   CompleteVerdict,
@@ -48,42 +49,36 @@ use Rattle.theorems.proofs.RoundBound.{round-bound-lines}
 use Rattle.theorems.proofs.RunRounds.{run-counts}
 use Rattle.theorems.proofs.Figures.{counts-exact as exact, counts-capped as capped, counts-never-fall as never-fall}
 use Rattle.theorems.proofs.Balance.{sent-is-received-and-waiting as balance, sent-is-received-and-waiting-of as balance-of}
-use Rattle.theorems.proofs.CallMarking.{marking, marking-lines, marking-full, marking-made}
+use Rattle.theorems.proofs.CallMarking.{own-marked}
 use Rattle.theorems.proofs.Jams.{jammed-exactly as jammed, none-after-nothing as none_after, rounds-used as used}
 
--- Demand 2: a network reached with nothing waiting and no verdict breaks no ban.
+-- A network reached with nothing waiting and no verdict breaks no ban.
 pub sound-at-rest : EveryProblem SoundAtRest
 sound-at-rest rule _ p r calls v i =
     let e = calls-replay calls (start rule p) in
     let v' = rw e at v in
     rw e (rested rule p r (tried_by_all calls (start rule p)) v' (idle-empty p _ (reached rule p r (tried_by_all calls (start rule p)) v') (rw e at i)))
 
--- Demand 2: the verdict comes only where no choice of values obeys all bans.
+-- The verdict comes only where no choice of values obeys all bans.
 pub complete-verdict : EveryProblem CompleteVerdict
 complete-verdict rule _ p r calls v = ended rule p r (tried_by_all calls (start rule p)) (rw (calls-replay calls (start rule p)) at v)
 
--- Demand 3: every way to mark full rounds off has at most 16 × n × (d + 2)^n of them.
+-- Every way to mark full rounds off has at most 16 × n × (d + 2)^n of them.
 pub round-bound : EveryProblem RoundBound
 unfolding replay
 round-bound rule _ p r calls marks _ full = round-bound-lines rule p r (lines_of marks) (marked_in marks) (marking-rounds rule p [] marks full)
 
--- Demand 3: the full rounds that the runs of a list return are one marking.
+-- The runs' own rounds are one marking, with exactly the full ones marked.
 pub runs-mark : EveryProblem RunsMark
-unfolding replay
-runs-mark rule _ p r calls =
-    record {
-      marking = marking calls (start rule p);
-      lines = marking-lines calls (start rule p);
-      full = marking-full rule p r calls [];
-      number = marking-made rule p r calls [];
-    }
+runs-mark = own-marked
 
 -- .. so together they obey the bound too.
 pub run-bound : EveryProblem RunBound
 run-bound rule is-rule p r calls =
-    let M = runs-mark rule is-rule p r calls in rw (← M.number) (round-bound rule is-rule p r calls M.marking M.lines M.full)
+    let M = runs-mark rule is-rule p r calls in
+    rw (← M.number) (round-bound rule is-rule p r calls (own_marking calls (start rule p)) M.lines M.full)
 
--- Demand 3: a run returns exactly how many of its rounds were full.
+-- A run returns exactly how many of its rounds were full.
 pub runs-count : EveryProblem RunsCount
 runs-count = run-counts
 

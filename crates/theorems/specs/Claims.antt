@@ -27,19 +27,20 @@ use Rattle.theorems.specs.Calls.{
   Whole,
   DeliveredNothing,
 }
+use Rattle.theorems.specs.Marking.{parts_of_all, own_marking, AllMarkedRightly}
 use Rattle.theorems.specs.Figures.{sent_from, received_by, BelowTop, total_of, total_sent, total_received, waiting_of, total_waiting}
 
 -- 16 × n × (d + 2)^n
 unfoldable pub most_rounds : Problem → ℕ
 most_rounds p = 16 * p.count * (largest_domain p + 2) ^ p.count
 
--- Demand 2: a network reached from the start with nothing waiting and no verdict breaks no ban.
+-- A network reached from the start with nothing waiting and no verdict breaks no ban.
 abbrev pub SoundAtRest : ℕ → Problem → Type 0
 SoundAtRest rule p =
     (calls : List Call) → (left_by_all calls (start rule p)).verdict ≡ false → idle (left_by_all calls (start rule p)) ≡ true
     → Obeys p (λ i. ((left_by_all calls (start rule p)).agents i).value)
 
--- Demand 2: the verdict comes only where no choice of values obeys all bans.
+-- The verdict comes only where no choice of values obeys all bans.
 abbrev pub CompleteVerdict : ℕ → Problem → Type 0
 CompleteVerdict rule p = (calls : List Call) → (left_by_all calls (start rule p)).verdict ≡ true → (σ : ℕ → ℕ) → Obeys p σ → ⊥
 
@@ -47,19 +48,19 @@ CompleteVerdict rule p = (calls : List Call) → (left_by_all calls (start rule 
 abbrev pub StaysInShape : ℕ → Problem → Type 0
 StaysInShape rule p = (calls : List Call) → in_shape (left_by_all calls (start rule p)) ≡ true
 
--- Demand 3: however the list's deliveries are marked off into rounds without overlap, the full ones are at most 16 × n × (d + 2)^n.
+-- "However full rounds are marked off without overlap, with gaps between them or none, they are at most" 16 × n × (d + 2)^n.
 abbrev pub RoundBound : ℕ → Problem → Type 0
 RoundBound rule p =
     (calls : List Call) (marking : List Stretch) → lines_of marking ≡ tried_by_all calls (start rule p) → AllFull rule p [] marking
     → marked_in marking ≤ most_rounds p
 
--- Demand 3: "the full rounds of all runs in a list are one way to mark them off": a marking of all that the list tries, with as many rounds as its
--- runs return together.
+-- "The full rounds of all runs in a list are one way to mark them off": the runs' own rounds, with a delivery by itself as a gap, mark off all that the
+-- list tries. Every marked one is full, of the runs' rounds exactly the full ones are marked, and they are as many as the runs return together.
 pub record RunsMarked (rule : ℕ) (p : Problem) (calls : List Call) : Type 0 where
-  pub marking : List Stretch
-  pub lines : lines_of marking ≡ tried_by_all calls (start rule p)
-  pub full : AllFull rule p [] marking
-  pub number : marked_in marking ≡ made_by_all calls (start rule p)
+  pub lines : lines_of (own_marking calls (start rule p)) ≡ tried_by_all calls (start rule p)
+  pub full : AllFull rule p [] (own_marking calls (start rule p))
+  pub exact : AllMarkedRightly rule p [] (parts_of_all calls (start rule p))
+  pub number : marked_in (own_marking calls (start rule p)) ≡ made_by_all calls (start rule p)
 
 abbrev pub RunsMark : ℕ → Problem → Type 0
 RunsMark rule p = (calls : List Call) → RunsMarked rule p calls
@@ -68,7 +69,7 @@ RunsMark rule p = (calls : List Call) → RunsMarked rule p calls
 abbrev pub RunBound : ℕ → Problem → Type 0
 RunBound rule p = (calls : List Call) → made_by_all calls (start rule p) ≤ most_rounds p
 
--- Demand 3: "each run .. returns exactly how many of its rounds were full": a run's own rounds cut up what it tries; it counts a round exactly if it
+-- "Each run returns exactly how many of its rounds were full": a run's own rounds cut up what it tries; it counts a round exactly if it
 -- is full at its place in the list, and returns how many it counts.
 pub record RunCounts (rule : ℕ) (p : Problem) (calls : List Call) (k : ℕ) : Type 0 where
   pub cuts : lines_of (map round_stretch (run k (left_by_all calls (start rule p))).rounds) ≡ tries_of (run k (left_by_all calls (start rule p))).rounds

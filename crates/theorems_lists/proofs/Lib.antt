@@ -1,0 +1,3 @@
+mod Joining
+mod Coming
+pub mod Theorems
