@@ -15,3 +15,4 @@ pub mod figures;
 pub mod editions;
 pub mod texts;
 pub mod worked;
+pub mod mixed;

@@ -1,0 +1,15 @@
+-- Each clause is proved where its claim is stated; these are the proofs. Assumes nothing.
+use Rattle.theorems_lists.proofs.Theorems.{sheet-round-bound-mixed, round-bound-mixed, sheet-run-bound-mixed, run-bound-mixed}
+use Rattle.promises.proofs.mixed.round_limit.Goals as goal
+
+pub returns-clause-bounded : goal.returns-clause-bounded
+returns-clause-bounded c = sheet-round-bound-mixed
+
+pub returns-clause-bounded_of_problems : goal.returns-clause-bounded_of_problems
+returns-clause-bounded_of_problems c = round-bound-mixed
+
+pub returns-clause-returned_bounded : goal.returns-clause-returned_bounded
+returns-clause-returned_bounded c = sheet-run-bound-mixed
+
+pub returns-clause-returned_bounded_of_problems : goal.returns-clause-returned_bounded_of_problems
+returns-clause-returned_bounded_of_problems c = run-bound-mixed
