@@ -1,5 +1,6 @@
 -- What a program answers, and that it did so.
-use Rattle.std.specs.Prelude.{ℕ, ◌≡◌, Bool, true, false, List, [], ◌++◌, codes}
+use Rattle.std.specs.Prelude.{ℕ, ◌≡◌, Bool, true, false, List, [], ◌++◌, eqb, take, codes}
+use Rattle.base.specs.Lent.{Written}
 use Rattle.text.specs.Text.{newline, line_of}
 use Rattle.support_cli.specs.Streams.{OutputState, Puts}
 use Rattle.support_cli.specs.declared.status.Status.{Status}
@@ -55,6 +56,10 @@ refused_word = codes "refused "
 -- .. one line that has a refusal's number
 unfoldable pub says_refused : ℕ → Answer
 says_refused number = tells (line_of refused_word number) refused
+
+-- what was written into a lent buffer: its bytes on standard output, or its refusal
+unfoldable pub hands_over : Written → Answer
+hands_over w = elim (eqb w.number 0) [ true ↦ prints (take w.length w.buffer) done | false ↦ says_refused w.number ]
 
 -- "cannot write", where standard output has failed
 abbrev pub failure_line : Bool → List ℕ

@@ -12,7 +12,7 @@ mod status;
 mod store;
 mod words;
 
-pub use finish::{complain, end, print, refuse, say, tell};
+pub use finish::{complain, end, hand_over, print, refuse, say, tell};
 pub use input::Input;
 pub use launching::launch;
 pub use output::Output;
