@@ -1,0 +1,84 @@
+-- What is claimed of lists of calls holds of the state that a list of steps leaves.
+-- A history that is followed by more steps is a history, and what it leaves is what the calls that it comes to leave: of these the claims are proved.
+use Rattle.std.proofs.Common.{◌≡◌, ℕ, List, [], ◌∷◌, ◌++◌, sym, refl, ap, ◌∙◌, subst}
+use Rattle.theorems.specs.Calls.{left_by_all}
+use Rattle.theorems.proofs.Theorems.{
+  sheet-sound,
+  sheet-complete,
+  sheet-round-bound,
+  sheet-run-bound,
+  sheet-asked-once,
+  sheet-stays-in-shape,
+  sheet-counts-capped,
+  sheet-sent-is-received-and-waiting,
+  sheet-sent-is-received-and-waiting-of,
+}
+use Rattle.tenants.specs.Tenants.{Naming, NamingAbove}
+use Rattle.tenants.specs.Claims.{ActsAlike as CallsActAlike}
+use Rattle.tenants.proofs.Theorems.{acts-alike, named-acts-alike}
+use Rattle.dispatch_rules.specs.Dispatch.{Dispatcher}
+use Rattle.dispatch_laws.specs.Steps.{Step, left_by_step, left_by_steps, calls_in}
+use Rattle.dispatch_laws.specs.Claims.{above}
+use Rattle.dispatch_laws.proofs.Theorems.{picks-are-calls}
+use Rattle.abt_calls.specs.Histories.{History, started, begun, followed_by, called, Reached, Promised, ActsAlike}
+
+-- ---- a history goes on
+
+left-append : (xs ys : List Step) (d : Dispatcher) → left_by_steps (xs ++ ys) d ≡ left_by_steps ys (left_by_steps xs d)
+unfolding left_by_steps
+left-append [] ys d = refl
+left-append (x ∷ xs) ys d = left-append xs ys (left_by_step x d)
+
+-- the state that more steps leave is reached by the history that they follow
+pub reached-further : (h : History) (d : Dispatcher) (more : List Step) → Reached h d → Reached (followed_by h more) (left_by_steps more d)
+reached-further h d more R =
+    record { rule = R.rule; sheet = R.sheet; left = left-append h.steps more (begun h) ∙ ap (left_by_steps more) R.left }
+
+-- ---- what is promised
+
+-- of the network that the calls leave
+by-calls : (h : History) (d : Dispatcher) → Reached h d → Promised h (left_by_all (called h) (started h))
+by-calls h d R =
+    record {
+      sound = sheet-sound h.rule R.rule h.sheet h.problem R.sheet (called h);
+      complete = sheet-complete h.rule R.rule h.sheet h.problem R.sheet (called h);
+      shape = sheet-stays-in-shape h.rule R.rule h.sheet h.problem R.sheet (called h);
+      bounded = sheet-round-bound h.rule R.rule h.sheet h.problem R.sheet (called h);
+      returned = sheet-run-bound h.rule R.rule h.sheet h.problem R.sheet (called h);
+      sent = λ i x. (sheet-counts-capped h.rule R.rule h.sheet h.problem R.sheet (called h) i x).0;
+      received = λ i x. (sheet-counts-capped h.rule R.rule h.sheet h.problem R.sheet (called h) i x).1;
+      balanced = sheet-sent-is-received-and-waiting h.rule R.rule h.sheet h.problem R.sheet (called h);
+      balanced_of = sheet-sent-is-received-and-waiting-of h.rule R.rule h.sheet h.problem R.sheet (called h);
+      one_request = λ x y. (sheet-asked-once h.rule R.rule h.sheet h.problem R.sheet (called h) x y).0;
+      none_from_informed = λ x y. (sheet-asked-once h.rule R.rule h.sheet h.problem R.sheet (called h) x y).1;
+    }
+
+network-by-calls : (h : History) (d : Dispatcher) → Reached h d → left_by_all (called h) (started h) ≡ d.network
+unfolding above
+network-by-calls h d R = sym (picks-are-calls (begun h) h.steps) ∙ ap (λ (x : Dispatcher). x.network) R.left
+
+pub promised : (h : History) (d : Dispatcher) → Reached h d → Promised h d.network
+promised h d R = subst (Promised h) (network-by-calls h d R) (by-calls h d R)
+
+-- ---- two tenants
+
+pub steps-act-alike : (Names : ℕ → ℕ → ℕ → Type 0) → CallsActAlike Names → (d : Dispatcher) (steps : List Step)
+    → ActsAlike Names d steps (left_by_steps steps d).network
+steps-act-alike Names proved d steps j e A others h =
+    let S = proved j d.network e.network A (calls_in steps d) (calls_in others e) h in
+    record { agent = rw (picks-are-calls d steps, picks-are-calls e others) S.agent; sent = S.sent }
+
+-- ---- of a dispatcher that a list of calls leaves
+
+module _ (d e : Dispatcher) (steps : List Step) (left : e ≡ left_by_steps steps d) where
+  pub by-the-calls : e.network ≡ left_by_all (calls_in steps d) d.network
+  by-the-calls = ap (λ (x : Dispatcher). x.network) left ∙ picks-are-calls d steps
+
+  pub promised-further : (h : History) → Reached h d → Promised (followed_by h steps) e.network
+  promised-further h R = rw left (promised (followed_by h steps) (left_by_steps steps d) (reached-further h d steps R))
+
+  pub acts-alike-further : ActsAlike NamingAbove d steps e.network
+  acts-alike-further = rw left (steps-act-alike NamingAbove acts-alike d steps)
+
+  pub named-acts-alike-further : ActsAlike Naming d steps e.network
+  named-acts-alike-further = rw left (steps-act-alike Naming named-acts-alike d steps)

@@ -1,0 +1,3 @@
+mod Making
+mod Playing
+pub mod Keeping
