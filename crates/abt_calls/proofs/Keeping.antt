@@ -1,12 +1,19 @@
 -- What is claimed of lists of calls holds of the state that a list of steps leaves.
 -- A history that is followed by more steps is a history, and what it leaves is what the calls that it comes to leave: of these the claims are proved.
-use Rattle.std.proofs.Common.{◌≡◌, ℕ, List, [], ◌∷◌, ◌++◌, sym, refl, ap, ◌∙◌, subst}
+use Rattle.std.proofs.Common.{◌≡◌, ◌≤◌, ℕ, true, arith, List, [], ◌∷◌, ◌++◌, sym, refl, ap, ◌∙◌, subst}
+use Rattle.base.proofs.Tests.{test}
+use Rattle.problem.specs.Problem.{Problem}
+use Rattle.problem.specs.Sheet.{Decoded, Valid, Invalid, decode}
+use Rattle.problem.proofs.Checks.{fault-some}
+use Rattle.protocol.specs.Network.{is_rule, bad_rule, started_on, start_sheet}
 use Rattle.theorems.specs.Calls.{left_by_all}
+use Rattle.theorems.specs.Claims.{most_rounds}
 use Rattle.theorems.proofs.Theorems.{
   sheet-sound,
   sheet-complete,
   sheet-round-bound,
   sheet-run-bound,
+  sheet-runs-count,
   sheet-asked-once,
   sheet-stays-in-shape,
   sheet-counts-capped,
@@ -16,13 +23,29 @@ use Rattle.theorems.proofs.Theorems.{
 use Rattle.tenants.specs.Tenants.{Naming, NamingAbove}
 use Rattle.tenants.specs.Claims.{ActsAlike as CallsActAlike}
 use Rattle.tenants.proofs.Theorems.{acts-alike, named-acts-alike}
-use Rattle.dispatch_rules.specs.Dispatch.{Dispatcher}
+use Rattle.dispatch_rules.specs.Dispatch.{Dispatcher, dispatcher}
 use Rattle.dispatch_laws.specs.Steps.{Step, left_by_step, left_by_steps, calls_in}
 use Rattle.dispatch_laws.specs.Claims.{above}
 use Rattle.dispatch_laws.proofs.Theorems.{picks-are-calls}
-use Rattle.abt_calls.specs.Histories.{History, started, begun, followed_by, called, Reached, Promised, ActsAlike}
+use Rattle.abt_calls.proofs.Telling.{all-told}
+use Rattle.abt_calls.specs.Histories.{History, started, begun, fresh, followed_by, called, Reached, Promised, ActsAlike}
 
--- ---- a history goes on
+-- ---- a history begins, and goes on
+
+-- what the start gives where it refuses neither the rule nor the sheet
+pub reached-first : (rule : ℕ) (sheet : List ℕ) → (start_sheet rule sheet).number ≡ 0
+    → (p : Problem) × Reached (fresh rule sheet p) (dispatcher (start_sheet rule sheet).network)
+unfolding start_sheet bad_rule started_on above left_by_steps dispatcher
+reached-first rule sheet e =
+    test (is_rule rule)
+    (λ r. by-sheet r (decode sheet) refl)
+    (λ r. let z : 11 ≡ 0 = rw (r, start_sheet) at e in absurd (omega arith))
+  where
+    by-sheet : is_rule rule ≡ true → (x : Decoded) → decode sheet ≡ x
+        → (p : Problem) × Reached (fresh rule sheet p) (dispatcher (start_sheet rule sheet).network)
+    by-sheet r (Valid p) s =
+        (p, record { rule = r; sheet = s; left = rw (r, start_sheet, s) })
+    by-sheet r (Invalid f) s = absurd (fault-some f (rw (r, start_sheet, s) at e))
 
 left-append : (xs ys : List Step) (d : Dispatcher) → left_by_steps (xs ++ ys) d ≡ left_by_steps ys (left_by_steps xs d)
 unfolding left_by_steps
@@ -38,6 +61,7 @@ reached-further h d more R =
 
 -- of the network that the calls leave
 by-calls : (h : History) (d : Dispatcher) → Reached h d → Promised h (left_by_all (called h) (started h))
+unfolding above
 by-calls h d R =
     record {
       sound = sheet-sound h.rule R.rule h.sheet h.problem R.sheet (called h);
@@ -45,6 +69,8 @@ by-calls h d R =
       shape = sheet-stays-in-shape h.rule R.rule h.sheet h.problem R.sheet (called h);
       bounded = sheet-round-bound h.rule R.rule h.sheet h.problem R.sheet (called h);
       returned = sheet-run-bound h.rule R.rule h.sheet h.problem R.sheet (called h);
+      told = subst (λ (k : ℕ). k ≤ most_rounds h.problem) (all-told (begun h) h.steps) (sheet-run-bound h.rule R.rule h.sheet h.problem R.sheet (called h));
+      exact = sheet-runs-count h.rule R.rule h.sheet h.problem R.sheet (called h);
       sent = λ i x. (sheet-counts-capped h.rule R.rule h.sheet h.problem R.sheet (called h) i x).0;
       received = λ i x. (sheet-counts-capped h.rule R.rule h.sheet h.problem R.sheet (called h) i x).1;
       balanced = sheet-sent-is-received-and-waiting h.rule R.rule h.sheet h.problem R.sheet (called h);

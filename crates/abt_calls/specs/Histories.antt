@@ -10,7 +10,7 @@ use Rattle.protocol.specs.Network.{Network, start, is_rule}
 use Rattle.protocol.specs.Shape.{in_shape}
 use Rattle.protocol.specs.Run.{Line, idle}
 use Rattle.theorems.specs.Calls.{Call, tried_by_all, made_by_all, Stretch, lines_of, marked_in, AllFull}
-use Rattle.theorems.specs.Claims.{most_rounds}
+use Rattle.theorems.specs.Claims.{most_rounds, RunCounts}
 use Rattle.theorems.specs.Deeds.{handed_in, posts_in}
 use Rattle.theorems.specs.Figures.{
   sent_from,
@@ -26,6 +26,7 @@ use Rattle.tenants.specs.Tenants.{Alike}
 use Rattle.dispatch_rules.specs.Dispatch.{Dispatcher}
 use Rattle.dispatch_laws.specs.Steps.{Step, left_by_steps, calls_in}
 use Rattle.dispatch_laws.specs.Claims.{above}
+use Rattle.abt_calls.specs.Outcomes.{came_by_all, rounds_in}
 
 -- ---- histories
 
@@ -44,6 +45,10 @@ started h = start h.rule h.problem
 
 abbrev pub begun : History → Dispatcher
 begun h = above (started h) h.picks h.place
+
+-- the start alone, with a dispatcher that was begun above it
+abbrev pub fresh : ℕ → List ℕ → Problem → History
+fresh rule sheet p = record { rule = rule; sheet = sheet; problem = p; picks = 0; place = record { from = 0; to = 0 }; steps = [] }
 
 -- more steps, behind those made
 abbrev pub followed_by : History → List Step → History
@@ -71,8 +76,11 @@ pub record Promised (h : History) (w : Network) : Type 0 where
   -- however all that was tried is marked off into full rounds without overlap, they are at most 16 × n × (d + 2)^n
   pub bounded : (marking : List Stretch) → lines_of marking ≡ tried_by_all (called h) (started h) → AllFull h.rule h.problem [] marking
       → marked_in marking ≤ most_rounds h.problem
-  -- and so are those that all runs return together
+  -- and so are those that all runs return together, and those of which the callers are told
   pub returned : made_by_all (called h) (started h) ≤ most_rounds h.problem
+  pub told : rounds_in (came_by_all h.steps (begun h)) ≤ most_rounds h.problem
+  -- a run that is made next counts exactly those of its rounds that are full at their place, behind all that was tried
+  pub exact : (k : ℕ) → RunCounts h.rule h.problem (called h) k
   -- each count is the number of messages of its sort that the start and the accepted deliveries sent from that agent, or handed to it; or the top, where
   -- the number is above it
   pub sent : (i : ℕ) (x : Sort) → (w.agents i).counts.sent x ≡ raised 0 (number x (sent_from h.rule h.problem (called h) i))

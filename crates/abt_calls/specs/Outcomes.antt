@@ -1,6 +1,6 @@
 -- What a call comes to, by the definitions of a delivery, a run and a pick: what its caller is told. docs/RULES.md, 'Why a call comes back', 'Rounds and
 -- the run' and 'The dispatcher'.
-use Rattle.std.specs.Prelude.{ℕ, ◌≡◌, Bool, true, false, cond, List, [], ◌∷◌, eqb}
+use Rattle.std.specs.Prelude.{ℕ, ◌+◌, ◌≡◌, Bool, true, false, cond, List, [], ◌∷◌, eqb}
 use Rattle.std.proofs.Math.Option.{Option, none, some}
 use Rattle.base.specs.Lists.{All}
 use Rattle.protocol.specs.Network.{Network}
@@ -49,3 +49,14 @@ came_by_all (s ∷ ss) d = came_to s d ∷ came_by_all ss (left_by_step s d)
 
 abbrev pub AllRefused : List Step → Dispatcher → Type 0
 AllRefused ss d = All (λ c. is_refused c ≡ true) (came_by_all ss d)
+
+-- the full rounds that a caller is told were made: those of runs that were not refused
+unfoldable pub rounds_of : Came → ℕ
+rounds_of Delivered = 0
+rounds_of (Ran ending rounds) = rounds
+rounds_of (Served l) = 0
+rounds_of (Refused number) = 0
+
+unfoldable pub rounds_in : List Came → ℕ
+rounds_in [] = 0
+rounds_in (c ∷ cs) = rounds_of c + rounds_in cs
