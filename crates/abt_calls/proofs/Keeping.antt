@@ -28,7 +28,7 @@ use Rattle.dispatch_laws.specs.Steps.{Step, left_by_step, left_by_steps, calls_i
 use Rattle.dispatch_laws.specs.Claims.{above}
 use Rattle.dispatch_laws.proofs.Theorems.{picks-are-calls}
 use Rattle.abt_calls.proofs.Telling.{all-told}
-use Rattle.abt_calls.specs.Histories.{History, started, begun, fresh, followed_by, called, Reached, Promised, ActsAlike}
+use Rattle.abt_calls.specs.Histories.{History, started, begun, fresh, followed_by, called, Reached, Promised, PromisedFromStart, ActsAlike}
 
 -- ---- a history begins, and goes on
 
@@ -100,8 +100,17 @@ module _ (d e : Dispatcher) (steps : List Step) (left : e ≡ left_by_steps step
   pub by-the-calls : e.network ≡ left_by_all (calls_in steps d) d.network
   by-the-calls = ap (λ (x : Dispatcher). x.network) left ∙ picks-are-calls d steps
 
+  pub reaches-further : (h : History) → Reached h d → Reached (followed_by h steps) e
+  reaches-further h R = rw left (reached-further h d steps R)
+
   pub promised-further : (h : History) → Reached h d → Promised (followed_by h steps) e.network
   promised-further h R = rw left (promised (followed_by h steps) (left_by_steps steps d) (reached-further h d steps R))
+
+  pub promised-from-start : PromisedFromStart d steps e.network
+  promised-from-start rule sheet n q =
+      let F : (p : Problem) × Reached (fresh rule sheet p) d =
+      subst (λ (x : Dispatcher). (p : Problem) × Reached (fresh rule sheet p) x) q (reached-first rule sheet n) in
+      (F.0, F.1.sheet, promised-further (fresh rule sheet F.0) F.1)
 
   pub acts-alike-further : ActsAlike NamingAbove d steps e.network
   acts-alike-further = rw left (steps-act-alike NamingAbove acts-alike d steps)

@@ -6,7 +6,7 @@ use Rattle.problem.specs.Problem.{Problem, Obeys}
 use Rattle.problem.specs.Sheet.{Valid, decode}
 use Rattle.agent_rules.specs.Sorts.{IsAddLink, Not, OneLink}
 use Rattle.agent_rules.specs.Counts.{Sort, number, raised}
-use Rattle.protocol.specs.Network.{Network, start, is_rule}
+use Rattle.protocol.specs.Network.{Network, start, is_rule, start_sheet}
 use Rattle.protocol.specs.Shape.{in_shape}
 use Rattle.protocol.specs.Run.{Line, idle}
 use Rattle.theorems.specs.Calls.{Call, tried_by_all, made_by_all, Stretch, lines_of, marked_in, AllFull}
@@ -23,7 +23,7 @@ use Rattle.theorems.specs.Figures.{
   total_waiting,
 }
 use Rattle.tenants.specs.Tenants.{Alike}
-use Rattle.dispatch_rules.specs.Dispatch.{Dispatcher}
+use Rattle.dispatch_rules.specs.Dispatch.{Dispatcher, dispatcher}
 use Rattle.dispatch_laws.specs.Steps.{Step, left_by_steps, calls_in}
 use Rattle.dispatch_laws.specs.Claims.{above}
 use Rattle.abt_calls.specs.Outcomes.{came_by_all, rounds_in}
@@ -72,6 +72,7 @@ pub record Promised (h : History) (w : Network) : Type 0 where
   pub sound : w.verdict ≡ false → idle w ≡ true → Obeys h.problem (λ i. (w.agents i).value)
   -- the verdict stands only where no choice of values obeys all bans
   pub complete : w.verdict ≡ true → (σ : ℕ → ℕ) → Obeys h.problem σ → ⊥
+  -- the rail is in shape
   pub shape : in_shape w ≡ true
   -- however all that was tried is marked off into full rounds without overlap, they are at most 16 × n × (d + 2)^n
   pub bounded : (marking : List Stretch) → lines_of marking ≡ tried_by_all (called h) (started h) → AllFull h.rule h.problem [] marking
@@ -92,6 +93,12 @@ pub record Promised (h : History) (w : Network) : Type 0 where
   -- a link is asked for once: no two requests wait on one line, and none waits from an agent that is already informed
   pub one_request : (x y : ℕ) → OneLink (w.channel y x)
   pub none_from_informed : (x y : ℕ) → (w.agents x).informs y ≡ true → All (Not IsAddLink) (w.channel y x)
+
+-- So of every sheet that the start accepts by a rule, with a dispatcher begun above what the start gives: d. The steps from there leave w.
+abbrev pub PromisedFromStart : Dispatcher → List Step → Network → Type 0
+PromisedFromStart d steps w =
+    (rule : ℕ) (sheet : List ℕ) → (start_sheet rule sheet).number ≡ 0 → dispatcher (start_sheet rule sheet).network ≡ d
+    → (p : Problem) × (decode sheet ≡ Valid p) × Promised (followed_by (fresh rule sheet p) steps) w
 
 -- ---- two tenants
 

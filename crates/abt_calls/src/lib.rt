@@ -11,7 +11,7 @@ ghost use Rattle.engine.specs.Refused.{refused_number};
 ghost use Rattle.dispatch.specs.Abstract.{line_of, dispatcher_of, answered_number, served_of};
 ghost use Rattle.abt_calls.specs.Outcomes.{unless_refused, came_to_pick, came_by_all, AllRefused};
 ghost use Rattle.abt_calls.specs.Abstract.{step_of, came_of, AnswersAs};
-ghost use Rattle.abt_calls.specs.Histories.{History, followed_by, Reached, Promised, ActsAlike};
+ghost use Rattle.abt_calls.specs.Histories.{History, followed_by, Reached, Promised, PromisedFromStart, ActsAlike};
 
 mod calls;
 
@@ -109,8 +109,10 @@ pub fn play(dispatcher: Dispatcher, calls: &[Call]) -> Played
     ensures came { option_map came_of result.last ≡ last_or None (came_by_all (map step_of calls.now) (dispatcher_of dispatcher)) }
     ensures untouched { AllRefused (map step_of calls.now) (dispatcher_of dispatcher) → result.dispatcher ≡ dispatcher }
 
-    // whatever history led to the state given, with these calls behind it
+    // whatever history led to the state given goes on with these calls; so do those that begin with the start of a sheet
+    ensures reached { (h : History) → Reached h (dispatcher_of dispatcher) → Reached (followed_by h (map step_of calls.now)) (dispatcher_of result.dispatcher) }
     ensures promised { (h : History) → Reached h (dispatcher_of dispatcher) → Promised (followed_by h (map step_of calls.now)) (network_of result.dispatcher.network) }
+    ensures from_start { PromisedFromStart (dispatcher_of dispatcher) (map step_of calls.now) (network_of result.dispatcher.network) }
 
     // the bans that must be alike: those with agents above it, which are all that an agent's rules read; and all bans that name it
     ensures alike { ActsAlike NamingAbove (dispatcher_of dispatcher) (map step_of calls.now) (network_of result.dispatcher.network) }

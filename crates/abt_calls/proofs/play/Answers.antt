@@ -6,7 +6,7 @@ use Rattle.dispatch_laws.specs.Steps.{Step, left_by_steps}
 use Rattle.dispatch.specs.Abstract.{dispatcher_of}
 use Rattle.abt_calls.specs.Abstract.{step_of}
 use Rattle.abt_calls.proofs.Playing.{Here, here-first, here-at, here-last, all-left, all-came}
-use Rattle.abt_calls.proofs.Keeping.{by-the-calls, promised-further, acts-alike-further, named-acts-alike-further}
+use Rattle.abt_calls.proofs.Keeping.{by-the-calls, reaches-further, promised-further, promised-from-start, acts-alike-further, named-acts-alike-further}
 use Rattle.abt_calls.proofs.play.Goals as goal
 
 pub loop-next-init : goal.loop-next-init
@@ -29,7 +29,9 @@ returns c =
       network = by-the-calls (dispatcher_of given) (dispatcher_of played.dispatcher) steps left;
       came = all-came calls given played H;
       untouched = λ r. (H.untouched r).0;
+      reached = reaches-further (dispatcher_of given) (dispatcher_of played.dispatcher) steps left;
       promised = promised-further (dispatcher_of given) (dispatcher_of played.dispatcher) steps left;
+      from_start = promised-from-start (dispatcher_of given) (dispatcher_of played.dispatcher) steps left;
       alike = acts-alike-further (dispatcher_of given) (dispatcher_of played.dispatcher) steps left;
       named_alike = named-acts-alike-further (dispatcher_of given) (dispatcher_of played.dispatcher) steps left;
     }
