@@ -33,7 +33,7 @@ use Rattle.promises.specs.Claims.{
 
 pub outdated-answered : OutdatedAnswered
 unfolding react on_back outdated quiet answer
-outdated-answered s bans a from lhs e = rw (e, eq-eqb a.value a.value refl)
+outdated-answered s bans a from lhs e = rw (e, on_back, eq-eqb a.value a.value refl, outdated)
 
 pub counts-unread : CountsUnread
 counts-unread = react-uncounted

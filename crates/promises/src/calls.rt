@@ -2,7 +2,7 @@
 //!
 //! `EverySheet` is every accepted sheet of either edition, `EveryProblem` every problem in range.
 ghost use Rattle.promises.specs.Claims.{WaitsAsHeld};
-ghost use Rattle.theorems.specs.Claims.{EveryProblem, EverySheet, SoundAtRest, CompleteVerdict, StaysInShape, RoundBound, RunsMark, RunBound, RunsCount, Replay, AskedOnce, CountsExact, CountsCapped, SentIsReceivedAndWaiting, SentIsReceivedAndWaitingOf, CountsNeverFall, DeliverKeeps, RunKeeps, JammedExactly, NoneAfterNothing, RoundsUsed, RuleKept};
+ghost use Rattle.theorems.specs.Claims.{EveryProblem, EverySheet, SoundAtRest, CompleteVerdict, StaysInShape, RoundBound, RunsMark, RunBound, RunsCount, Replay, AskedOnce, CountsExact, CountsCapped, SentIsReceivedAndWaiting, SentIsReceivedAndWaitingOf, CountsNeverFall, DeliverKeeps, RunKeeps, JammedExactly, NoneAfterNothing, RoundsUsed, RuleKept, RunTells, DeliveryTells};
 
 /// A rail with nothing waiting and no verdict breaks no ban. The verdict comes only where no choice of slots obeys all bans.
 pub fn accuracy()
@@ -74,5 +74,14 @@ pub fn figures()
     ensures balanced_by_sort { EverySheet SentIsReceivedAndWaitingOf }
     ensures balanced_by_sort_of_problems { EveryProblem SentIsReceivedAndWaitingOf }
     ensures never_fall { CountsNeverFall }
+{
+}
+
+/// What the word, the full rounds and the slots of a run tell, behind any calls; and what a delivery leaves.
+pub fn answers()
+    ensures run { EverySheet RunTells }
+    ensures run_of_problems { EveryProblem RunTells }
+    ensures delivery { EverySheet DeliveryTells }
+    ensures delivery_of_problems { EveryProblem DeliveryTells }
 {
 }

@@ -1,5 +1,5 @@
 //! What holds of a season's figures.
-ghost use Rattle.season_rules.specs.Claims.{EachKnown, AddUp, AnyOrder, StreamsInAnyOrder, OneMoreSheet, MeanOver, SumBound, ReadsStream, ReadsNoMore};
+ghost use Rattle.season_rules.specs.Claims.{EachKnown, AddUp, AnyOrder, StreamsInAnyOrder, OneMoreSheet, MeanOver, SumBound, ReadsStream, ReadsNoMore, CappedInTurn, NeverCapped};
 
 /// Every sheet is refused with 1 to 4 or ends in one of the four words; refused and words add up to the sheets; the rounds are those of `none` and `plan`.
 pub fn counted()
@@ -22,5 +22,12 @@ pub fn ordered()
 pub fn streams()
     ensures read { ReadsStream }
     ensures no_more { ReadsNoMore }
+{
+}
+
+/// Counted one by one and capped each time at the top of 64 bits, sheets come to the same as counted together and capped once; no season is capped.
+pub fn capped()
+    ensures in_turn { CappedInTurn }
+    ensures never { NeverCapped }
 {
 }

@@ -1,11 +1,12 @@
 //! What holds of lists that mix deliveries, runs, picks, and writes and reads of the rail in either form.
 ghost use Rattle.theorems.specs.Claims.{EveryProblem, EverySheet};
 ghost use Rattle.tenants.specs.Tenants.{Naming, NamingAbove};
-ghost use Rattle.theorems_lists.specs.Claims.{ComesToCalls, ComesToCallsAnywhere, SoundMixed, CompleteMixed, ReachedMixed, RoundBoundMixed, RunBoundMixed, RunsCountMixed, RunsMarkMixed, CountsExactMixed, CountsCappedMixed, SentIsReceivedAndWaitingMixed, SentIsReceivedAndWaitingOfMixed, AskedOnceMixed, StaysMixed, CountsNeverFallMixed, RuleKeptMixed, ActsAlikeMixed};
+ghost use Rattle.theorems_lists.specs.Claims.{ComesToCalls, ComesToCallsAnywhere, SoundMixed, CompleteMixed, ReachedMixed, RoundBoundMixed, RunBoundMixed, RunsCountMixed, RunsMarkMixed, CountsExactMixed, CountsCappedMixed, SentIsReceivedAndWaitingMixed, SentIsReceivedAndWaitingOfMixed, AskedOnceMixed, StaysMixed, CountsNeverFallMixed, RuleKeptMixed, ActsAlikeMixed, FromStart, Comes};
 
 /// Such a list leaves, tries, makes, hands over and sends what the calls that it comes to do, and every read answers 0.
 pub fn calls()
-    ensures from_a_start { EverySheet ComesToCalls }
+    ensures from_a_start { EverySheet (λ rule p. FromStart rule p Comes) }
+    ensures calls { EverySheet ComesToCalls }
     ensures from_a_start_of_problems { EveryProblem ComesToCalls }
     ensures anywhere { ComesToCallsAnywhere }
 {

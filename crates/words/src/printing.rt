@@ -1,63 +1,102 @@
-// Printing, on standard output.
-ghost use Rattle.std.specs.Prelude.{◌≡◌, false};
-ghost use Rattle.words.specs.Printing.{StaysFailed};
+// Printing part by part, on any writer.
+ghost use Rattle.std.specs.Prelude.{◌≡◌, false, ◌<◌, ◌++◌};
+ghost use Rattle.protocol.specs.Run.{ending_word};
+ghost use Rattle.engine.specs.Answers.{ending_of};
+ghost use Rattle.text.specs.Text.{decimal, newline};
+ghost use Rattle.support_cli.specs.Streams.{Puts};
+ghost use Rattle.words.specs.Printing.{state_of, hex_digit, hex_byte};
 
 use crate::word_for;
 use engine::Ending;
-use tool::written;
+use lent::cursor::Cursor;
+use std::io::Write;
+use support_cli::Output;
+use text::append_number;
 
-// Standard output, and whether something could not be written there. It is handed on from part to part, so that a line reads as it is printed. A `Result`
-// from each part would be no plainer: a `?` behind each word of a line, and one more from each function that prints. Each part promises of its own
-// that an output that has failed stays failed (`StaysFailed`): no field can say so, since it is said of two outputs.
+/// An output, and whether a write to it has failed: nothing more is written there then. It is handed on by value from part to part, so that a line reads as it
+/// is printed.
 #[derive(Clone, Copy)]
-pub struct Out {
-    pub failed: bool,
+pub struct Out<W> {
+    writer: W,
+    failed: bool,
 }
 
-impl Out {
-    pub fn new() -> Out
-        ensures { result.failed ≡ false }
-    {
-        Out { failed: false }
-    }
+// A digit of 16, in lower case.
+#[tactic(auto, unfolding(crate::specs::Printing::hex_digit))]
+fn hex_digit(k: u8) -> u8
+    requires { k < 16 }
+    ensures { result ≡ hex_digit k }
+{
+    if k < 10 { b'0' + k } else { b'a' - 10 + k }
+}
 
-    // What could not be written is said once: nothing more is written then.
-    pub fn put(self, s: &[u8]) -> Out
-        ensures { StaysFailed self result }
+impl<W: Write + Copy> Out<W> {
+    /// The output that this writer is, where nothing has failed.
+    pub fn new(writer: W) -> Out<W>
+        ensures holds { (state_of W.contents result).known ≡ W.contents writer }
+        ensures good { (state_of W.contents result).failed ≡ false }
     {
         Out {
-            failed: self.failed || !written(s),
+            writer,
+            failed: false,
         }
     }
 
-    // `text::append_number` puts it in a buffer, which is no output: what both have is `io::decimal`.
-    pub fn number(self, n: u64) -> Out
-        ensures { StaysFailed self result }
+    /// Whether a write has failed.
+    pub fn has_failed(self) -> bool
+        ensures { result ≡ (state_of W.contents self).failed }
     {
-        let mut text = [0u8; 20];
-        let k = io::decimal(n, &mut text);
-        self.put(&text[..k])
+        self.failed
     }
 
-    // A line: what stands before the number, and the number.
-    pub fn line(self, before: &[u8], n: u64) -> Out
-        ensures { StaysFailed self result }
+    /// Puts all of the bytes behind the others.
+    pub fn put(self, bytes: &[u8]) -> Out<W>
+        ensures { Puts bytes.now (state_of W.contents self) (state_of W.contents result) }
+    {
+        if self.failed {
+            return self;
+        }
+        let mut output = Output::new(self.writer);
+        output.put(bytes);
+        let failed = output.has_failed();
+        Out {
+            writer: output.into_writer(),
+            failed,
+        }
+    }
+
+    /// Puts a number in decimal.
+    pub fn number(self, n: u64) -> Out<W>
+        ensures { Puts (decimal n) (state_of W.contents self) (state_of W.contents result) }
+    {
+        let mut digits = [0u8; 20];
+        let mut next = Cursor {
+            buffer: &mut digits,
+            at: 0,
+        };
+        append_number(&mut next, n);
+        let count = next.at;
+        self.put(&digits[..count])
+    }
+
+    /// Puts a line: what stands before a number, and the number.
+    pub fn line(self, before: &[u8], n: u64) -> Out<W>
+        ensures { Puts (before.now ++ (decimal n ++ newline)) (state_of W.contents self) (state_of W.contents result) }
     {
         self.put(before).number(n).put(b"\n")
     }
 
-    // A byte in two hexadecimal digits, behind a blank.
-    pub fn byte(self, b: u8) -> Out
-        ensures { StaysFailed self result }
+    /// Puts a blank, and a byte in two hexadecimal digits.
+    #[tactic(auto, unfolding(crate::specs::Printing::hex_byte))]
+    pub fn byte(self, b: u8) -> Out<W>
+        ensures { Puts (hex_byte b) (state_of W.contents self) (state_of W.contents result) }
     {
-        let mut text = [0u8; 16];
-        let k = io::hex(b as u64, 2, &mut text);
-        self.put(b" ").put(&text[..k])
+        self.put(&[b' ', hex_digit(b / 16), hex_digit(b % 16)])
     }
 
-    // The word for how a run ended.
-    pub fn ending(self, e: Ending) -> Out
-        ensures { StaysFailed self result }
+    /// Puts the word for how a run ended.
+    pub fn ending(self, e: Ending) -> Out<W>
+        ensures { Puts (ending_word (ending_of e)) (state_of W.contents self) (state_of W.contents result) }
     {
         self.put(word_for(e))
     }

@@ -3,4 +3,4 @@ use Rattle.promises.proofs.Beside.{counts-unread}
 use Rattle.promises.proofs.agents.counts.Goals as goal
 
 pub returns : goal.returns
-returns c = counts-unread
+returns c = record { unread = counts-unread }

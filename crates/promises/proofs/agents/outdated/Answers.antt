@@ -3,4 +3,4 @@ use Rattle.promises.proofs.Beside.{outdated-answered}
 use Rattle.promises.proofs.agents.outdated.Goals as goal
 
 pub returns : goal.returns
-returns c = outdated-answered
+returns c = record { answered = outdated-answered }

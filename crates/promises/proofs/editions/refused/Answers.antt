@@ -3,4 +3,4 @@ use Rattle.turn_theorems.proofs.Theorems.{refused-as-said}
 use Rattle.promises.proofs.editions.refused.Goals as goal
 
 pub returns : goal.returns
-returns c = refused-as-said
+returns c = record { as_said = refused-as-said }

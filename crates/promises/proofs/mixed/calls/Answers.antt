@@ -5,6 +5,9 @@ use Rattle.promises.proofs.mixed.calls.Goals as goal
 pub returns-clause-from_a_start : goal.returns-clause-from_a_start
 returns-clause-from_a_start c = sheet-comes-to-calls
 
+pub returns-clause-calls : goal.returns-clause-calls
+returns-clause-calls c = sheet-comes-to-calls
+
 pub returns-clause-from_a_start_of_problems : goal.returns-clause-from_a_start_of_problems
 returns-clause-from_a_start_of_problems c = comes-to-calls
 

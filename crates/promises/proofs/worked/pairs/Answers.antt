@@ -3,4 +3,4 @@ use Rattle.tenants.proofs.Nights.{nights-hold}
 use Rattle.promises.proofs.worked.pairs.Goals as goal
 
 pub returns : goal.returns
-returns c = nights-hold
+returns c = record { alike = nights-hold }

@@ -3,4 +3,4 @@ use Rattle.problem.proofs.Cases.{cases-hold}
 use Rattle.promises.proofs.worked.sheets.Goals as goal
 
 pub returns : goal.returns
-returns c = cases-hold
+returns c = record { sheets = cases-hold }

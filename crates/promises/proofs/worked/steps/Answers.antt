@@ -3,4 +3,4 @@ use Rattle.agent_rules.proofs.Cases.{steps-hold}
 use Rattle.promises.proofs.worked.steps.Goals as goal
 
 pub returns : goal.returns
-returns c = steps-hold
+returns c = record { steps = steps-hold }
