@@ -16,11 +16,11 @@ use forging::{
 use network::Network;
 use packed::digit;
 use refusals::Refusal;
-use words::printing::Out;
+use words::printing::{Out, Screen};
 
 // ---- printing
 
-fn put_shape(o: Out, r: &Network) -> Out {
+fn put_shape(o: Screen, r: &Network) -> Screen {
     let shape = if r.is_in_shape() {
         "in shape"
     } else {
@@ -30,7 +30,7 @@ fn put_shape(o: Out, r: &Network) -> Out {
 }
 
 // What a call answers: the table's number of its refusal, and whether it hands back the network given; 0 is printed for a call that nothing refuses.
-fn put_answer(o: Out, before: &[u8], a: &Answer, given: &Network) -> Out {
+fn put_answer(o: Screen, before: &[u8], a: &Answer, given: &Network) -> Screen {
     let o = o.put(before);
     match a.refusal {
         None => o.number(0),
@@ -50,7 +50,7 @@ fn put_answer(o: Out, before: &[u8], a: &Answer, given: &Network) -> Out {
 // What is printed, and the network in shape that each case is one change away from.
 #[derive(Clone, Copy)]
 struct Cases<'a> {
-    out: Out,
+    out: Screen,
     good: &'a Network,
 }
 
@@ -378,7 +378,7 @@ impl<'a> Cases<'a> {
 }
 
 // What waits on channel 2 to 3, whose ring begins at place 96: how many messages, and the head.
-fn put_line(o: Out, r: &Network) -> Out {
+fn put_line(o: Screen, r: &Network) -> Screen {
     let held = digit(r.counts[1], 3);
     let o = o.put(b"; line 2 to 3 holds ").number(u64::from(held));
     if held == 0 {
@@ -392,14 +392,14 @@ fn put_line(o: Out, r: &Network) -> Out {
 }
 
 // A refusal of an agent that its receiver does not inform: under rule 2 the refuser is told all the same.
-fn refuser(o: Out, name: &str, r: &Network) -> Out {
+fn refuser(o: Screen, name: &str, r: &Network) -> Screen {
     let shape = put_shape(o.put(name.as_bytes()), r);
     let answer = run::deliver(*r, 3, 2);
     let delivery = put_answer(shape, b"; delivery ", &answer, r);
     put_line(delivery, &answer.network).put(b"\n")
 }
 
-fn refusers(o: Out) {
+fn refusers(o: Screen) {
     let named = [
         ("a refuser not informed, rule 1", uninformed(1, 1)),
         (
@@ -418,9 +418,9 @@ fn refusers(o: Out) {
     }
 }
 
-fn main() {
+fn main(rt: HostRuntime) {
     let cases = Cases {
-        out: Out::new(),
+        out: Out::new(rt.stdout()),
         good: &good(),
     };
     let cases = cases.free().unread().problems().values().lasts().sets();

@@ -15,6 +15,7 @@ use refusals::Refusal;
 use std::alloc::AllocError;
 use std::collections::BTreeSet;
 use tallies::{Tally, count_scanners};
+use words::printing::Out;
 
 // The problems met so far: of each how many scanners, their slots and the bans.
 type Problems = BTreeSet<(u8, [u8; 12], [u64; 66])>;
@@ -106,7 +107,7 @@ fn try_behind(t: &mut Tally, ordinal: u64) {
 
 fn main(rt: HostRuntime) -> Result<(), AllocError> {
     let mut seen = BTreeSet::new(rt.alloc());
-    let mut t = Tally::new();
+    let mut t = Tally::new(Out::new(rt.stdout()));
     for ordinal in 0..4996 {
         try_little(&mut t, &mut seen, ordinal)?;
     }

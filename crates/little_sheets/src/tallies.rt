@@ -1,6 +1,6 @@
 // How many of each kind there are, and what failed.
 use counters::Count;
-use words::printing::Out;
+use words::printing::Screen;
 
 // Those that end in `none` and in `plan`, of one, two and three scanners; different problems; the rounds; those refused one byte short.
 #[derive(Clone, Copy)]
@@ -12,7 +12,7 @@ pub struct Tally {
     pub sum_of_rounds: Count,
     pub short: Count,
     failed: Count,
-    out: Out,
+    out: Screen,
 }
 
 // One more of n scanners.
@@ -24,7 +24,7 @@ pub fn count_scanners(counts: &mut [Count; 3], n: u8) {
 }
 
 impl Tally {
-    pub fn new() -> Tally {
+    pub fn new(out: Screen) -> Tally {
         let none = Count::none();
         Tally {
             nones: [none; 3],
@@ -34,7 +34,7 @@ impl Tally {
             sum_of_rounds: none,
             short: none,
             failed: none,
-            out: Out::new(),
+            out,
         }
     }
 

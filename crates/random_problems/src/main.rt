@@ -14,6 +14,7 @@ use random_rails::drafts::drawn;
 use random_rails::draws::{next, pick};
 use random_rails::rails::{at_rest, listed};
 use tallies::{Tally, Trial};
+use words::printing::{Out, Screen};
 
 // The rounds that a run may use: 1,000, or one time in eight up to seven.
 fn allowed(state: u64) -> u64 {
@@ -92,8 +93,8 @@ impl Tally {
 }
 
 // So many sheets, from a fixed seed, each under either rule.
-fn tried(sheets: usize) -> Tally {
-    let mut t = Tally::new();
+fn tried(out: Screen, sheets: usize) -> Tally {
+    let mut t = Tally::new(out);
     let mut state: u64 = 20030139;
     for _ in 0..sheets {
         let d = drawn(state);
@@ -106,6 +107,6 @@ fn tried(sheets: usize) -> Tally {
     t
 }
 
-fn main() {
-    tried(10000).report();
+fn main(rt: HostRuntime) {
+    tried(Out::new(rt.stdout()), 10000).report();
 }

@@ -2,7 +2,7 @@
 use counters::Count;
 use oracle::reading::Sheet;
 use refusals::Refusal;
-use words::printing::Out;
+use words::printing::Screen;
 
 // A sheet under a rule.
 #[derive(Clone, Copy)]
@@ -27,11 +27,11 @@ pub struct Tally {
     pub accepted: Count,
     pub refusals: Count,
     failed: Count,
-    out: Out,
+    out: Screen,
 }
 
 impl Tally {
-    pub fn new() -> Tally {
+    pub fn new(out: Screen) -> Tally {
         let none = Count::none();
         Tally {
             sheets: none,
@@ -47,7 +47,7 @@ impl Tally {
             accepted: none,
             refusals: none,
             failed: none,
-            out: Out::new(),
+            out,
         }
     }
 
@@ -111,7 +111,7 @@ impl Tally {
 #[derive(Clone, Copy)]
 struct Report {
     failed: u64,
-    out: Out,
+    out: Screen,
 }
 
 impl Report {

@@ -3,7 +3,7 @@ ghost use Rattle.std.specs.Prelude.{◌≡◌, length};
 
 use crate::printing::{put_answer, start_of};
 use lent::cursor::Cursor;
-use words::printing::Out;
+use words::printing::Screen;
 
 // One byte more than a text may have, all of them the beginning of a comment.
 fn room() -> [u8; 1048577]
@@ -20,7 +20,7 @@ fn put_line(text: &mut Cursor<'_>, line: &[u8]) {
 }
 
 // A first line, and another so many times.
-fn put_times(o: Out, first: &[u8], line: &[u8], times: usize) -> Out {
+fn put_times(o: Screen, first: &[u8], line: &[u8], times: usize) -> Screen {
     let mut text = room();
     let mut next = Cursor {
         buffer: &mut text,
@@ -35,7 +35,7 @@ fn put_times(o: Out, first: &[u8], line: &[u8], times: usize) -> Out {
 }
 
 // A first line, and a comment up to n bytes.
-fn put_padded(o: Out, first: &[u8], n: usize) -> Out {
+fn put_padded(o: Screen, first: &[u8], n: usize) -> Screen {
     let mut text = room();
     let mut next = Cursor {
         buffer: &mut text,
@@ -45,7 +45,7 @@ fn put_padded(o: Out, first: &[u8], n: usize) -> Out {
     put_answer(o, start_of(&text, n))
 }
 
-fn put_records(o: Out) -> Out {
+fn put_records(o: Screen) -> Screen {
     let gaps = b"gap 11 12 -7 -7\n";
     let o = o.put(b"= 4224 bans\n");
     let o = put_times(o, b"slots 2 2\n", b"ban 1:1 2:1\n", 4224);
@@ -57,7 +57,7 @@ fn put_records(o: Out) -> Out {
     put_times(o, b"slots 8 8 8 8 8 8 8 8 8 8 8 8\n", gaps, 4225)
 }
 
-pub fn put_longs(o: Out) -> Out {
+pub fn put_longs(o: Screen) -> Screen {
     let o = put_records(o).put(b"= 1048576 bytes\n");
     let o = put_padded(o, b"slots 1\n", 1048576);
     let o = o.put(b"= 1048577 bytes\n");

@@ -13,12 +13,12 @@ use cases::lines::{line_end, next_line};
 use long::put_longs;
 use printing::put_answer;
 use random::try_randoms;
+use support_cli::Input;
 use tallies::Tally;
-use tool::STDIN_FILENO;
-use words::printing::Out;
+use words::printing::{Out, Screen};
 
 // What is answered of the text in front of this line.
-fn put_case(o: Out, text: &[u8], name: &[u8]) -> Out {
+fn put_case(o: Screen, text: &[u8], name: &[u8]) -> Screen {
     let named = o.put(name).put(b"\n");
     match text {
         [front @ .., _] if name.starts_with(b"=-") => put_answer(named, front),
@@ -26,7 +26,7 @@ fn put_case(o: Out, text: &[u8], name: &[u8]) -> Out {
     }
 }
 
-fn put_cases(out: Out, all: &[u8]) -> Out {
+fn put_cases(out: Screen, all: &[u8]) -> Screen {
     let mut o = out;
     let mut begin: usize = 0;
     let mut at: usize = 0;
@@ -43,10 +43,10 @@ fn put_cases(out: Out, all: &[u8]) -> Out {
     o
 }
 
-fn main() {
+fn main(rt: HostRuntime) {
     let mut text = io::large_buffer();
-    let n = io::read_full(STDIN_FILENO, &mut text);
-    let mut tally = Tally::new(put_longs(put_cases(Out::new(), &text[..n])));
+    let n = Input::new(rt.stdin()).read_full(&mut text);
+    let mut tally = Tally::new(put_longs(put_cases(Out::new(rt.stdout()), &text[..n])));
     try_randoms(&mut tally);
     tally.report();
 }

@@ -2,7 +2,7 @@
 use scribe_faults::fault_text;
 use scribe_reader::{Faulty, Unread, read_sheet};
 use scribe_writer::write_text;
-use words::printing::Out;
+use words::printing::Screen;
 
 // The first n bytes, or all where there are not so many.
 pub fn start_of(s: &[u8], n: usize) -> &[u8] {
@@ -10,7 +10,7 @@ pub fn start_of(s: &[u8], n: usize) -> &[u8] {
 }
 
 // Eight on a line.
-fn put_bytes(out: Out, s: &[u8]) -> Out {
+fn put_bytes(out: Screen, s: &[u8]) -> Screen {
     let mut o = out;
     for (i, b) in s.iter().enumerate() {
         o = o.byte(*b);
@@ -22,7 +22,7 @@ fn put_bytes(out: Out, s: &[u8]) -> Out {
 }
 
 // What `scribe text` answers.
-fn put_text(o: Out, sheet: &[u8]) -> Out {
+fn put_text(o: Screen, sheet: &[u8]) -> Screen {
     let mut text = [0u8; 67614];
     match write_text(sheet, &mut text) {
         Ok(n) => o.put(start_of(&text, n)),
@@ -31,7 +31,7 @@ fn put_text(o: Out, sheet: &[u8]) -> Out {
 }
 
 // A sheet of up to five records, and its text; of a longer one, only how long the two are.
-fn put_sheet(o: Out, sheet: &[u8]) -> Out {
+fn put_sheet(o: Screen, sheet: &[u8]) -> Screen {
     let o = o.line(b"sheet ", sheet.len() as u64);
     if sheet.len() <= 64 {
         return put_text(put_bytes(o, sheet), sheet);
@@ -41,14 +41,14 @@ fn put_sheet(o: Out, sheet: &[u8]) -> Out {
     o.line(b"text ", n as u64)
 }
 
-fn put_fault(o: Out, Faulty { line, fault }: Faulty) -> Out {
+fn put_fault(o: Screen, Faulty { line, fault }: Faulty) -> Screen {
     let mut text = [0u8; 89];
     let n = fault_text(line, fault, &mut text);
     o.put(&text[..n])
 }
 
 // What `scribe sheet` answers.
-pub fn put_answer(o: Out, text: &[u8]) -> Out {
+pub fn put_answer(o: Screen, text: &[u8]) -> Screen {
     let mut sheet = [0u8; 33816];
     match read_sheet(text, &mut sheet) {
         Ok(n) => put_sheet(o, start_of(&sheet, n)),

@@ -1,6 +1,6 @@
 // How many of each kind there are, and what failed.
 use counters::Count;
-use words::printing::Out;
+use words::printing::Screen;
 
 // A good sheet is told, a bad one is refused, a damaged text or garbage is read.
 #[derive(Clone, Copy)]
@@ -16,11 +16,11 @@ pub struct Tally {
     refused: Count,
     damaged: Count,
     failed: Count,
-    out: Out,
+    out: Screen,
 }
 
 impl Tally {
-    pub fn new(out: Out) -> Tally {
+    pub fn new(out: Screen) -> Tally {
         let none = Count::none();
         Tally {
             told: none,

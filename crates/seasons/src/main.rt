@@ -11,8 +11,8 @@ use cases::lines::{Line, first_line};
 use cases::sheets::{Sheet, blank, built};
 use little_sheet::little;
 use std::alloc::{AllocError, Global};
-use tool::STDIN_FILENO;
-use words::printing::Out;
+use support_cli::Input;
+use words::printing::{Out, Screen};
 
 // ---- the stream
 
@@ -40,15 +40,15 @@ fn add_little_sheets(stream: &mut Vec<u8>) -> Result<(), AllocError> {
 struct Desk {
     sheet: Sheet,
     stream: Vec<u8>,
-    out: Out,
+    out: Screen,
 }
 
 impl Desk {
-    fn new(alloc: Global) -> Desk {
+    fn new(alloc: Global, out: Screen) -> Desk {
         Desk {
             sheet: blank(),
             stream: Vec::new(alloc),
-            out: Out::new(),
+            out,
         }
     }
 
@@ -79,10 +79,10 @@ impl Desk {
 }
 
 // Line by line, as long as what they print can be written.
-fn play(alloc: Global, text: &[u8]) -> Result<(), AllocError> {
-    let mut desk = Desk::new(alloc);
+fn play(alloc: Global, out: Screen, text: &[u8]) -> Result<(), AllocError> {
+    let mut desk = Desk::new(alloc, out);
     for line in text.split_inclusive(|b| *b == b'\n') {
-        if desk.out.failed {
+        if desk.out.has_failed() {
             break;
         }
         desk.follow(first_line(line))?;
@@ -94,6 +94,6 @@ fn play(alloc: Global, text: &[u8]) -> Result<(), AllocError> {
 // `play` as a closure would be called by a `main` as long.
 fn main(rt: HostRuntime) -> Result<(), AllocError> {
     let mut text = io::large_buffer();
-    let n = io::read_full(STDIN_FILENO, &mut text);
-    play(rt.alloc(), &text[..n])
+    let n = Input::new(rt.stdin()).read_full(&mut text);
+    play(rt.alloc(), Out::new(rt.stdout()), &text[..n])
 }

@@ -20,6 +20,7 @@ use random_rails::draws::next;
 use refusals::Refusal;
 use tallies::{Kind, Tally};
 use turning::{to_bans, to_gaps};
+use words::printing::Out;
 
 // The longest sheet has so many bytes.
 const LONGEST: usize = 33816;
@@ -230,6 +231,7 @@ fn with_randoms(mut tally: Tally) -> Tally {
     tally
 }
 
-fn main() {
-    with_randoms(with_littles(with_longest(Tally::new()))).report();
+fn main(rt: HostRuntime) {
+    let tally = Tally::new(Out::new(rt.stdout()));
+    with_randoms(with_littles(with_longest(tally))).report();
 }

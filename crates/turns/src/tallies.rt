@@ -1,5 +1,5 @@
 // How many of each kind there are, and what failed.
-use words::printing::Out;
+use words::printing::Screen;
 
 // What a sheet turned out to be, and what failed.
 #[derive(Clone, Copy, PartialEq, Eq)]
@@ -17,14 +17,14 @@ pub enum Kind {
 #[derive(Clone, Copy)]
 pub struct Tally {
     of: [u64; 8],
-    out: Out,
+    out: Screen,
 }
 
 impl Tally {
-    pub fn new() -> Tally {
+    pub fn new(out: Screen) -> Tally {
         Tally {
             of: [0; 8],
-            out: Out::new(),
+            out,
         }
     }
 

@@ -10,6 +10,7 @@ use crate::word_for;
 use engine::Ending;
 use lent::cursor::Cursor;
 use std::io::Write;
+use std::rt::Stdout;
 use support_cli::Output;
 use text::append_number;
 
@@ -101,3 +102,6 @@ impl<W: Write + Copy> Out<W> {
         self.put(word_for(e))
     }
 }
+
+/// Standard output.
+pub type Screen = Out<Stdout>;
