@@ -1,10 +1,14 @@
 //! Calls on a rail, by value: one call, and lists of calls of which all is promised that is claimed of lists of deliveries, runs and picks.
 #![tactic(auto)]
 
-ghost use Rattle.std.specs.Prelude.{◌≡◌, map, option_map};
+ghost use Rattle.std.specs.Prelude.{◌≡◌, ◌*◌, ◌-◌, true, List, length, map, option_map};
 ghost use Rattle.std.specs.List.{last_or};
+ghost use Rattle.base.specs.Lists.{Any};
+ghost use Rattle.protocol.specs.Delivery.{numbers_good};
+ghost use Rattle.protocol.specs.Run.{Line as Line'};
 ghost use Rattle.theorems.specs.Calls.{left_by_all, Deliver as Deliver', Run as Run'};
 ghost use Rattle.tenants.specs.Tenants.{Naming, NamingAbove};
+ghost use Rattle.dispatch_rules.specs.Claims.{Serves, StaysDeliverable, picks_by};
 ghost use Rattle.dispatch_laws.specs.Steps.{Called as Called', Picked, left_by_steps, calls_in};
 ghost use Rattle.network.specs.Abstract.{network_of};
 ghost use Rattle.engine.specs.Refused.{refused_number};
@@ -117,6 +121,12 @@ pub fn play(dispatcher: Dispatcher, calls: &[Call]) -> Played
     // the bans that must be alike: those with agents above it, which are all that an agent's rules read; and all bans that name it
     ensures alike { ActsAlike NamingAbove (dispatcher_of dispatcher) (map step_of calls.now) (network_of result.dispatcher.network) }
     ensures named_alike { ActsAlike Naming (dispatcher_of dispatcher) (map step_of calls.now) (network_of result.dispatcher.network) }
+
+    // where the calls are so many picks, a line that stays deliverable until one of them serves it is served by one of them
+    ensures in_time { (l : Line') (wishes : List Line') → map step_of calls.now ≡ map Picked wishes
+        → numbers_good (network_of dispatcher.network) l.from l.to ≡ true
+        → length wishes ≡ 2 * (network_of dispatcher.network).problem.count * ((network_of dispatcher.network).problem.count - 1)
+        → StaysDeliverable l wishes (dispatcher_of dispatcher) → Any (Serves l) (picks_by wishes (dispatcher_of dispatcher)) }
 {
     let mut played = Played {
         dispatcher,

@@ -22,10 +22,7 @@ pub struct Tally {
 
 impl Tally {
     pub fn new(out: Screen) -> Tally {
-        Tally {
-            of: [0; 8],
-            out,
-        }
+        Tally { of: [0; 8], out }
     }
 
     fn count(self, kind: Kind) -> u64 {

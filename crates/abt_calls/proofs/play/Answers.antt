@@ -4,6 +4,7 @@
 use Rattle.std.proofs.Common.{◌≡◌, List, [], map}
 use Rattle.dispatch_laws.specs.Steps.{Step, left_by_steps}
 use Rattle.dispatch.specs.Abstract.{dispatcher_of}
+use Rattle.dispatch_rules.proofs.Theorems.{served-in-time}
 use Rattle.abt_calls.specs.Abstract.{step_of}
 use Rattle.abt_calls.proofs.Playing.{Here, here-first, here-at, here-last, all-left, all-came}
 use Rattle.abt_calls.proofs.Keeping.{by-the-calls, reaches-further, promised-further, promised-from-start, acts-alike-further, named-acts-alike-further}
@@ -34,4 +35,5 @@ returns c =
       from_start = promised-from-start (dispatcher_of given) (dispatcher_of played.dispatcher) steps left;
       alike = acts-alike-further (dispatcher_of given) (dispatcher_of played.dispatcher) steps left;
       named_alike = named-acts-alike-further (dispatcher_of given) (dispatcher_of played.dispatcher) steps left;
+      in_time = λ l wishes _ numbers many stays. served-in-time (dispatcher_of given) l wishes numbers many stays;
     }
