@@ -18,7 +18,8 @@ use refusals::Refusal;
 use text::{append_line, append_number};
 use words::append_ending;
 
-// What a sheet comes to: the start by rule 1 and the run on it with so many rounds, or the refusal of the sheet. A match, since `?` moves the network twice,
+// What a sheet comes to: the start by rule 1 and the run on it with so many rounds, or the refusal of the sheet. `Plan` comes only with slots that obey every
+// ban of the sheet, `None` only where no choice of slots does, and the full rounds obey the bound. A match, since `?` moves the network twice,
 // and a season of small sheets then takes a third longer.
 pub fn settle(sheet: &[u8], rounds: u64) -> Result<Answer, Refusal>
     ensures settles { Settles rounds sheet.now result }
@@ -80,7 +81,8 @@ fn append_ran(out: &mut Cursor<'_>, ran: Answer)
     append_plan(out, ran.ending, ran.network);
 }
 
-// The text for a sheet, with so many rounds allowed, and how many bytes it has.
+// The text for a sheet, with so many rounds allowed, and how many bytes it has. Whatever word, count and slots it says tell of the sheet's problem. Bytes
+// behind it stay.
 pub fn text(sheet: &[u8], rounds: u64, out: &mut [u8; 1024]) -> usize
     ensures prints { Prints rounds sheet.now out.new result }
     ensures promised { TextPromised sheet.now (take result out.new) }

@@ -11,6 +11,7 @@ use network::Network;
 use refusals::Refusal;
 
 // The delivery where the network stands: what the delivery by value hands back is left in its place, and why it was refused is handed back, if it was.
+// Behind calls from a start what is left tells of the problem by itself.
 pub fn deliver_in_place(r: &mut Network, from: u8, to: u8) -> Option<Refusal>
     ensures delivers_as { DeliversAs r.old (deliver (network_of r.old) from to) (refused_number result) r.new }
     ensures stands { Stands r.old r.new }

@@ -13,7 +13,8 @@ ghost use Rattle.run.specs.Promised.{Promised, Stands};
 use engine::{Answer, Task, work};
 use network::Network;
 
-// A delivery tests 5 to 10, in that order. A refused one hands back the very network given.
+// A delivery tests 5 to 10, in that order. A refused one hands back the very network given. What an answer tells is said of a network that calls led to from
+// a start: at rest with no verdict the slots obey all bans, and under a verdict no choice of slots does.
 #[tactic(auto, unfolding(engine::specs::Tasks::allowed_of))]
 pub fn deliver(r: Network, from: u8, to: u8) -> Answer
     ensures delivers_as { DeliversAs r (deliver_by (network_of r) from to) (refused_number result.refusal) result.network }
@@ -28,7 +29,8 @@ pub fn deliver(r: Network, from: u8, to: u8) -> Answer
     answer
 }
 
-// The run tests the shape once, and is refused only with 5. Its rounds: "0 to 1,000,000, and more is taken as 1,000,000"
+// The run tests the shape once, and is refused only with 5. Its rounds: "0 to 1,000,000, and more is taken as 1,000,000". Behind calls from a start its word
+// tells likewise, and its full rounds, with those of the runs before it, obey the bound.
 #[tactic(auto, unfolding(engine::specs::Tasks::allowed_of))]
 pub fn run(r: Network, allowed: u64) -> Answer
     ensures runs_as { RunsAs r (run_by allowed (network_of r)) result }
