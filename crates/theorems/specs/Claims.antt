@@ -78,6 +78,23 @@ pub record RunCounts (rule : ℕ) (p : Problem) (calls : List Call) (k : ℕ) : 
 abbrev pub RunsCount : ℕ → Problem → Type 0
 RunsCount rule p = (calls : List Call) (k : ℕ) → RunCounts rule p calls k
 
+-- Delivering a run's tries one by one from the network that it was given leaves the network that it returns, and refuses exactly the tries that
+-- it saw refused. Of every network, in shape or not.
+pub record Replays (k : ℕ) (w : Network) : Type 0 where
+  pub leaves : replay (tries_of (run k w).rounds) w ≡ (run k w).network
+  pub refuses : answers (tries_of (run k w).rounds) w ≡ answers_of (run k w).rounds
+
+abbrev pub Replay : Type 0
+Replay = (k : ℕ) (w : Network) → Replays k w
+
+-- A link is asked for once: on no network reached from the start, under a verdict or not, does a request wait from an agent already informed, nor
+-- do two requests wait on one channel.
+abbrev pub AskedOnce : ℕ → Problem → Type 0
+AskedOnce rule p =
+    (calls : List Call) (x y : ℕ)
+    → OneLink ((left_by_all calls (start rule p)).channel y x)
+    × (((left_by_all calls (start rule p)).agents x).informs y ≡ true → All (Not IsAddLink) ((left_by_all calls (start rule p)).channel y x))
+
 -- ---- what an answer tells of the problem
 
 -- the slots that the agents hold
@@ -106,23 +123,6 @@ pub record StandsFor (p : Problem) (w : Network) : Type 0 where
 -- of what a delivery leaves, behind any calls
 abbrev pub DeliveryTells : ℕ → Problem → Type 0
 DeliveryTells rule p = (calls : List Call) (i j : ℕ) → StandsFor p (deliver (left_by_all calls (start rule p)) i j).network
-
--- Delivering a run's tries one by one from the network that it was given leaves the network that it returns, and refuses exactly the tries that
--- it saw refused. Of every network, in shape or not.
-pub record Replays (k : ℕ) (w : Network) : Type 0 where
-  pub leaves : replay (tries_of (run k w).rounds) w ≡ (run k w).network
-  pub refuses : answers (tries_of (run k w).rounds) w ≡ answers_of (run k w).rounds
-
-abbrev pub Replay : Type 0
-Replay = (k : ℕ) (w : Network) → Replays k w
-
--- A link is asked for once: on no network reached from the start, under a verdict or not, does a request wait from an agent already informed, nor
--- do two requests wait on one channel.
-abbrev pub AskedOnce : ℕ → Problem → Type 0
-AskedOnce rule p =
-    (calls : List Call) (x y : ℕ)
-    → OneLink ((left_by_all calls (start rule p)).channel y x)
-    × (((left_by_all calls (start rule p)).agents x).informs y ≡ true → All (Not IsAddLink) ((left_by_all calls (start rule p)).channel y x))
 
 -- ---- figures. docs/RULES.md, 'Figures on every scanner'
 
