@@ -26,7 +26,7 @@ use Rattle.season_rules.specs.Claims.{sum_in}
 use Rattle.season_rules.proofs.Order.{counts-rounds, counts-none}
 use Rattle.season_figures.specs.declared.figures.Figures.{Figures}
 use Rattle.season_figures.specs.Abstract.{kinds, rounds_of, figures_of, CountsSheet}
-use Rattle.season_figures.specs.Promised.{slots_left, OutcomeTells, Planned, Hopeless, SheetTells, SoMany, SheetsTell}
+use Rattle.season_figures.specs.Promised.{slots_left, OutcomeTells, Planned, Hopeless, CountTells, SoMany, CountsTell}
 
 -- ---- one sheet
 
@@ -130,9 +130,9 @@ sum-by sheet f (Ended e n) q p v =
     let l : 0 + n ≤ most_rounds p = subst (λ (x : Problem). 0 + n ≤ most_rounds x) (one_problem sheet t.0 p t.1 v) t.2.few in
     omega (arith, sum-grown e n f.rounds)
 
-pub sheet-tells : (f r : Figures) (sheet : List ℕ) → CountsSheet f sheet r → SheetTells f sheet r
+pub count-tells : (f r : Figures) (sheet : List ℕ) → CountsSheet f sheet r → CountTells f sheet r
 unfolding figures_of
-sheet-tells f r sheet C =
+count-tells f r sheet C =
     let words : (w : ℕ) → kinds r.words w ≡ (capped (with_outcome (outcome sheet) (figures_of f))).words w = λ w. ap (λ (x : Figures'). x.words w) C in
     let sum : sum_in (rounds_of r.rounds) ≡ sum_in (capped (with_outcome (outcome sheet) (figures_of f))).rounds = ap (λ (x : Figures'). sum_in x.rounds) C in
     record {
@@ -167,9 +167,9 @@ module _ (P : List ℕ → Type 0) (w : ℕ) (holds : (sheet : List ℕ) (e : En
   so-many [] = record { those = []; others = []; parts = refl; number = refl; each = tt }
   so-many (sheet ∷ more) = more-by sheet more (outcome sheet) refl (figures_of' more) (so-many more)
 
-pub sheets-tell : (sheets : List (List ℕ)) (f : Figures) → figures_of f ≡ figures_of' sheets → SheetsTell sheets f
+pub counts-tell : (sheets : List (List ℕ)) (f : Figures) → figures_of f ≡ figures_of' sheets → CountsTell sheets f
 unfolding figures_of
-sheets-tell sheets f e =
+counts-tell sheets f e =
     let words : (w : ℕ) → kinds f.words w ≡ (figures_of' sheets).words w = λ w. ap (λ (x : Figures'). x.words w) e in
     record {
       none = rw (words 1) (so-many Hopeless 1 ended-hopeless sheets);

@@ -17,8 +17,8 @@ use Rattle.season_figures.specs.declared.stream.Reading.TheVariants.{Going, Ende
 use Rattle.season_figures.specs.declared.stream.Season.{Season}
 use Rattle.season_figures.specs.Abstract.{figures_of}
 use Rattle.season_figures.specs.Pieces.{cut_of, is_over, over_by, first_sheet, reading_of, season_of, Advances}
-use Rattle.season_figures.specs.Promised.{SheetsTell}
-use Rattle.season_figures.proofs.Promised.{sheets-tell}
+use Rattle.season_figures.specs.Promised.{CountsTell}
+use Rattle.season_figures.proofs.Promised.{counts-tell}
 
 -- these sheets, and behind them the stream
 abbrev joined : List (List ℕ) → Stream → Stream
@@ -150,6 +150,6 @@ module _ (stream rest : List ℕ) (s : Season) (left : ℕ) (H : Here stream res
       (λ t. going s.reading t (omega (arith, H.all t)) ∙ ap reading_of (sym (last-split z t)))
 
 -- what is read is the season of the stream, and so its counts tell
-pub season_tells : (stream : List ℕ) (s : Season) → season_of s ≡ season stream → SheetsTell (split most_sheets stream).sheets s.figures
+pub season_tells : (stream : List ℕ) (s : Season) → season_of s ≡ season stream → CountsTell (split most_sheets stream).sheets s.figures
 unfolding season_of season season_from
-season_tells stream s e = sheets-tell (split most_sheets stream).sheets s.figures (ap (λ (x : Season'). x.figures) e)
+season_tells stream s e = counts-tell (split most_sheets stream).sheets s.figures (ap (λ (x : Season'). x.figures) e)

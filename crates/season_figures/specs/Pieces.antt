@@ -5,7 +5,7 @@ use Rattle.season_figures.specs.declared.stream.Reading.{Reading}
 use Rattle.season_figures.specs.declared.stream.Reading.TheVariants.{Going, Ended, Cut}
 use Rattle.season_figures.specs.declared.stream.Season.{Season}
 use Rattle.season_figures.specs.Abstract.{figures_of, AddsSheet, CountsSheet}
-use Rattle.season_figures.specs.Promised.{OutcomeTells, SheetTells}
+use Rattle.season_figures.specs.Promised.{OutcomeTells, CountTells}
 
 -- what the bytes read for a length say; nothing where they are too few
 unfoldable pub said : List ℕ → Option ℕ
@@ -42,7 +42,7 @@ is_piece head sheet = leb length_bytes (length head) && leb (length_in head) (le
 -- A whole sheet is counted. Otherwise reading is over, and something broke off if anything was read.
 pub record Steps (s : Season) (head sheet : List ℕ) (r : Season) : Type 0 where
   pub capped : is_piece head sheet ≡ true → CountsSheet s.figures sheet r.figures
-  pub tells : is_piece head sheet ≡ true → OutcomeTells sheet × SheetTells s.figures sheet r.figures
+  pub tells : is_piece head sheet ≡ true → OutcomeTells sheet × CountTells s.figures sheet r.figures
   pub counts : is_piece head sheet ≡ true → AddsSheet s.figures sheet r.figures × (r.reading ≡ s.reading)
   pub ends : is_piece head sheet ≡ false → (r.figures ≡ s.figures) × (r.reading ≡ over_by (ltb 0 (length head)))
 

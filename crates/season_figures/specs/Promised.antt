@@ -31,7 +31,7 @@ abbrev pub Hopeless : List ℕ → Type 0
 Hopeless sheet = (p : Problem) × (decode sheet ≡ Valid p) × ((σ : ℕ → ℕ) → Obeys p σ → ⊥)
 
 -- What one sheet more tells: a count that has grown says so of the sheet, and the sum has grown by no more rounds than the bound of its problem.
-pub record SheetTells (f : Figures) (sheet : List ℕ) (r : Figures) : Type 0 where
+pub record CountTells (f : Figures) (sheet : List ℕ) (r : Figures) : Type 0 where
   pub none : kinds f.words 1 < kinds r.words 1 → Hopeless sheet
   pub plan : kinds f.words 2 < kinds r.words 2 → Planned sheet
   pub sum : (p : Problem) → decode sheet ≡ Valid p → sum_in (rounds_of r.rounds) ≤ sum_in (rounds_of f.rounds) + most_rounds p
@@ -47,6 +47,6 @@ pub record SoMany (P : List ℕ → Type 0) (count : ℕ) (sheets : List (List �
   pub each : All P those
 
 -- as many as are counted under a word are as it says
-pub record SheetsTell (sheets : List (List ℕ)) (f : Figures) : Type 0 where
+pub record CountsTell (sheets : List (List ℕ)) (f : Figures) : Type 0 where
   pub none : SoMany Hopeless (kinds f.words 1) sheets
   pub plan : SoMany Planned (kinds f.words 2) sheets

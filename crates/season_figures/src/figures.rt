@@ -5,7 +5,7 @@ ghost use Rattle.engine.specs.Answers.{ending_of};
 ghost use Rattle.season_rules.specs.Season.{Refused, Ended, no_figures, place, one_more, with_rounds, with_outcome};
 ghost use Rattle.season_rules.specs.Capped.{capped_rounds, capped_kinds, capped};
 ghost use Rattle.season_figures.specs.Abstract.{kinds, rounds_of, figures_of, with_word, AddsSheet, CountsSheet};
-ghost use Rattle.season_figures.specs.Promised.{OutcomeTells, SheetTells};
+ghost use Rattle.season_figures.specs.Promised.{OutcomeTells, CountTells};
 
 use dock_text::settle;
 use engine::Ending;
@@ -134,7 +134,7 @@ impl Figures {
         ensures capped { CountsSheet self sheet.now result }
         ensures adds { AddsSheet self sheet.now result }
         ensures promised { OutcomeTells sheet.now }
-        ensures tells { SheetTells self sheet.now result }
+        ensures tells { CountTells self sheet.now result }
     {
         match settle(sheet, 100000) {
             Ok(ran) => self.with_ended(ran.ending, ran.rounds),

@@ -5,7 +5,7 @@ ghost use Rattle.season_rules.specs.Stream.{most_sheets, split, season as season
 ghost use Rattle.base.specs.Lists.{All};
 ghost use Rattle.season_figures.specs.Abstract.{figures_of};
 ghost use Rattle.season_figures.specs.Pieces.{said, is_piece, cut_of, is_over, reading_of, season_of, Steps, Advances};
-ghost use Rattle.season_figures.specs.Promised.{OutcomeTells, SheetsTell};
+ghost use Rattle.season_figures.specs.Promised.{OutcomeTells, CountsTell};
 
 use crate::figures::Figures;
 
@@ -105,7 +105,7 @@ pub fn read_stream(stream: &[u8]) -> Season
     ensures season { season_of result ≡ season_by stream.now }
     ensures reading { result.reading ≡ reading_of (split most_sheets stream.now) }
     ensures promised { All OutcomeTells (split most_sheets stream.now).sheets }
-    ensures tells { SheetsTell (split most_sheets stream.now).sheets result.figures }
+    ensures tells { CountsTell (split most_sheets stream.now).sheets result.figures }
 {
     let mut season = Season::begin();
     let mut rest = stream;

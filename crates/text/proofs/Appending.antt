@@ -1,10 +1,10 @@
--- What is put into a buffer from its first byte on is what it then begins with.
+-- What is put into a buffer from its first byte on is what it then begins with, and behind it the buffer is as it was.
 use mathlib.Core.Path.{◌≡◌, ap, ◌∙◌}
 use mathlib.Core.List.{List}
 use Prim.Native.Nat.{ℕ, ◌+◌}
 use native.Mathlib.Omega.{arith}
 use lib.ListN.{drop, length}
-use lib.Seq.{take_at}
+use lib.Seq.{take_at, drop_at}
 use Rattle.lent.specs.declared.cursor.Cursor.{Cursor}
 use Rattle.lent.specs.Puts.{Adds}
 use Rattle.text.specs.Text.{Appends}
@@ -16,3 +16,6 @@ from-start {old} {new} {s} z p =
       room = p.kept;
       text = rw (p.put, p.behind, z) (take_at s (drop (0 + length s) old.buffer.now) (0 + length s) (omega arith));
     }
+
+pub behind-start : {old new : Cursor} {s : List ℕ} → old.at ≡ 0 → Adds old s new → drop new.at new.buffer.now ≡ drop new.at old.buffer.now
+behind-start {old} {new} {s} z p = rw (p.put, p.behind, z) (drop_at s (drop (0 + length s) old.buffer.now) (0 + length s) (omega arith))
