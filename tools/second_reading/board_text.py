@@ -6,7 +6,11 @@ from .rail import LeftSide, Message, News, Rail, Refusal, Scanner
 
 
 def lines(rail: Rail) -> Iterator[str]:
-    """A block for each scanner, then a line for each message that waits. "All lists are upward." """
+    """`verdict none` where that stands, a block for each scanner, then a line for each line of the rail on which something
+    waits. "All lists are upward."
+    """
+    if rail.verdict:
+        yield "verdict none"
     for number in range(1, rail.n + 1):
         yield from block(number, rail.scanners[number])
     for sender, receiver in rail.waiting():

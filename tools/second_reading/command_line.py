@@ -1,10 +1,14 @@
 """The words of a command line: options, numbers, calls."""
 
 import re
+import sys
 from collections.abc import Mapping
 from dataclasses import dataclass
 
 Words = list[bytes]
+
+# A number may be of any length.
+sys.set_int_max_str_digits(0)
 
 
 class NotUnderstood(Exception):
