@@ -59,7 +59,8 @@ class Turn:
         return 0
 
     def choose(self) -> None:
-        """"Where no slot is free, all left sides are joined. If the join is empty, the verdict is "none". Otherwise the
+        """"Where no slot is free, all left sides are joined. If the join is empty, the verdict is "none": the scanner is
+        left without a slot, and its reasons and all that this delivery sent before remain. Otherwise the
         highest-numbered scanner in the join gets a refusal: its slot is the one refused, and the rest is the left side.
         The sender sets that scanner to unknown, drops every reason that names it, and chooses again, until a slot is
         taken."
@@ -69,6 +70,7 @@ class Turn:
             joined = self.joined()
             if not joined:
                 self.verdict = True
+                self.scanner.slot = 0
                 return
             self.refuse(joined)
             slot = self.free_slot()
