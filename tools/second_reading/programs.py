@@ -53,12 +53,17 @@ def dock(answer: Answer, _: Words) -> None:
     `sheet refused` and the number. Otherwise it prints `verdict` and the word, `rounds` and the count, and for `plan` a
     line for each scanner: `scanner`, its number, `slot`, its slot." "`dock` takes no notice of its arguments."
     """
+    settle(answer, answer.input.read(), ROUNDS)
+
+
+def settle(answer: Answer, data: bytes, rounds: int) -> None:
+    """What `dock` prints of a sheet, with so many rounds allowed."""
     try:
-        rail = calls.start(answer.input.read(), 1)
+        rail = calls.start(data, 1)
     except Refused as refused:
         answer.say(f"sheet refused {refused.number}", REFUSED)
         return
-    word, rounds = calls.run(rail, ROUNDS)
+    word, rounds = calls.run(rail, rounds)
     answer.say(f"verdict {word}")
     answer.say(f"rounds {rounds}")
     if word == "plan":
@@ -72,22 +77,14 @@ def board(answer: Answer, words: Words) -> None:
     "`call not understood: W`: `board` goes on with the next call."
     """
     try:
-        found = options(words, (b"--rule", b"--image"))
-        rail = board_begins(answer, found)
+        found = options(words, BOARD_OPTIONS)
+        dispatcher = board_begins(answer, found)
     except NotUnderstood as word:
         answer.say(word.said, NOT_UNDERSTOOD)
         return
-    if rail is None:
-        return
-    draw(answer, ("image" if found.image else "start") + (", rule 2" if rail.rule == 2 else ""), rail)
-    dispatcher = calls.Dispatcher(rail)
-    for word in found.words[1:]:
-        try:
-            made = call(word)
-        except NotUnderstood as unknown:
-            answer.say(unknown.said, NOT_UNDERSTOOD)
-            continue
-        board_call(answer, dispatcher, made)
+    if dispatcher is not None:
+        for word in found.words[1:]:
+            board_word(answer, dispatcher, word)
 
 
 def draw(answer: Answer, first: str, rail: Rail) -> None:
@@ -97,7 +94,18 @@ def draw(answer: Answer, first: str, rail: Rail) -> None:
         answer.say(line)
 
 
-def board_begins(answer: Answer, found: Options) -> Rail | None:
+def board_begins(answer: Answer, found: Options) -> calls.Dispatcher | None:
+    """"Under rule 2 the first line is `start, rule 2`"; with an image "the first line is `image` or `image, rule 2`". "The
+    dispatcher begins with the board, at count zero."
+    """
+    rail = board_opens(answer, found)
+    if rail is None:
+        return None
+    draw(answer, ("image" if found.image else "start") + (", rule 2" if rail.rule == 2 else ""), rail)
+    return calls.Dispatcher(rail)
+
+
+def board_opens(answer: Answer, found: Options) -> Rail | None:
     """"A rule that is refused prints `rule refused 11` and nothing more, before the file is opened"; "an image that is not
     taken prints `image refused 13` and nothing more."
     """
@@ -110,6 +118,14 @@ def board_begins(answer: Answer, found: Options) -> Rail | None:
     except Refused as refused:
         answer.say(f"{'image' if found.image else 'sheet'} refused {refused.number}", REFUSED)
         return None
+
+
+def board_word(answer: Answer, dispatcher: calls.Dispatcher, word: bytes) -> None:
+    """A word behind the file: a call, or one that is not understood."""
+    try:
+        board_call(answer, dispatcher, call(word))
+    except NotUnderstood as unknown:
+        answer.say(unknown.said, NOT_UNDERSTOOD)
 
 
 def board_call(answer: Answer, dispatcher: calls.Dispatcher, made: Call) -> None:
@@ -137,6 +153,7 @@ def board_call(answer: Answer, dispatcher: calls.Dispatcher, made: Call) -> None
                 answer.say(f"{said}: refused {refused.number}")
 
 
+BOARD_OPTIONS = (b"--rule", b"--image")
 BOARD_FORM = b"board [--rule N] SHEET [CALL ..], or board --image IMAGE [CALL ..]"
 WRITE_FORM = b"image write [--rule N] [--small] SHEET [CALL ..]"
 MOVE_FORM = b"image move IMAGE"
