@@ -10,6 +10,7 @@ import making_rails
 import making_sheets
 import making_texts
 from second_reading import calls, image, little, sheet, turning
+from second_reading.rail import Rail
 from second_reading.refusals import Refused
 
 EXAMPLES = Path(__file__).parents[2] / "examples"
@@ -64,14 +65,18 @@ def board_sheet(random: Random) -> bytes:
     if dice < 0.2:
         return sheet.write(making_sheets.full_lines(random))
     if dice < 0.35:
-        return making_sheets.stuck_or_spinning(random, [example(f"{name}.sheet") for name in ("stuck", "spins", "jams")])
+        names = ("stuck", "spins", "jams")
+        return making_sheets.stuck_or_spinning(random, [example(f"{name}.sheet") for name in names])
     return making_sheets.either(random, random.choice((3, 4, 5, 6, 12)))
 
 
-def some_calls(random: Random, begin: Callable[[], object]) -> list[bytes]:
-    """Calls for a rail that `begin` makes: wild ones, or ones that fill some lines."""
-    if random.random() < 0.4:
+def some_calls(random: Random, begin: Callable[[], Rail]) -> list[bytes]:
+    """Calls for a rail that `begin` makes: wild ones, a run and picks behind it, or ones that fill some lines."""
+    dice = random.random()
+    if dice < 0.35:
         return making_rails.wild_calls(random)
+    if dice < 0.5:
+        return making_rails.run_and_picks(random)
     try:
         return making_rails.starving_calls(random, begin(), random.choice((10, 30, 150)))
     except Refused:
@@ -96,7 +101,7 @@ def some_image(random: Random) -> bytes:
     return damaged_image(random, data) if random.random() < 0.2 else data
 
 
-def led_to(random: Random):
+def led_to(random: Random) -> Rail:
     """A rail that a start and some rounds lead to."""
     rail = calls.start(making_sheets.chained(random, making_sheets.good(random, 6)), random.choice((1, 2)))
     calls.run(rail, random.choice((0, 1, 2, 3, 9)))
@@ -111,7 +116,8 @@ def damaged_image(random: Random, data: bytes) -> bytes:
     if dice < 0.3:
         return data + bytes(random.choice((1, 10, 16)))
     changed = bytearray(data)
-    at = random.choice((random.randrange(len(data)), random.randrange(16), random.randrange(len(data) * 4 // 5, len(data))))
+    begin, end = random.choice(((0, len(data)), (0, 16), (len(data) * 4 // 5, len(data))))
+    at = random.randrange(begin, end)
     changed[at] ^= 1 << random.randrange(8)
     return bytes(changed)
 
@@ -144,7 +150,7 @@ def little_case(random: Random) -> Case:
     return Case("little", [b"0" * random.choice((0, 0, 1, 40)) + str(ordinal).encode()])
 
 
-def stream(random: Random, sheets: list[bytes]) -> bytes:
+def stream(sheets: list[bytes]) -> bytes:
     """Sheets, each behind its length."""
     return b"".join(len(each).to_bytes(2, "little") + each for each in sheets)
 
@@ -153,17 +159,19 @@ def season(random: Random) -> Case:
     """A stream, cut anywhere, or whole."""
     dice = random.random()
     if dice < 0.05:
-        sheets = [random.choice((b"", bytes(5), sheet.write(little.sheet_of(7)))) for _ in range(random.choice((999, 1000, 2001)))]
+        some = (b"", bytes(5), sheet.write(little.sheet_of(7)))
+        sheets = random.choices(some, k=random.choice((999, 1000, 2001)))
     else:
         sheets = [quick_sheet(random)[:65_535] for _ in range(random.choice((0, 1, 2, 3, 5)))]
-    data = stream(random, sheets)
+    data = stream(sheets)
     if random.random() < 0.6:
         data = data[: random.randint(0, len(data))]
     return Case("season", random.choice(([], [], [b"--progress"])), data)
 
 
 def turn(random: Random) -> Case:
-    """A sheet to be turned, mostly one of the right edition; gap sheets turned there, so that they can be turned back."""
+    """A sheet to be turned, mostly one of the right edition; gap sheets turned there, so that they can be turned back.
+    """
     command, edition = random.choice(((b"bans", 2), (b"gaps", 1)))
     if random.random() < 0.1:
         edition = 3 - edition
@@ -228,13 +236,14 @@ def fixed_cases() -> Iterator[Case]:
             yield Case("board", words, files={b"a.sheet": path.read_bytes()})
     for path in sorted(EXAMPLES.glob("*.text")):
         yield Case("scribe", [b"sheet"], path.read_bytes())
-    data = stream(Random(0), [example(f"{name}.sheet") for name in ("no_plan", "chain_loops", "gives_way")])
+    data = stream([example(f"{name}.sheet") for name in ("no_plan", "chain_loops", "gives_way")])
     for size in range(len(data) + 1):
         yield Case("season", [], data[:size])
     for ordinal in (0, 1, 2, 27, 28, 4995, 4996):
         yield Case("little", [str(ordinal).encode()])
     yield from fixed_faults()
-    yield Case("board", [b"a.sheet", *[b"2-3", b"3-2"] * 7, b"1-2", b"2-4", b"1-2", b"r1", b"r100"], files={b"a.sheet": the_full_line()})
+    made = [*[b"2-3", b"3-2"] * 7, b"1-2", b"2-4", b"1-2", b"r1", b"r100"]
+    yield Case("board", [b"a.sheet", *made], files={b"a.sheet": the_full_line()})
 
 
 def fixed_faults() -> Iterator[Case]:
@@ -253,11 +262,26 @@ def fixed_faults() -> Iterator[Case]:
         yield Case("board", [b"--rule", rule, b"absent"])
         yield Case("image", [b"write", b"--rule", rule, b"absent"])
     full = b"slots 2 2\n" + b"gap 1 2 0 0\n" * 4224
-    for text in (full, full + b"gap 2 1 0 0", full + b"gap 1 2 0 0", b"slots 1\n" + bytes(2**20), b"\n" * (2**20 + 1)):
+    long = (full, full + b"gap 2 1 0 0", full + b"gap 1 2 0 0", b"slots 1\n" + bytes(2**20), b"\n" * (2**20 + 1))
+    for text in (*long, *faulty_texts()):
         yield Case("scribe", [b"sheet"], text)
     yield Case("season", [b"--progress"], bytes(2) * 2_001)
+    yield Case("season", [], bytes(2) * 1_000_000 + bytes(3))
     rounds = str(2**64).encode(), b"9" * 5_000
     yield Case("board", [b"a", b"r21", b"w1-6", b"w1-6", b"r1", *(b"r" + each for each in rounds)], files={b"a": stuck})
+
+
+WRONG_PAIRS = ((0, 3), (3, 0), (3, 3), (2, 2), (2, 1))
+
+
+def faulty_texts() -> Iterator[bytes]:
+    """A text for each fault of a line, with a later fault on the same line where there is one."""
+    yield from (b"", b"#", b"slot 9", b"ban 7:7 7:7", b"slots 1\nslots 9")
+    yield from (b"slots", b"slots 9 0" + b" 1" * 11, b"slots 1 9")
+    for line in (b"gap 3 3 8 7", b"ban 1:9 3:1", b"ban 2:9 2:1", b"ban 1:9 2:9", b"ban 1:1 2:0"):
+        yield b"slots 2 2\nban 2:2 1:1\n" + line
+    for line in (b"ban 3:1 1:1", b"gap 1 2 8 7", b"gap 1 2 0 -1", *(b"gap %d %d 8 7" % two for two in WRONG_PAIRS)):
+        yield b"slots 2 2\ngap 1 2 -0 0\n" + line
 
 
 def the_full_line() -> bytes:

@@ -2,14 +2,19 @@
 
 from random import Random
 
+FILES_AND_CALLS = "|r1|good.sheet|good.image|bad.sheet|absent|1-2|w1-2|r1x"
+# The words that chance draws from, one behind the other; an empty one is a word too.
 WORDS = {
-    "dock": (b"", b"--rule", b"2", b"p9.sheet", b"--help"),
-    "board": (b"--rule", b"--rule", b"--image", b"--small", b"--", b"-x", b"1", b"2", b"3", b"0", b"002", b"255", b"256", b"-1", b"", b"r1", b"good.sheet", b"good.image", b"bad.sheet", b"absent", b"1-2", b"w1-2", b"r1x"),
-    "image": (b"write", b"write", b"write", b"move", b"move", b"--rule", b"--rule", b"--small", b"--image", b"--", b"-x", b"1", b"2", b"3", b"256", b"", b"r1", b"good.sheet", b"good.image", b"bad.sheet", b"absent", b"1-2", b"w1-2", b"r1x"),
-    "little": (b"0", b"7", b"4995", b"4996", b"00012", b"-1", b"+1", b"1x", b"", b"x", b"--help", b"99999999999999999999999999999999999"),
-    "season": (b"--progress", b"--progress", b"--Progress", b"x", b"", b"--", b"--help"),
-    "turn": (b"bans", b"gaps", b"bans", b"gaps", b"ban", b"", b"--help", b"x"),
-    "scribe": (b"sheet", b"text", b"sheet", b"text", b"Sheet", b"", b"--help", b"x"),
+    program: [word.encode() for word in words.split("|")]
+    for program, words in {
+        "dock": "|--rule|2|p9.sheet|--help",
+        "board": "--rule|--rule|--image|--small|--|-x|1|2|3|0|002|255|256|-1" + FILES_AND_CALLS,
+        "image": "--rule|--rule|--small|--image|--|-x|1|2|3|256|write|move|" + FILES_AND_CALLS,
+        "little": "0|7|4995|4996|00012|-1|+1|1x||x|--help|" + "9" * 35,
+        "season": "--progress|--progress|--Progress|x||--|--help",
+        "turn": "bans|gaps|bans|gaps|ban||--help|x",
+        "scribe": "sheet|text|sheet|text|Sheet||--help|x",
+    }.items()
 }
 
 

@@ -5,9 +5,9 @@ from random import Random
 from second_reading import calls
 from second_reading.rail import TOP, Message, News, Rail, Refusal, Request, Scanner, lines_of
 from second_reading.refusals import Refused
-from second_reading.sheet import MOST_SLOTS
+from second_reading.sheet import MOST_SLOTS, Ban
 
-WRONG_CALLS = (b"x", b"", b"r", b"r-1", b"1-", b"-1", b"1-2-3", b"w1", b"256-1", b"w1-256", b"R1", b"1 -2", b"--rule", b"1-2x")
+WRONG_CALLS = tuple(b"x|r|r-1|1-|-1|1-2-3|w1|256-1|w1-256|R1|1 -2|--rule|1-2x|".split(b"|"))
 
 
 def wild_call(random: Random) -> bytes:
@@ -27,8 +27,18 @@ def wild_calls(random: Random, most: int = 12) -> list[bytes]:
     return [wild_call(random) for _ in range(random.randint(0, most))]
 
 
+def run_and_picks(random: Random) -> list[bytes]:
+    """A run of some rounds, picks and deliveries on the rail that it leaves, and a run again."""
+    made = [f"r{random.randint(0, 60)}".encode()]
+    for _ in range(random.randint(1, 10)):
+        one, other = random.randint(1, 6), random.randint(1, 6)
+        made.append(f"{random.choice(('', 'w', 'w'))}{one}-{other}".encode())
+    return [*made, f"r{random.randint(0, 60)}".encode()]
+
+
 def starving_calls(random: Random, rail: Rail, most: int = 150) -> list[bytes]:
-    """Deliveries and picks that leave some lines alone until there is no room, then a few on those lines, then a run."""
+    """Deliveries and picks that leave some lines alone until there is no room, then a few on those lines, then a run.
+    """
     lines = lines_of(rail.n)
     starved = starved_lines(random, rail.n)
     made: list[bytes] = []
@@ -74,7 +84,7 @@ def forged(random: Random) -> Rail:
     return rail
 
 
-def forged_bans(random: Random, counts: tuple[int, ...], scanners: dict[int, Scanner]) -> frozenset:
+def forged_bans(random: Random, counts: tuple[int, ...], scanners: dict[int, Scanner]) -> frozenset[Ban]:
     """Some bans, the links that they ask for, and links beyond these."""
     bans = set()
     banned = random.choice((0.1, 0.4, 0.8))

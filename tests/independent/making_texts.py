@@ -111,7 +111,8 @@ def gap(random: Random, counts: list[int]) -> bytes:
         least = random.choice((-8, 8))
     if random.random() < 0.05:
         greatest = random.choice((-8, 8))
-    return b" ".join([b"gap", numeral(random, one), numeral(random, other), signed(random, least), signed(random, greatest)])
+    scanners = numeral(random, one), numeral(random, other)
+    return b" ".join([b"gap", *scanners, signed(random, least), signed(random, greatest)])
 
 
 def signed(random: Random, number: int) -> bytes:
@@ -129,7 +130,7 @@ def odd_line(random: Random, counts: list[int]) -> bytes:
         return slots(random, counts)
     if dice < 0.8:
         return random.choice((ban, gap))(random, counts)
-    return b" ".join(random.choice((b"slots", b"ban", b"gap", b"1", b"2:1", b"-1", b"1:1")) for _ in range(random.randint(1, 5)))
+    return b" ".join(random.choices((b"slots", b"ban", b"gap", b"1", b"2:1", b"-1", b"1:1"), k=random.randint(1, 5)))
 
 
 def dressed(random: Random, line: bytes) -> bytes:

@@ -41,8 +41,10 @@ def wanted() -> Iterator[tuple[str, str]]:
         yield "dock", f"verdict {word}"
         yield "board", f"run N: {word}, N rounds"
     for number in (1, 2, 3, 4):
-        for program, said in (("dock", "sheet refused"), ("board", "sheet refused"), ("image", "refused"), ("turn", "refused"), ("scribe", "refused")):
-            yield program, f"{said} {number}"
+        for program in ("dock", "board"):
+            yield program, f"sheet refused {number}"
+        for program in ("image", "turn", "scribe"):
+            yield program, f"refused {number}"
     for number in (6, 7, 8, 10):
         yield "board", f"deliver N N: refused {number}"
     for number in (7, 8, 10):

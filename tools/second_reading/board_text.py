@@ -6,8 +6,8 @@ from .rail import LeftSide, Message, News, Rail, Refusal, Scanner
 
 
 def lines(rail: Rail) -> Iterator[str]:
-    """`verdict none` where that stands, a block for each scanner, then a line for each line of the rail on which something
-    waits. "All lists are upward."
+    """`verdict none` where that stands, a block for each scanner, then a line for each line of the rail on which
+    something waits. "All lists are upward."
     """
     if rail.verdict:
         yield "verdict none"

@@ -72,8 +72,9 @@ def slots_by_scanner(slots: dict[int, int]) -> bytes:
 
 
 def chains(rail: Rail) -> tuple[list[int], list[tuple[Message, int]]]:
-    """"A head is the index of the first message of its line. Zero ends a line's chain. The writer lays messages out line
-    by line, in the order of the heads." The messages are "numbered from 1"; each stands with the index of the next.
+    """"A head is the index of the first message of its line. Zero ends a line's chain. The writer lays messages out
+    line by line, in the order of the heads." The messages are "numbered from 1"; each stands with the index of the
+    next.
     """
     heads, messages = [], []
     for line in LINES:

@@ -20,9 +20,9 @@ def sheet_of(ordinal: int) -> Sheet:
 
 
 def pairs_of(counts: tuple[int, ...]) -> list[Ban]:
-    """"A pair of slots that could be banned has a bit in this number, from the lowest bit up: by the two scanners, 1 with
-    2, then 1 with 3, then 2 with 3; for the same scanners by the lower's slot, then the higher's. Records and chain run
-    in that bit order."
+    """"A pair of slots that could be banned has a bit in this number, from the lowest bit up: by the two scanners, 1
+    with 2, then 1 with 3, then 2 with 3; for the same scanners by the lower's slot, then the higher's. Records and
+    chain run in that bit order."
     """
     return [
         (lower, slot, higher, other)

@@ -3,6 +3,7 @@
 import copy
 import io
 from collections import defaultdict
+from collections.abc import Callable
 
 from . import calls, programs, season, sheet, texts
 from .case_text import Builder, Line, lines
@@ -172,7 +173,8 @@ class Checks:
         return True
 
     def check_same(self, _: Line) -> bool:
-        """The rail is the same as the one that was kept, made by the start of the sheet where none was made of it yet."""
+        """The rail is the same as the one that was kept, made by the start of the sheet where none was made of it yet.
+        """
         return alike(self.rail, self.kept)
 
     def check_differs(self, _: Line) -> bool:
@@ -207,7 +209,7 @@ class Checks:
         return len(waiting) == many and all(message == News(slot[0]) for message in waiting if slot)
 
 
-def refusal(call, *arguments) -> int:
+def refusal(call: Callable[..., object], *arguments: object) -> int:
     """The number with which a call comes back, 0 where it is not refused."""
     try:
         call(*arguments)
@@ -217,8 +219,8 @@ def refusal(call, *arguments) -> int:
 
 
 def alike(one: Rail, other: Rail) -> bool:
-    """"Two rails are the same when n, rule, slot counts, verdict, bans, scanner records and the messages waiting on each
-    line, in order, agree."
+    """"Two rails are the same when n, rule, slot counts, verdict, bans, scanner records and the messages waiting on
+    each line, in order, agree."
     """
     waiting = [{line: messages for line, messages in rail.lines.items() if messages} for rail in (one, other)]
     parts = [(rail.counts, rail.rule, rail.verdict, rail.bans, rail.scanners) for rail in (one, other)]

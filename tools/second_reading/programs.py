@@ -95,8 +95,8 @@ def draw(answer: Answer, first: str, rail: Rail) -> None:
 
 
 def board_begins(answer: Answer, found: Options) -> calls.Dispatcher | None:
-    """"Under rule 2 the first line is `start, rule 2`"; with an image "the first line is `image` or `image, rule 2`". "The
-    dispatcher begins with the board, at count zero."
+    """"Under rule 2 the first line is `start, rule 2`"; with an image "the first line is `image` or `image, rule 2`".
+    "The dispatcher begins with the board, at count zero."
     """
     rail = board_opens(answer, found)
     if rail is None:
@@ -106,8 +106,8 @@ def board_begins(answer: Answer, found: Options) -> calls.Dispatcher | None:
 
 
 def board_opens(answer: Answer, found: Options) -> Rail | None:
-    """"A rule that is refused prints `rule refused 11` and nothing more, before the file is opened"; "an image that is not
-    taken prints `image refused 13` and nothing more."
+    """"A rule that is refused prints `rule refused 11` and nothing more, before the file is opened"; "an image that is
+    not taken prints `image refused 13` and nothing more."
     """
     if found.rule not in (1, 2):
         answer.say(f"rule refused {RULE}", REFUSED)
@@ -129,8 +129,8 @@ def board_word(answer: Answer, dispatcher: calls.Dispatcher, word: bytes) -> Non
 
 
 def board_call(answer: Answer, dispatcher: calls.Dispatcher, made: Call) -> None:
-    """"`A-B` a delivery (`deliver A B` and the rail, or `deliver A B: refused K`), `rN` a run"; "a pick prints `pick A B:
-    delivered C D` and the rail, C to D the line it served; or `pick A B: refused K` and no rail."
+    """"`A-B` a delivery (`deliver A B` and the rail, or `deliver A B: refused K`), `rN` a run"; "a pick prints `pick A
+    B: delivered C D` and the rail, C to D the line it served; or `pick A B: refused K` and no rail."
     """
     rail = dispatcher.rail
     match made:
@@ -167,8 +167,8 @@ def file_of(answer: Answer, words: Words, form: bytes) -> bytes:
 
 
 def writes_bytes(program: Callable[[Answer, Words], bytes]) -> Callable[[Answer, Words], None]:
-    """"A program that writes bytes for another program writes nothing at all on standard output where it refuses; it says
-    `refused K` in one line on standard error." "A program that writes bytes prints one such line at most."
+    """"A program that writes bytes for another program writes nothing at all on standard output where it refuses; it
+    says `refused K` in one line on standard error." "A program that writes bytes prints one such line at most."
     """
 
     def writing(answer: Answer, words: Words) -> None:
@@ -192,9 +192,9 @@ def image_program(answer: Answer, words: Words) -> bytes:
 
 
 def image_write(answer: Answer, words: Words) -> bytes:
-    """"Starts the sheet, makes the calls as `board` does, picks too, with a dispatcher that begins at zero (refused ones
-    change nothing), and writes the image of the rail they leave, in the first form, with `--small` in the second."
-    "`call not understood: W`: `image write` stops."
+    """"Starts the sheet, makes the calls as `board` does, picks too, with a dispatcher that begins at zero (refused
+    ones change nothing), and writes the image of the rail they leave, in the first form, with `--small` in the
+    second." "`call not understood: W`: `image write` stops."
     """
     found = options(words, (b"--rule", b"--small"))
     if found.rule not in (1, 2):
@@ -245,8 +245,8 @@ def no_word_behind(words: Words, many: int) -> None:
 
 @writes_bytes
 def little_program(_: Answer, words: Words) -> bytes:
-    """"The first of these that is so: `no number given: ` and the form of the command; `number not understood: ` and the
-    word; `argument not understood: ` and the word behind the number; `refused 14`."
+    """"The first of these that is so: `no number given: ` and the form of the command; `number not understood: ` and
+    the word; `argument not understood: ` and the word behind the number; `refused 14`."
     """
     if not words:
         raise NotUnderstood(b"no number given: little N")
@@ -258,15 +258,15 @@ def little_program(_: Answer, words: Words) -> bytes:
 
 
 def season_program(answer: Answer, words: Words) -> None:
-    """"With `--progress` it says how many sheets it has read, in a line on standard error after every 1,000. Any other
-    first word gets `option not understood: ` and the word, a word behind it `argument not understood: ` and the word;
-    nothing is read then."
+    """"With `--progress` it says how many sheets it has read, in a line on standard error after every 1,000." Another
+    option, or that one a second time, gets `option not understood: ` and the word, any other word `argument not
+    understood: ` and the word; "nothing is read then".
     """
-    if words and words[0] != b"--progress":
-        answer.say(b"option not understood: " + words[0], NOT_UNDERSTOOD)
-        return
-    if len(words) > 1:
-        answer.say(b"argument not understood: " + words[1], NOT_UNDERSTOOD)
+    try:
+        found = options(words, (b"--progress",))
+        no_word_behind(found.words, 0)
+    except NotUnderstood as word:
+        answer.say(word.said, NOT_UNDERSTOOD)
         return
 
     def progress(sheets: int) -> None:
@@ -279,8 +279,8 @@ def season_program(answer: Answer, words: Words) -> None:
 
 @writes_bytes
 def turn_program(answer: Answer, words: Words) -> bytes:
-    """"`turn bans` reads a sheet of edition 2 on standard input and writes its ban sheet on standard output; `turn gaps`
-    reads one of edition 1 and writes its gap sheet."
+    """"`turn bans` reads a sheet of edition 2 on standard input and writes its ban sheet on standard output; `turn
+    gaps` reads one of edition 1 and writes its gap sheet."
     """
     command = command_of(words, (b"bans", b"gaps"), b"turn bans, or turn gaps")
     no_word_behind(words, 1)
@@ -290,8 +290,8 @@ def turn_program(answer: Answer, words: Words) -> bytes:
 
 @writes_bytes
 def scribe_program(answer: Answer, words: Words) -> bytes:
-    """"`scribe sheet` reads a text on standard input and writes its sheet on standard output; `scribe text` reads a sheet
-    and writes its text." "Nothing is read before the command line is understood."
+    """"`scribe sheet` reads a text on standard input and writes its sheet on standard output; `scribe text` reads a
+    sheet and writes its text." "Nothing is read before the command line is understood."
     """
     command = command_of(words, (b"sheet", b"text"), b"scribe sheet, or scribe text")
     no_word_behind(words, 1)

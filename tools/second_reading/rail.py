@@ -134,10 +134,10 @@ def ban_is_good(rail: Rail, ban: Ban) -> bool:
 
 
 def scanner_is_good(rail: Rail, number: int) -> bool:
-    """"Every scanner holds an owned slot; only under a verdict may it have none. The last slot that a scanner took is an
-    owned one, and the one held if it holds any. It listens only upward and informs only downward; whoever is informed
-    listens. A view names only scanners listened to, with slots they own. A stored reason names only scanners whose slot
-    in the view is the same."
+    """"Every scanner holds an owned slot; only under a verdict may it have none. The last slot that a scanner took is
+    an owned one, and the one held if it holds any. It listens only upward and informs only downward; whoever is
+    informed listens. A view names only scanners listened to, with slots they own. A stored reason names only scanners
+    whose slot in the view is the same."
     """
     scanner = rail.scanners[number]
     if scanner.slot:

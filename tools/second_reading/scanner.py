@@ -1,5 +1,6 @@
 """What a scanner does: it is handed a message and handed back changed, with what it sends."""
 
+from collections.abc import Callable
 from dataclasses import dataclass, field
 
 from .rail import SORT_OF, LeftSide, Message, News, Refusal, Request, Scanner, counted
@@ -43,8 +44,8 @@ class Turn:
         return (named or banning)[0]
 
     def free_slot(self) -> int:
-        """"It goes through its own slots upward. A slot with a stored reason is skipped. A slot that is banned against a
-        known slot of the view gets the reason "that scanner has that slot"." "The lowest slot that is still free is
+        """"It goes through its own slots upward. A slot with a stored reason is skipped. A slot that is banned against
+        a known slot of the view gets the reason "that scanner has that slot"." "The lowest slot that is still free is
         taken; those above it are not tried and get no reason." Gives 0 where no slot is free.
         """
         scanner = self.scanner
@@ -59,11 +60,11 @@ class Turn:
         return 0
 
     def choose(self) -> None:
-        """"Where no slot is free, all left sides are joined. If the join is empty, the verdict is "none": the scanner is
-        left without a slot, and its reasons and all that this delivery sent before remain. Otherwise the
-        highest-numbered scanner in the join gets a refusal: its slot is the one refused, and the rest is the left side.
-        The sender sets that scanner to unknown, drops every reason that names it, and chooses again, until a slot is
-        taken."
+        """"Where no slot is free, all left sides are joined. If the join is empty, the verdict is "none": the scanner
+        is left without a slot, and its reasons and all that this delivery sent before remain. Otherwise the
+        highest-numbered scanner in the join gets a refusal: its slot is the one refused, and the rest is the left
+        side. The sender sets that scanner to unknown, drops every reason that names it, and chooses again, until a
+        slot is taken."
         """
         slot = self.free_slot()
         while not slot:
@@ -88,7 +89,7 @@ class Turn:
         self.scanner.view.pop(highest, None)
         self.drop(lambda left: highest in left)
 
-    def drop(self, condemned) -> None:
+    def drop(self, condemned: Callable[[LeftSide], bool]) -> None:
         """Drops the reasons whose left side is condemned."""
         self.scanner.reasons = {own: left for own, left in self.scanner.reasons.items() if not condemned(left)}
 
@@ -158,8 +159,8 @@ class Turn:
         return all(scanner.view.get(other) == slot for other, slot in left.items() if other in scanner.listens)
 
     def link(self, left: LeftSide) -> None:
-        """"Upward, each scanner of the left side that is not listened to gets a link request, is listened to and has its
-        slot put into the view."
+        """"Upward, each scanner of the left side that is not listened to gets a link request, is listened to and has
+        its slot put into the view."
         """
         for other, slot in sorted(left.items()):
             if other not in self.scanner.listens:

@@ -24,8 +24,8 @@ class Figures:
     rounds: list[int] = field(default_factory=list)
 
     def add(self, sheet: bytes) -> None:
-        """"Every whole sheet is started by rule 1 and run with 100,000 rounds. A sheet is refused with a number, 1 to 4,
-        or it ends with a word and its full rounds."
+        """"Every whole sheet is started by rule 1 and run with 100,000 rounds. A sheet is refused with a number, 1 to
+        4, or it ends with a word and its full rounds."
         """
         self.sheets += 1
         try:
@@ -53,8 +53,8 @@ class Figures:
 
 
 def figures(read: Callable[[int], bytes], progress: Callable[[int], None] = lambda sheets: None) -> Figures:
-    """"A stream of sheets, each behind its length in two bytes, low byte first." "At most 1,000,000 sheets are read, and
-    nothing after them. A last sheet or length that breaks off makes `cut` 1 and is in no other figure."
+    """"A stream of sheets, each behind its length in two bytes, low byte first." "At most 1,000,000 sheets are read,
+    and nothing after them. A last sheet or length that breaks off makes `cut` 1 and is in no other figure."
 
     `read` gives at most so many bytes, fewer only at the end. `progress` is told "how many sheets it has read, after
     every 1,000".

@@ -150,8 +150,8 @@ def place(word: bytes) -> tuple[int, int]:
 
 
 def text_of(sheet: Sheet) -> bytes:
-    """"`slots` and the slot counts of the n scanners, then a line for each record on the chain, in its order: a `ban` in
-    edition 1, a `gap` in edition 2. There are single blanks between the words, and every line ends in a newline."
+    """"`slots` and the slot counts of the n scanners, then a line for each record on the chain, in its order: a `ban`
+    in edition 1, a `gap` in edition 2. There are single blanks between the words, and every line ends in a newline."
     """
     lines = ["slots " + " ".join(map(str, sheet.counts)), *statements(sheet)]
     return "".join(line + "\n" for line in lines).encode()
