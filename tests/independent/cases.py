@@ -247,8 +247,16 @@ def fixed_cases() -> Iterator[Case]:
 
 
 def fixed_faults() -> Iterator[Case]:
-    """What chance seldom brings: each sheet refusal for each program, the longest texts, the most records, the jam."""
+    """What chance may leave out: each refusal of each program, the longest texts, the most records, the jam."""
     p9, stuck = example("p9.sheet"), example("stuck.sheet")
+    yield Case("board", [b"a", b"0-1", b"4-1", b"2-2", b"1-2", b"r9", b"1-3"], files={b"a": p9})
+    yield Case("board", [b"a", b"r9", b"1-2", b"w1-2"], files={b"a": example("no_plan.sheet")})
+    for data in (example("p9.image"), p9, b""):
+        yield Case("board", [b"--image", b"a"], files={b"a": data})
+        yield Case("image", [b"move", b"a"], files={b"a": data})
+    for name in ("p9", "same_slot", "neighbours"):
+        yield Case("turn", [b"bans"], example(f"{name}.sheet"))
+        yield Case("turn", [b"gaps"], example(f"{name}.sheet"))
     refused = (p9[:23], bytes([13]) + p9[1:], p9[:24] + bytes([3]) + p9[25:], p9[:28] + b"\1" + p9[29:])
     for data in refused:
         gaps = data[:1] + b"\2" + data[2:]
