@@ -5,7 +5,7 @@ import io
 from collections import defaultdict
 from collections.abc import Callable
 
-from . import calls, programs, season, sheet, texts
+from . import calls, crowded_rails, programs, season, sheet, texts
 from .case_text import Builder, Line, lines
 from .command_line import NotUnderstood, options
 from .little import sheet_of
@@ -245,4 +245,15 @@ def worked_cases_of(text: bytes) -> bytes:
     return b"".join(line + b"\n" for line in out)
 
 
-PLAYED = {"texts": texts_of, "seasons": seasons_of, "scribes": scribes_of, "worked_cases": worked_cases_of}
+def crowded_rails_of(_: bytes) -> bytes:
+    """crates/crowded_rails: how many of each kind it tries. It reads nothing."""
+    return crowded_rails.printed()
+
+
+PLAYED = {
+    "texts": texts_of,
+    "seasons": seasons_of,
+    "scribes": scribes_of,
+    "worked_cases": worked_cases_of,
+    "crowded_rails": crowded_rails_of,
+}
