@@ -5,6 +5,7 @@ from dataclasses import dataclass, field
 from pathlib import Path
 from random import Random
 
+import bending
 import making_lines
 import making_rails
 import making_sheets
@@ -95,10 +96,10 @@ def some_image(random: Random) -> bytes:
     """An image of either form: of a rail that a start leads to, of one that chance made, or of no rail in shape."""
     form = random.choice((image.FIRST_FORM, image.SECOND_FORM))
     rail = making_rails.forged(random) if random.random() < 0.6 else led_to(random)
-    if random.random() < 0.15:
-        rail = making_rails.bent(random, rail)
+    if random.random() < 0.4:
+        rail = bending.bent(random, rail)
     data = image.write(rail, form)
-    return damaged_image(random, data) if random.random() < 0.2 else data
+    return damaged_image(random, data) if random.random() < 0.15 else data
 
 
 def led_to(random: Random) -> Rail:
@@ -242,6 +243,7 @@ def fixed_cases() -> Iterator[Case]:
     for ordinal in (0, 1, 2, 27, 28, 4995, 4996):
         yield Case("little", [str(ordinal).encode()])
     yield from fixed_faults()
+    yield from fixed_bends()
     made = [*[b"2-3", b"3-2"] * 7, b"1-2", b"2-4", b"1-2", b"r1", b"r100"]
     yield Case("board", [b"a.sheet", *made], files={b"a.sheet": the_full_line()})
 
@@ -277,6 +279,16 @@ def fixed_faults() -> Iterator[Case]:
     yield Case("season", [], bytes(2) * 1_000_000 + bytes(3))
     rounds = str(2**64).encode(), b"9" * 5_000
     yield Case("board", [b"a", b"r21", b"w1-6", b"w1-6", b"r1", *(b"r" + each for each in rounds)], files={b"a": stuck})
+
+
+def fixed_bends() -> Iterator[Case]:
+    """Images of rails of which each bends the shape in one place."""
+    random = Random(0)
+    for bend in bending.BENDS * 12:
+        rail = making_rails.forged(random)
+        bend(random, rail)
+        data = image.write(rail, random.choice((image.FIRST_FORM, image.SECOND_FORM)))
+        yield Case("image", [b"move", b"a"], files={b"a": data})
 
 
 WRONG_PAIRS = ((0, 3), (3, 0), (3, 3), (2, 2), (2, 1))
