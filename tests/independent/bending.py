@@ -68,11 +68,15 @@ def ban_without_link(random: Random, rail: Rail) -> None:
 
 
 def sees_wrongly(random: Random, rail: Rail) -> None:
-    """A view names a scanner with any slot, be it listened to or not."""
-    number = scanner_of(random, rail)
-    other = random.randint(1, rail.n + 1)
-    slots = rail.counts[other - 1] + 1 if other <= rail.n else 1
-    rail.scanners[number].view[other] = random.randint(1, min(slots, MOST_SLOTS))
+    """A view names a scanner that is not listened to, or one that is with a slot that this one has not."""
+    number = max(rail.scanners, key=lambda each: (len(rail.scanners[each].listens), random.random()))
+    scanner = rail.scanners[number]
+    if scanner.listens and random.random() < 0.5:
+        other = random.choice(sorted(scanner.listens))
+        scanner.view[other] = rail.counts[other - 1] + random.choice((0, 1))
+        scanner.reasons = {own: left for own, left in scanner.reasons.items() if other not in left}
+    else:
+        scanner.view[random.randint(1, rail.n + 1)] = 1
 
 
 def reason_wrong(random: Random, rail: Rail) -> None:
@@ -94,6 +98,23 @@ def message_wrong(random: Random, rail: Rail) -> None:
     slot, named = random.randint(1, 3), {random.randint(1, rail.n): random.randint(1, 3)}
     messages: tuple[Message, ...] = (News(slot), Request(), Refusal(slot, {}), Refusal(slot, named))
     rail.put((one, other), random.choice(messages))
+
+
+def refusal_wrong(random: Random, rail: Rail) -> None:
+    """A refusal of a slot that the receiver has not, or that names one not above it, or with a slot not owned."""
+    pairs = [(higher, lower) for higher, scanner in rail.scanners.items() for lower in scanner.listens]
+    if not pairs:
+        return
+    line = random.choice(pairs)
+    receiver = line[1]
+    count = rail.counts[receiver - 1]
+    above = random.randint(1, receiver)
+    wrong = (
+        Refusal(random.choice((0, count + 1)), {}),
+        Refusal(count, {random.randint(receiver, rail.n): 1}),
+        Refusal(count, {above: rail.counts[above - 1] + 1}),
+    )
+    rail.put(line, random.choice(wrong))
 
 
 def requests_wrong(random: Random, rail: Rail) -> None:
@@ -137,7 +158,8 @@ BENDS: tuple[Callable[[Random, Rail], None], ...] = (
     reason_wrong,
     verdict_other,
     message_wrong,
-    message_wrong,
+    refusal_wrong,
+    refusal_wrong,
     requests_wrong,
     nine_messages,
     header_wrong,

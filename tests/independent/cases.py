@@ -244,6 +244,7 @@ def fixed_cases() -> Iterator[Case]:
         yield Case("little", [str(ordinal).encode()])
     yield from fixed_faults()
     yield from fixed_bends()
+    yield from fixed_damages()
     made = [*[b"2-3", b"3-2"] * 7, b"1-2", b"2-4", b"1-2", b"r1", b"r100"]
     yield Case("board", [b"a.sheet", *made], files={b"a.sheet": the_full_line()})
 
@@ -284,11 +285,20 @@ def fixed_faults() -> Iterator[Case]:
 def fixed_bends() -> Iterator[Case]:
     """Images of rails of which each bends the shape in one place."""
     random = Random(0)
-    for bend in bending.BENDS * 12:
+    for bend in bending.BENDS * 15:
         rail = making_rails.forged(random)
         bend(random, rail)
         data = image.write(rail, random.choice((image.FIRST_FORM, image.SECOND_FORM)))
         yield Case("image", [b"move", b"a"], files={b"a": data})
+
+
+def fixed_damages() -> Iterator[Case]:
+    """A sheet of either edition with each byte changed, to the values at the edges of what a byte may be."""
+    for name in ("p9.sheet", "neighbours.sheet"):
+        data = example(name)
+        for at in range(len(data)):
+            for value in (0, 1, 2, 3, 4, 7, 8, 9, 12, 13, 248, 249, 255):
+                yield Case("scribe", [b"text"], data[:at] + bytes([value]) + data[at + 1 :])
 
 
 WRONG_PAIRS = ((0, 3), (3, 0), (3, 3), (2, 2), (2, 1))
@@ -298,6 +308,7 @@ def faulty_texts() -> Iterator[bytes]:
     """A text for each fault of a line, with a later fault on the same line where there is one."""
     yield from (b"", b"#", b"slot 9", b"ban 7:7 7:7", b"slots 1\nslots 9")
     yield from (b"slots", b"slots 9 0" + b" 1" * 11, b"slots 1 9")
+    yield from (b"slots 1" + end for end in (b"\r# a\n", b"#\r", b" \r", b"\r\r\n", b"\r\n\r", b"\t\r\nx", b"\0"))
     for line in (b"gap 3 3 8 7", b"ban 1:9 3:1", b"ban 2:9 2:1", b"ban 1:9 2:9", b"ban 1:1 2:0"):
         yield b"slots 2 2\nban 2:2 1:1\n" + line
     for line in (b"ban 3:1 1:1", b"gap 1 2 8 7", b"gap 1 2 0 -1", *(b"gap %d %d 8 7" % two for two in WRONG_PAIRS)):
