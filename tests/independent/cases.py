@@ -5,6 +5,7 @@ from dataclasses import dataclass, field
 from pathlib import Path
 from random import Random
 
+import bending
 import making_lines
 import making_rails
 import making_sheets
@@ -95,10 +96,10 @@ def some_image(random: Random) -> bytes:
     """An image of either form: of a rail that a start leads to, of one that chance made, or of no rail in shape."""
     form = random.choice((image.FIRST_FORM, image.SECOND_FORM))
     rail = making_rails.forged(random) if random.random() < 0.6 else led_to(random)
-    if random.random() < 0.15:
-        rail = making_rails.bent(random, rail)
+    if random.random() < 0.4:
+        rail = bending.bent(random, rail)
     data = image.write(rail, form)
-    return damaged_image(random, data) if random.random() < 0.2 else data
+    return damaged_image(random, data) if random.random() < 0.15 else data
 
 
 def led_to(random: Random) -> Rail:
@@ -242,6 +243,8 @@ def fixed_cases() -> Iterator[Case]:
     for ordinal in (0, 1, 2, 27, 28, 4995, 4996):
         yield Case("little", [str(ordinal).encode()])
     yield from fixed_faults()
+    yield from fixed_bends()
+    yield from fixed_damages()
     made = [*[b"2-3", b"3-2"] * 7, b"1-2", b"2-4", b"1-2", b"r1", b"r100"]
     yield Case("board", [b"a.sheet", *made], files={b"a.sheet": the_full_line()})
 
@@ -279,6 +282,25 @@ def fixed_faults() -> Iterator[Case]:
     yield Case("board", [b"a", b"r21", b"w1-6", b"w1-6", b"r1", *(b"r" + each for each in rounds)], files={b"a": stuck})
 
 
+def fixed_bends() -> Iterator[Case]:
+    """Images of rails of which each bends the shape in one place."""
+    random = Random(0)
+    for bend in bending.BENDS * 15:
+        rail = making_rails.forged(random)
+        bend(random, rail)
+        data = image.write(rail, random.choice((image.FIRST_FORM, image.SECOND_FORM)))
+        yield Case("image", [b"move", b"a"], files={b"a": data})
+
+
+def fixed_damages() -> Iterator[Case]:
+    """A sheet of either edition with each byte changed, to the values at the edges of what a byte may be."""
+    for name in ("p9.sheet", "neighbours.sheet"):
+        data = example(name)
+        for at in range(len(data)):
+            for value in (0, 1, 2, 3, 4, 7, 8, 9, 12, 13, 248, 249, 255):
+                yield Case("scribe", [b"text"], data[:at] + bytes([value]) + data[at + 1 :])
+
+
 WRONG_PAIRS = ((0, 3), (3, 0), (3, 3), (2, 2), (2, 1))
 
 
@@ -286,6 +308,7 @@ def faulty_texts() -> Iterator[bytes]:
     """A text for each fault of a line, with a later fault on the same line where there is one."""
     yield from (b"", b"#", b"slot 9", b"ban 7:7 7:7", b"slots 1\nslots 9")
     yield from (b"slots", b"slots 9 0" + b" 1" * 11, b"slots 1 9")
+    yield from (b"slots 1" + end for end in (b"\r# a\n", b"#\r", b" \r", b"\r\r\n", b"\r\n\r", b"\t\r\nx", b"\0"))
     for line in (b"gap 3 3 8 7", b"ban 1:9 3:1", b"ban 2:9 2:1", b"ban 1:9 2:9", b"ban 1:1 2:0"):
         yield b"slots 2 2\nban 2:2 1:1\n" + line
     for line in (b"ban 3:1 1:1", b"gap 1 2 8 7", b"gap 1 2 0 -1", *(b"gap %d %d 8 7" % two for two in WRONG_PAIRS)):

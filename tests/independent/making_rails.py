@@ -5,7 +5,7 @@ from random import Random
 from second_reading import calls
 from second_reading.rail import TOP, Message, News, Rail, Refusal, Request, Scanner, lines_of
 from second_reading.refusals import Refused
-from second_reading.sheet import MOST_SLOTS, Ban
+from second_reading.sheet import Ban
 
 WRONG_CALLS = tuple(b"x|r|r-1|1-|-1|1-2-3|w1|256-1|w1-256|R1|1 -2|--rule|1-2x|".split(b"|"))
 
@@ -150,31 +150,3 @@ def forged_upward(random: Random, rail: Rail, line: tuple[int, int]) -> Message:
             seen = view.get(other) if random.random() < 0.8 else None
             left[other] = seen or random.randint(1, rail.counts[other - 1])
     return Refusal(slot, left)
-
-
-def bent(random: Random, rail: Rail) -> Rail:
-    """A rail with one thing of which the shape may not approve."""
-    number = random.randint(1, rail.n)
-    scanner = rail.scanners[number]
-    what = random.randrange(9)
-    if what == 0:
-        scanner.last = random.randint(0, MOST_SLOTS)
-    elif what == 1:
-        scanner.slot = random.choice((0, random.randint(1, MOST_SLOTS)))
-    elif what == 2:
-        scanner.listens ^= {random.randint(1, 12)}
-    elif what == 3:
-        scanner.informs ^= {random.randint(1, 12)}
-    elif what == 4:
-        scanner.view[random.randint(1, 12)] = random.randint(1, MOST_SLOTS)
-    elif what == 5:
-        scanner.reasons[random.randint(1, MOST_SLOTS)] = {random.randint(1, 12): random.randint(1, MOST_SLOTS)}
-    elif what == 6:
-        rail.verdict = not rail.verdict
-    elif what == 7:
-        message = random.choice((News(1), Request(), Refusal(1, {}), Refusal(1, {1: 1}), News(random.randint(1, 8))))
-        rail.put((random.randint(1, 12), random.randint(1, 12)), message)
-    else:
-        one, other = sorted(random.sample(range(1, 13), 2))
-        rail.bans |= {(one, random.randint(1, 8), other, random.randint(1, 8))}
-    return rail
