@@ -14,7 +14,7 @@ use std::io::{Read, Write};
 use support_cli::{Input, Output, Status, print};
 
 // The status, by the text: `program_text` gives no more, and the text of a sheet that is refused says so.
-#[tactic(auto, unfolding(dock_text::specs::Text::sheet_refused))]
+#[tactic(auto, unfolding(dock_text::specs::Text::sheet_refused, crate::specs::Answers::status_told))]
 fn status_of(text: &[u8]) -> Status
     ensures { status_code result ≡ status_told text.now }
 {
@@ -37,7 +37,8 @@ fn settle_into<R: Read, W: Write, E: Write>(
 {
     let count = input.read_full(sheet);
     let length = program_text(&sheet[..count], text);
-    print(output, errors, &text[..length], status_of(&text[..length]))
+    let told = &text[..length];
+    print(output, errors, told, status_of(told))
 }
 
 /// Settles the sheet on the input. The longest sheet has 33,816 bytes; one byte more tells that the input is too long.
