@@ -3,6 +3,7 @@
 //! `EverySheet` is every accepted sheet of either edition, `EveryProblem` every problem in range.
 ghost use Rattle.promises.specs.Claims.{WaitsAsHeld};
 ghost use Rattle.theorems.specs.Claims.{EveryProblem, EverySheet, SoundAtRest, CompleteVerdict, StaysInShape, RoundBound, RunsMark, RunBound, RunsCount, Replay, AskedOnce, CountsExact, CountsCapped, SentIsReceivedAndWaiting, SentIsReceivedAndWaitingOf, CountsNeverFall, DeliverKeeps, RunKeeps, JammedExactly, NoneAfterNothing, RoundsUsed, RuleKept, RunTells, DeliveryTells};
+ghost use Rattle.spinning.specs.Claims.{OfASheet, AllAccepted, NoFullRound, PassesTheBound, DeliveriesUnbounded};
 
 /// A rail with nothing waiting and no verdict breaks no ban. The verdict comes only where no choice of slots obeys all bans.
 pub fn accuracy()
@@ -83,5 +84,15 @@ pub fn answers()
     ensures run_of_problems { EveryProblem RunTells }
     ensures delivery { EverySheet DeliveryTells }
     ensures delivery_of_problems { EveryProblem DeliveryTells }
+{
+}
+
+/// The limit is on full rounds. On one sheet a list of accepted deliveries goes on without end and has no full round, so no such limit holds of deliveries.
+pub fn unbounded()
+    ensures sheet { OfASheet }
+    ensures accepted { AllAccepted }
+    ensures never_full { NoFullRound }
+    ensures passes { PassesTheBound }
+    ensures unbounded { DeliveriesUnbounded }
 {
 }

@@ -1,14 +1,14 @@
 -- The claims. Each is proved elsewhere against the type that stands here.
-use Rattle.std.specs.Prelude.{ℕ, ◌≤◌, ◌≡◌, true, List, ◌++◌, length}
+use Rattle.std.specs.Prelude.{ℕ, ◌≡◌, List, ◌++◌, length}
 use Rattle.base.specs.Lists.{All}
-use Rattle.problem.specs.Problem.{Problem, in_range}
 use Rattle.problem.specs.Sheet.{Valid, decode}
-use Rattle.protocol.specs.Network.{start, is_rule}
+use Rattle.protocol.specs.Network.{start}
 use Rattle.protocol.specs.Delivery.{Accepted}
 use Rattle.protocol.specs.Run.{Line}
 use Rattle.theorems.specs.Calls.{answers, FullRound}
 use Rattle.theorems.specs.Claims.{most_rounds}
 use Rattle.spinning.specs.Spinning.{sheet_spinning, three, spinning}
+use Rattle.spinning.specs.Misread.{DeliveriesBounded}
 
 -- the problem is that of a good sheet
 abbrev pub OfASheet : Type 0
@@ -26,12 +26,6 @@ NoFullRound = (k : ℕ) (before stretch after : List Line) → before ++ stretch
 abbrev pub PassesTheBound : Type 0
 PassesTheBound = (most_rounds three ≡ 3072) × (length (spinning 1536) ≡ 3073)
 
--- The bound misread, of accepted deliveries in place of full rounds ..
-abbrev pub DeliveriesBounded : Type 0
-DeliveriesBounded =
-    (rule : ℕ) → is_rule rule ≡ true → (p : Problem) → in_range p ≡ true → (lines : List Line)
-    → All (λ a. a ≡ Accepted) (answers lines (start rule p)) → length lines ≤ most_rounds p
-
--- .. is false.
+-- The bound misread, of accepted deliveries in place of full rounds (`DeliveriesBounded`), is false.
 abbrev pub DeliveriesUnbounded : Type 0
 DeliveriesUnbounded = DeliveriesBounded → ⊥
