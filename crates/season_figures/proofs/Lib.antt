@@ -3,3 +3,4 @@ pub mod Adding
 pub mod Promised
 pub mod Pieces
 pub mod Reading
+mod Streams

@@ -2,7 +2,8 @@
 ghost use Rattle.std.specs.Prelude.{◌≡◌, ◌≤◌};
 ghost use Rattle.refusals.specs.Refusals.{refusal_number};
 ghost use Rattle.engine.specs.Answers.{ending_of};
-ghost use Rattle.season_rules.specs.Season.{Refused, Ended, no_figures, place, one_more, with_rounds, with_outcome};
+ghost use Rattle.season_rules.specs.Season.{Refused, Ended, no_figures, place, one_more, with_rounds, outcome, with_outcome};
+ghost use Rattle.season_rules.specs.Claims.{Known};
 ghost use Rattle.season_rules.specs.Capped.{capped_rounds, capped_kinds, capped};
 ghost use Rattle.season_figures.specs.Abstract.{kinds, rounds_of, figures_of, with_word, AddsSheet, CountsSheet};
 ghost use Rattle.season_figures.specs.Promised.{OutcomeTells, CountTells};
@@ -133,6 +134,7 @@ impl Figures {
     pub fn with_sheet(self, sheet: &[u8]) -> Figures
         ensures capped { CountsSheet self sheet.now result }
         ensures adds { AddsSheet self sheet.now result }
+        ensures known { Known (outcome sheet.now) }
         ensures promised { OutcomeTells sheet.now }
         ensures tells { CountTells self sheet.now result }
     {

@@ -1,7 +1,8 @@
 // A stream of sheets, each behind its length in two bytes: piece by piece, as it is read, and as a whole.
-ghost use Rattle.std.specs.Prelude.{◌≡◌};
-ghost use Rattle.season_rules.specs.Season.{no_figures};
-ghost use Rattle.season_rules.specs.Stream.{most_sheets, split, season as season_by};
+ghost use Rattle.std.specs.Prelude.{◌≡◌, ◌<◌, ℕ, false, List, ltb, length};
+ghost use Rattle.season_rules.specs.Season.{no_figures, figures_of as figures_of'};
+ghost use Rattle.season_rules.specs.Claims.{Reordered, stream_of, AllFit};
+ghost use Rattle.season_rules.specs.Stream.{most_sheets, is_whole, split, season_from, season as season_by};
 ghost use Rattle.base.specs.Lists.{All};
 ghost use Rattle.season_figures.specs.Abstract.{figures_of};
 ghost use Rattle.season_figures.specs.Pieces.{said, is_piece, cut_of, is_over, reading_of, season_of, Steps, Advances};
@@ -106,6 +107,10 @@ pub fn read_stream(stream: &[u8]) -> Season
     ensures reading { result.reading ≡ reading_of (split most_sheets stream.now) }
     ensures promised { All OutcomeTells (split most_sheets stream.now).sheets }
     ensures tells { CountsTell (split most_sheets stream.now).sheets result.figures }
+    ensures ordered { (other : List ℕ) → Reordered (split most_sheets stream.now).sheets (split most_sheets other).sheets
+        → figures_of result.figures ≡ figures_of' (split most_sheets other).sheets }
+    ensures whole { (sheets : List (List ℕ)) (rest : List ℕ) → AllFit sheets → length sheets < most_sheets → is_whole rest ≡ false
+        → stream.now ≡ stream_of sheets rest → season_of result ≡ season_from (record { sheets = sheets; cut = ltb 0 (length rest) }) }
 {
     let mut season = Season::begin();
     let mut rest = stream;
