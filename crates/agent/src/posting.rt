@@ -4,7 +4,7 @@ ghost use Rattle.std.specs.Iterator.{YieldsFirstBy, item_count};
 ghost use Rattle.agent.specs.Abstract.{post_of};
 ghost use Rattle.agent.specs.Posting.{posts_left, letters_left, none_left, tail_of, Ready};
 
-use crate::{Letters, Lhs, Message, Post, Posts, Step};
+use crate::{Letters, Lhs, Message, Post, Posts};
 use packed::{digit, first, last_digit, with_digit, without};
 
 impl Posts {
@@ -72,18 +72,6 @@ impl Posts {
                 told: without(self.told, first(self.told)),
                 ..self
             }
-        }
-    }
-}
-
-impl Step {
-    // What it sends, in order.
-    pub fn letters(&self) -> Letters<'_>
-        ensures { (result.posts ≡ self.now.posts) × (result.backs.now ≡ self.now.backs) }
-    {
-        Letters {
-            posts: self.posts,
-            backs: &self.backs,
         }
     }
 }

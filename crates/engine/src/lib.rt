@@ -117,7 +117,7 @@ pub fn work(r: Network, task: Task) -> Answer
                 // half of the steps are still: they have no posts, and their Backs are not moved
                 if !step.still {
                     let mut now = o.counts[at];
-                    // beside the step, and not by `step.letters()`: a step that is lent stays in memory, and the long run takes a sixth longer
+                    // made beside the step, and not by a method of it: a step that is lent stays in memory, and the long run takes a sixth longer
                     let backs = step.backs;
                     let letters = Letters {
                         posts: step.posts,
