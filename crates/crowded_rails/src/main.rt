@@ -16,6 +16,7 @@ use random_rails::drafts::drawn;
 use random_rails::draws::{next, pick};
 use refusals::Refusal;
 use tallies::Tally;
+use words::printing::{Out, Screen};
 
 // A line that holds something and does not lead to the starved scanner: the first one from this line on and round. One time in eight any two numbers from 0 to
 // 13.
@@ -98,8 +99,8 @@ impl Tally {
 }
 
 // So many forged rails. No scanner has number 13, and starves.
-fn try_forged(rails: usize) {
-    let mut tally = Tally::new(b"forged rails");
+fn try_forged(out: Screen, rails: usize) {
+    let mut tally = Tally::new(out, b"forged rails");
     let mut state: u64 = 20030139;
     for _ in 0..rails {
         let f = forged(state);
@@ -119,8 +120,8 @@ fn try_forged(rails: usize) {
 }
 
 // So many random sheets, under rule 1 and rule 2. One of the scanners starves.
-fn try_starved(sheets: usize) {
-    let mut tally = Tally::new(b"rails with a starved scanner");
+fn try_starved(out: Screen, sheets: usize) {
+    let mut tally = Tally::new(out, b"rails with a starved scanner");
     let mut state: u64 = 20261127;
     for _ in 0..sheets {
         let d = drawn(state);
@@ -135,7 +136,7 @@ fn try_starved(sheets: usize) {
     tally.report();
 }
 
-fn main() {
-    try_forged(1000);
-    try_starved(1000);
+fn main(rt: HostRuntime) {
+    try_forged(Out::new(rt.stdout()), 1000);
+    try_starved(Out::new(rt.stdout()), 1000);
 }

@@ -2,7 +2,7 @@
 use counters::Count;
 use engine::Ending;
 use refusals::Refusal;
-use words::printing::Out;
+use words::printing::Screen;
 
 // How many of each kind, deliveries and runs apart. Of the refusals those that a delivery on a rail in shape can meet: 6, 7, 8 and 10.
 #[derive(Clone, Copy)]
@@ -13,11 +13,11 @@ pub struct Tally {
     words: [Count; 4],
     pub rounds: Count,
     failed: Count,
-    out: Out,
+    out: Screen,
 }
 
 impl Tally {
-    pub fn new(name: &[u8]) -> Tally {
+    pub fn new(out: Screen, name: &[u8]) -> Tally {
         let none = Count::none();
         Tally {
             rails: none,
@@ -26,7 +26,7 @@ impl Tally {
             words: [none; 4],
             rounds: none,
             failed: none,
-            out: Out::new().put(name).put(b"\n"),
+            out: out.put(name).put(b"\n"),
         }
     }
 
