@@ -1,14 +1,15 @@
 //! `season`, as a function of its command line, its input and its outputs: the figures of a stream of sheets. docs/RULES.md, 'A season's figures'.
 #![tactic(auto)]
 
-ghost use Rattle.std.specs.Prelude.{◌≡◌, ◌++◌, true, map, vec_items, take};
+ghost use Rattle.std.specs.Prelude.{◌≡◌, length, map, vec_items, take};
 ghost use Rattle.io.specs.Counts.{IsPrefixLen};
-ghost use Rattle.season_figures.specs.Pieces.{is_over, season_of};
+ghost use Rattle.season_figures.specs.Pieces.{season_of};
 ghost use Rattle.support_cli.specs.Streams.{input_of, output_of, Puts};
 ghost use Rattle.support_cli.specs.Answers.{status_code, done, prints, Answered};
 ghost use Rattle.season_text.specs.Text.{season_text};
-ghost use Rattle.cli_season.specs.Answers.{is_progress, wrong_answer, progress_line, progress_behind, season_answer};
-ghost use Rattle.cli_season.specs.Behaving.{TakesPiece, ReadsStream, Behaves};
+ghost use Rattle.cli_season.specs.Answers.{Stream, is_progress, wrong_what, wrong_answer, progress_line};
+ghost use Rattle.cli_season.specs.Behaving.{Serves, Behaves};
+ghost use Rattle.cli_season.specs.Pieces.{TakesSheet, TakesPiece, due, progress_behind, StreamRead};
 
 use lent::cursor::Cursor;
 use season_figures::stream::{MOST_SHEETS, Season, length_in};
@@ -37,8 +38,10 @@ fn next<R: Read>(s: Season, space: &mut [u8; 65536], input: &mut Input<R>) -> Se
 {
     let mut head = [0u8; 2];
     let k = input.read_full(&mut head);
-    let n = length_in(&head[..k]).unwrap_or(0) as usize;
-    with_sheet_in(s, &head[..k], &mut space[..n], input)
+    match length_in(&head[..k]) {
+        Some(n) => with_sheet_in(s, &head[..k], &mut space[..n as usize], input),
+        None => s.with_piece(&head[..k], &[]),
+    }
 }
 
 // ---- progress
@@ -57,14 +60,21 @@ fn line_of_progress(sheets: u64, line: &mut [u8; 28]) -> usize
     next.at
 }
 
-// A line on standard error after every 1,000 sheets.
-fn say_progress<E: Write>(s: Season, errors: &mut Output<E>)
-    ensures { Puts (progress_behind s) (output_of E.contents errors.old) (output_of E.contents errors.new) }
+// Whether a line is to be said behind a piece.
+#[tactic(auto, unfolding(crate::specs::Pieces::due))]
+fn is_due(tells: bool, s: Season) -> bool
+    ensures { result ≡ due tells s }
 {
-    let sheets = s.figures.sheets;
-    if !s.is_over() && sheets % 1000 == 0 {
+    tells && !s.is_over() && s.figures.sheets % 1000 == 0
+}
+
+// A line on standard error after every 1,000 sheets.
+fn say_progress<E: Write>(tells: bool, s: Season, errors: &mut Output<E>)
+    ensures { Puts (progress_behind tells s) (output_of E.contents errors.old) (output_of E.contents errors.new) }
+{
+    if is_due(tells, s) {
         let mut line = [0u8; 28];
-        let length = line_of_progress(sheets, &mut line);
+        let length = line_of_progress(s.figures.sheets, &mut line);
         errors.put(&line[..length]);
     }
 }
@@ -78,6 +88,7 @@ fn read_stream<R: Read, E: Write>(
     input: &mut Input<R>,
     errors: &mut Output<E>,
 ) -> Season
+    ensures { StreamRead tells (input_of R.remaining input.old) (input_of R.remaining input.new) (output_of E.contents errors.old) (output_of E.contents errors.new) result }
 {
     let mut s = Season::begin();
     for _ in 0..MOST_SHEETS {
@@ -85,9 +96,7 @@ fn read_stream<R: Read, E: Write>(
             break;
         }
         s = next(s, space, input);
-        if tells {
-            say_progress(s, errors);
-        }
+        say_progress(tells, s, errors);
     }
     s
 }
@@ -112,6 +121,7 @@ fn follow<R: Read, W: Write, E: Write>(
     output: &mut Output<W>,
     errors: &mut Output<E>,
 ) -> Status
+    ensures { Serves (Stream tells) (input_of R.remaining input.old) (input_of R.remaining input.new) (output_of W.contents output.old) (output_of W.contents output.new) (output_of E.contents errors.old) (output_of E.contents errors.new) (status_code result) }
 {
     let mut space = [0u8; 65536];
     let s = read_stream(tells, &mut space, input, errors);
@@ -127,6 +137,17 @@ fn is_progress(word: &[u8]) -> bool
     word == b"--progress".as_slice()
 }
 
+#[tactic(auto, unfolding(crate::specs::Answers::wrong_what))]
+fn wrong_what(word: &[u8]) -> &'static [u8]
+    ensures { result.now ≡ wrong_what word.now }
+{
+    if word.starts_with(b"--") {
+        b"option not understood: "
+    } else {
+        b"argument not understood: "
+    }
+}
+
 // A word that is not understood: an option that there is not, or that stands twice, or a word too many.
 fn put_wrong<W: Write, E: Write>(
     word: &[u8],
@@ -135,11 +156,7 @@ fn put_wrong<W: Write, E: Write>(
 ) -> Status
     ensures { Answered (wrong_answer word.now) (output_of W.contents output.old) (output_of W.contents output.new) (output_of E.contents errors.old) (output_of E.contents errors.new) (status_code result) }
 {
-    if word.starts_with(b"--") {
-        say(output, b"option not understood: ", word);
-    } else {
-        say(output, b"argument not understood: ", word);
-    }
+    say(output, wrong_what(word), word);
     end(output, errors, Status::NotUnderstood)
 }
 
@@ -150,6 +167,7 @@ pub fn season<R: Read, W: Write, E: Write>(
     output: &mut Output<W>,
     errors: &mut Output<E>,
 ) -> Status
+    ensures { Behaves (map vec_items words.now) (input_of R.remaining input.old) (input_of R.remaining input.new) (output_of W.contents output.old) (output_of W.contents output.new) (output_of E.contents errors.old) (output_of E.contents errors.new) (status_code result) }
 {
     let Some((word, others)) = first_word(words) else {
         return follow(false, input, output, errors);
