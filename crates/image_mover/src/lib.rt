@@ -9,6 +9,7 @@ ghost use Rattle.std.specs.Prelude.{◌≡◌, true, false, ◌≤◌, eqb, get_
 ghost use Rattle.base.specs.Lent.{put as put_by};
 ghost use Rattle.network.specs.Abstract.{network_of};
 ghost use Rattle.lent.specs.Abstract.{written_of, InBuffer};
+ghost use Rattle.image_format.specs.Plain.{Plain};
 ghost use Rattle.image_forms.specs.Forms.{Second, second_form, small, large};
 ghost use Rattle.image_forms.specs.Reading.{load_second, load as load_by};
 ghost use Rattle.image_forms.specs.Writing.{store as store_by};
@@ -140,6 +141,8 @@ pub fn store_small(r: Network, out: &mut [u8]) -> Result<usize, Refusal>
 pub fn store_as(form: Form, r: Network, out: &mut [u8]) -> Result<usize, Refusal>
     ensures out_after { written_of result out.new ≡ store_by (form_named form) (network_of r) out.old }
     ensures length_in_bounds { InBuffer result out.new }
+    // every network of the code holds nothing outside its arrays, so the claims about images hold of it
+    ensures plain { Plain (network_of r) }
 {
     match form {
         Form::First => store(r, out),
