@@ -1,0 +1,4 @@
+mod Making
+mod Playing
+mod Telling
+pub mod Keeping
