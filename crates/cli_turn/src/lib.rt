@@ -1,0 +1,92 @@
+//! `turn`, as a function of its command line, its input and its outputs: a sheet into one of the other edition. docs/RULES.md, 'Turning one edition into the
+//! other'.
+#![tactic(auto)]
+
+ghost use Rattle.std.specs.Prelude.{◌≡◌, suc, map, vec_items};
+ghost use Rattle.problem.specs.Sheet.{longest_sheet};
+ghost use Rattle.lent.specs.Abstract.{written_of, InBuffer};
+ghost use Rattle.turn_rules.specs.Turning.{put_turned};
+ghost use Rattle.support_cli.specs.Streams.{input_of, output_of};
+ghost use Rattle.support_cli.specs.Answers.{status_code};
+ghost use Rattle.support_cli.specs.Behaving.{Behaves};
+ghost use Rattle.cli_turn.specs.Answers.{command_in, turn_by, turned, bytes_taken, turn_answer};
+
+use refusals::Refusal;
+use std::io::{Read, Write};
+use support_cli::{Input, Output, Status, complain, hand_over};
+use turning::{to_bans, to_gaps};
+
+// Which sheet is asked for: a ban sheet, or a gap sheet.
+#[derive(Clone, Copy)]
+enum Command {
+    Bans,
+    Gaps,
+}
+
+fn command_of(word: &[u8]) -> Option<Command>
+    ensures { result ≡ command_in word.now }
+{
+    if word == b"bans".as_slice() {
+        Some(Command::Bans)
+    } else if word == b"gaps".as_slice() {
+        Some(Command::Gaps)
+    } else {
+        None
+    }
+}
+
+// The sheet of the other edition, in a lent buffer.
+fn turn_sheet(command: Command, given: &[u8], sheet: &mut [u8]) -> Result<usize, Refusal>
+    ensures out_after { written_of result sheet.new ≡ put_turned (turn_by command given.now) sheet.old }
+    ensures length_in_bounds { InBuffer result sheet.new }
+{
+    match command {
+        Command::Bans => to_bans(given, sheet),
+        Command::Gaps => to_gaps(given, sheet),
+    }
+}
+
+// The longest sheet has 33,816 bytes; one byte more tells that the input is too long.
+fn obey<R: Read, W: Write, E: Write>(
+    command: Command,
+    input: &mut Input<R>,
+    output: &mut Output<W>,
+    errors: &mut Output<E>,
+) -> Status
+    ensures { Behaves (suc longest_sheet) (λ s. turned (turn_by command s)) (input_of R.remaining input.old) (input_of R.remaining input.new) (output_of W.contents output.old) (output_of W.contents output.new) (output_of E.contents errors.old) (output_of E.contents errors.new) (status_code result) }
+{
+    let mut given = [0u8; 33817];
+    let count = input.read_full(&mut given);
+    let mut sheet = [0u8; 33816];
+    let length = turn_sheet(command, &given[..count], &mut sheet);
+    hand_over(output, errors, length, &sheet)
+}
+
+/// Turns the sheet on the input. Nothing is read before it is clear that the command is one, and that no word stands behind it.
+pub fn turn<R: Read, W: Write, E: Write>(
+    words: &[Vec<u8>],
+    input: &mut Input<R>,
+    output: &mut Output<W>,
+    errors: &mut Output<E>,
+) -> Status
+    ensures { Behaves (bytes_taken (map vec_items words.now)) (turn_answer (map vec_items words.now)) (input_of R.remaining input.old) (input_of R.remaining input.new) (output_of W.contents output.old) (output_of W.contents output.new) (output_of E.contents errors.old) (output_of E.contents errors.new) (status_code result) }
+{
+    let Some((word, others)) = words.split_first() else {
+        let missing = b"no command given: turn bans, or turn gaps";
+        return complain(output, errors, missing, b"", Status::NotUnderstood);
+    };
+    let Some(command) = command_of(word) else {
+        let unread = b"command not understood: ";
+        return complain(output, errors, unread, word, Status::NotUnderstood);
+    };
+    match others.first() {
+        None => obey(command, input, output, errors),
+        Some(surplus) => complain(
+            output,
+            errors,
+            b"argument not understood: ",
+            surplus,
+            Status::NotUnderstood,
+        ),
+    }
+}

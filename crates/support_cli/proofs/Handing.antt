@@ -1,0 +1,28 @@
+-- Bytes for which there is room are handed over whole, and a refusal with its number.
+-- What is put stands at the buffer's start, and no refusal has number 0.
+use Rattle.std.proofs.Common.{ℕ, ◌≡◌, ◌≤◌, List, ◌++◌, Result, Ok, Err, length, take, drop, refl, ap}
+use Rattle.std.proofs.Math.Seq.{take-append_seam}
+use borrow.Author.Tests.{ne_eqb, le-leb}
+use Rattle.base.specs.Lent.{untouched, put}
+use Rattle.refusals.specs.declared.Refusal.{Refusal}
+use Rattle.refusals.specs.Refusals.{refusal_number}
+use Rattle.refusals.proofs.Numbers.{refusal-some}
+use Rattle.lent.specs.Abstract.{written_of}
+use Rattle.support_cli.specs.Answers.{done, prints, says_refused, hands_over}
+
+pub hands-put : (t buffer : List ℕ) → length t ≤ length buffer → hands_over (put t buffer) ≡ prints t done
+unfolding put hands_over
+hands-put t buffer h =
+    rw (le-leb (length t) (length buffer) h, put) (ap (λ (x : List ℕ). prints x done) (take-append_seam t (drop (length t) buffer)))
+
+pub hands-untouched : (k : ℕ) (buffer : List ℕ) → (k ≡ 0 → ⊥) → hands_over (untouched k buffer) ≡ says_refused k
+unfolding untouched hands_over
+hands-untouched k buffer h = rw (ne_eqb k 0 h, hands_over)
+
+pub hands-written : (n : ℕ) (buffer : List ℕ) → hands_over (written_of (Ok n) buffer) ≡ prints (take n buffer) done
+unfolding written_of hands_over
+hands-written n buffer = refl
+
+pub hands-refused : (r : Refusal) (buffer : List ℕ) → hands_over (written_of (Err r) buffer) ≡ says_refused (refusal_number r)
+unfolding written_of
+hands-refused r buffer = hands-untouched (refusal_number r) buffer (refusal-some r)

@@ -1,0 +1,36 @@
+// How a program ends.
+ghost use Rattle.std.specs.Prelude.{◌≡◌, max};
+ghost use Rattle.support_cli.specs.Answers.{status_code};
+
+/// How a program ends, by the greatest of what was said.
+#[derive(Clone, Copy, Debug, PartialEq, Eq)]
+pub enum Status {
+    /// What was asked for is done.
+    Done = 0,
+    /// A sheet, a rule, an image, an ordinal or a text is refused.
+    Refused = 1,
+    /// Something was not understood or could not be read, or memory ran out.
+    NotUnderstood = 2,
+    /// Standard output could not be written.
+    NotWritten = 3,
+}
+
+impl Status {
+    /// The number that the system is told, 0 to 3.
+    pub fn code(self) -> u8
+        ensures { result ≡ status_code self }
+    {
+        self as u8
+    }
+
+    /// The greater of the two.
+    pub fn or(self, other: Status) -> Status
+        ensures { status_code result ≡ max (status_code self) (status_code other) }
+    {
+        if self.code() < other.code() {
+            other
+        } else {
+            self
+        }
+    }
+}

@@ -1,0 +1,41 @@
+// The words of the command line.
+ghost use Rattle.std.specs.Prelude.{◌≤◌, All, IfOk, IfSome, vec_len};
+
+use std::alloc::{AllocError, Global};
+use std::env::FillError;
+use std::rt::Env;
+
+// The system passes no word of more bytes.
+const LONGEST_WORD: usize = 131072;
+
+// Whether there is a word i, even an empty one.
+fn is_given(rt: &impl Env, i: usize) -> bool {
+    let mut first = [0u8; 1];
+    !matches!(rt.arg(i, &mut first), Err(FillError::NotPresent))
+}
+
+// A copy of word i. One that is not there, or that is longer than the system passes, is given as the empty word: it is understood as little as an empty one.
+fn copied(rt: &impl Env, i: usize, alloc: Global) -> Result<Vec<u8>, AllocError>
+    ensures { IfOk result (λ word. vec_len word ≤ 131072) }
+{
+    let mut word = [0u8; LONGEST_WORD];
+    let count = rt.arg(i, &mut word).unwrap_or(0);
+    word[..count].to_vec(alloc)
+}
+
+/// The words of the command line without the program's name, as they were given: any bytes, at most 131,072 a word.
+///
+/// # Errors
+/// Where memory runs out.
+pub fn words_of(rt: &impl Env, alloc: Global) -> Result<Vec<Vec<u8>>, AllocError>
+    ensures { IfOk result (λ words. All (λ word. vec_len word ≤ 131072) words.items) }
+{
+    let mut words = Vec::new(alloc);
+    for i in 1..usize::MAX {
+        if !is_given(rt, i) {
+            break;
+        }
+        words.push(copied(rt, i, alloc)?)?;
+    }
+    Ok(words)
+}
