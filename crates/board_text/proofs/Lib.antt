@@ -1,3 +1,3 @@
 mod Spelling
-pub mod Lines
+mod Texts
 pub mod Capped
