@@ -13,7 +13,7 @@ ghost use Rattle.cli_turn.specs.Answers.{command_in, turn_by, turned, bytes_take
 
 use refusals::Refusal;
 use std::io::{Read, Write};
-use support_cli::{Input, Output, Status, complain, hand_over};
+use support_cli::{Input, Output, Status, complain, first_word, hand_over};
 use turning::{to_bans, to_gaps};
 
 // Which sheet is asked for: a ban sheet, or a gap sheet.
@@ -23,6 +23,7 @@ enum Command {
     Gaps,
 }
 
+#[tactic(auto, unfolding(crate::specs::Answers::command_in))]
 fn command_of(word: &[u8]) -> Option<Command>
     ensures { result ≡ command_in word.now }
 {
@@ -36,6 +37,7 @@ fn command_of(word: &[u8]) -> Option<Command>
 }
 
 // The sheet of the other edition, in a lent buffer.
+#[tactic(auto, unfolding(turn_rules::specs::Turning::to_bans, turn_rules::specs::Turning::to_gaps))]
 fn turn_sheet(command: Command, given: &[u8], sheet: &mut [u8]) -> Result<usize, Refusal>
     ensures out_after { written_of result sheet.new ≡ put_turned (turn_by command given.now) sheet.old }
     ensures length_in_bounds { InBuffer result sheet.new }
@@ -49,17 +51,17 @@ fn turn_sheet(command: Command, given: &[u8], sheet: &mut [u8]) -> Result<usize,
 // The longest sheet has 33,816 bytes; one byte more tells that the input is too long.
 fn obey<R: Read, W: Write, E: Write>(
     command: Command,
+    given: &mut [u8; 33817],
+    sheet: &mut [u8; 33816],
     input: &mut Input<R>,
     output: &mut Output<W>,
     errors: &mut Output<E>,
 ) -> Status
     ensures { Behaves (suc longest_sheet) (λ s. turned (turn_by command s)) (input_of R.remaining input.old) (input_of R.remaining input.new) (output_of W.contents output.old) (output_of W.contents output.new) (output_of E.contents errors.old) (output_of E.contents errors.new) (status_code result) }
 {
-    let mut given = [0u8; 33817];
-    let count = input.read_full(&mut given);
-    let mut sheet = [0u8; 33816];
-    let length = turn_sheet(command, &given[..count], &mut sheet);
-    hand_over(output, errors, length, &sheet)
+    let count = input.read_full(given);
+    let length = turn_sheet(command, &given[..count], sheet);
+    hand_over(output, errors, length, sheet)
 }
 
 /// Turns the sheet on the input. Nothing is read before it is clear that the command is one, and that no word stands behind it.
@@ -71,7 +73,7 @@ pub fn turn<R: Read, W: Write, E: Write>(
 ) -> Status
     ensures { Behaves (bytes_taken (map vec_items words.now)) (turn_answer (map vec_items words.now)) (input_of R.remaining input.old) (input_of R.remaining input.new) (output_of W.contents output.old) (output_of W.contents output.new) (output_of E.contents errors.old) (output_of E.contents errors.new) (status_code result) }
 {
-    let Some((word, others)) = words.split_first() else {
+    let Some((word, others)) = first_word(words) else {
         let missing = b"no command given: turn bans, or turn gaps";
         return complain(output, errors, missing, b"", Status::NotUnderstood);
     };
@@ -79,14 +81,10 @@ pub fn turn<R: Read, W: Write, E: Write>(
         let unread = b"command not understood: ";
         return complain(output, errors, unread, word, Status::NotUnderstood);
     };
-    match others.first() {
-        None => obey(command, input, output, errors),
-        Some(surplus) => complain(
-            output,
-            errors,
-            b"argument not understood: ",
-            surplus,
-            Status::NotUnderstood,
-        ),
+    if let Some((surplus, _)) = first_word(others) {
+        let surplus_is = b"argument not understood: ";
+        return complain(output, errors, surplus_is, surplus, Status::NotUnderstood);
     }
+    let (mut given, mut sheet) = ([0u8; 33817], [0u8; 33816]);
+    obey(command, &mut given, &mut sheet, input, output, errors)
 }

@@ -3,3 +3,6 @@ mod Settled
 mod Plans
 mod Lines
 mod Printed
+mod Decimals
+mod Reading
+pub mod Promises

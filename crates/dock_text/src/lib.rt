@@ -1,7 +1,7 @@
 // What `dock` does with a sheet: the scanners settle it, and what they come to is made a text.
 #![tactic(auto)]
 
-ghost use Rattle.std.specs.Prelude.{◌≡◌, ◌≤◌, length};
+ghost use Rattle.std.specs.Prelude.{◌≡◌, ◌≤◌, length, take, drop, IfOk};
 ghost use Rattle.protocol.specs.Run.{Plan};
 ghost use Rattle.io.specs.Counts.{IsPrefixLen};
 ghost use Rattle.network.specs.Abstract.{network_of};
@@ -9,6 +9,7 @@ ghost use Rattle.engine.specs.Answers.{ending_of};
 ghost use Rattle.lent.specs.Puts.{Room, Adds};
 ghost use Rattle.dock_text.specs.Settling.{program_rounds, Settles};
 ghost use Rattle.dock_text.specs.Text.{slot_line, slot_lines, plan_lines, answer_text, Prints};
+ghost use Rattle.dock_text.specs.Promised.{SheetTells, TextPromised};
 
 use engine::{Answer, Ending};
 use lent::cursor::Cursor;
@@ -20,7 +21,8 @@ use words::append_ending;
 // What a sheet comes to: the start by rule 1 and the run on it with so many rounds, or the refusal of the sheet. A match, since `?` moves the network twice,
 // and a season of small sheets then takes a third longer.
 pub fn settle(sheet: &[u8], rounds: u64) -> Result<Answer, Refusal>
-    ensures { Settles rounds sheet.now result }
+    ensures settles { Settles rounds sheet.now result }
+    ensures promised { IfOk result (SheetTells sheet.now) }
 {
     match start::start(1, sheet) {
         Ok(rail) => Ok(run::run(rail, rounds)),
@@ -81,6 +83,8 @@ fn append_ran(out: &mut Cursor<'_>, ran: Answer)
 // The text for a sheet, with so many rounds allowed, and how many bytes it has.
 pub fn text(sheet: &[u8], rounds: u64, out: &mut [u8; 1024]) -> usize
     ensures prints { Prints rounds sheet.now out.new result }
+    ensures promised { TextPromised sheet.now (take result out.new) }
+    ensures behind { drop result out.new ≡ drop result out.old }
     ensures prefix_len { IsPrefixLen result out.new }
 {
     let mut next = Cursor { buffer: out, at: 0 };
@@ -95,6 +99,8 @@ pub fn text(sheet: &[u8], rounds: u64, out: &mut [u8; 1024]) -> usize
 #[tactic(auto, unfolding(crate::specs::Settling::program_rounds))]
 pub fn program_text(sheet: &[u8], out: &mut [u8; 1024]) -> usize
     ensures prints { Prints program_rounds sheet.now out.new result }
+    ensures promised { TextPromised sheet.now (take result out.new) }
+    ensures behind { drop result out.new ≡ drop result out.old }
     ensures prefix_len { IsPrefixLen result out.new }
 {
     text(sheet, 100000, out)

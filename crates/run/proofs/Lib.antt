@@ -1,1 +1,2 @@
 pub mod Delivering
+pub mod Promises

@@ -8,6 +8,7 @@ ghost use Rattle.network.specs.Abstract.{network_of};
 ghost use Rattle.engine.specs.Answers.{ending_of};
 ghost use Rattle.engine.specs.Refused.{refused_number};
 ghost use Rattle.run.specs.Answers.{DeliversAs, standing, RunsAs};
+ghost use Rattle.run.specs.Promised.{Promised, Stands};
 
 use engine::{Answer, Task, work};
 use network::Network;
@@ -17,6 +18,8 @@ use network::Network;
 pub fn deliver(r: Network, from: u8, to: u8) -> Answer
     ensures delivers_as { DeliversAs r (deliver_by (network_of r) from to) (refused_number result.refusal) result.network }
     ensures rounds_value { (result.rounds ≡ 0) × (ending_of result.ending ≡ standing (deliver_by (network_of r) from to)) }
+    ensures promised { Promised r result }
+    ensures stands { Stands r result.network }
 {
     let mut answer = work(r, Task::Deliver { from, to });
     if answer.refusal.is_some() {
@@ -28,7 +31,8 @@ pub fn deliver(r: Network, from: u8, to: u8) -> Answer
 // The run tests the shape once, and is refused only with 5. Its rounds: "0 to 1,000,000, and more is taken as 1,000,000"
 #[tactic(auto, unfolding(engine::specs::Tasks::allowed_of))]
 pub fn run(r: Network, allowed: u64) -> Answer
-    ensures { RunsAs r (run_by allowed (network_of r)) result }
+    ensures runs_as { RunsAs r (run_by allowed (network_of r)) result }
+    ensures promised { Promised r result }
 {
     let task = Task::Run {
         allowed: allowed.min(1000000),

@@ -1,5 +1,5 @@
 // The tests of a statement, in their order, and what it comes to.
-ghost use Rattle.std.specs.Prelude.{◌≡◌, true, ◌<◌, length};
+ghost use Rattle.std.specs.Prelude.{◌≡◌, true, ◌<◌, length, IfErr};
 ghost use Rattle.base.specs.Finite.{within};
 ghost use Rattle.problem.specs.Problem.{owns, no_bans};
 ghost use Rattle.sheet.specs.Abstract.{problem_of};
@@ -89,8 +89,11 @@ impl Draft {
         self.edition = Some(edition);
     }
 
+    // What is said is taken into the draft, or the first fault is told and the draft is as it was.
+
     pub fn with_slots(&mut self, args: &[u8]) -> Result<(), Fault>
-        ensures { taken_of result self.new ≡ with_said (draft_in self.old) (slots_said (words_in args.now)) }
+        ensures taken { taken_of result self.new ≡ with_said (draft_in self.old) (slots_said (words_in args.now)) }
+        ensures kept { IfErr result (λ e. self.new ≡ self.old) }
     {
         let slots = slots_in(args).ok_or(Fault::NotStatement)?;
         need(!self.begun(), Fault::SlotsTwice)?;
@@ -101,7 +104,8 @@ impl Draft {
     }
 
     pub fn with_ban(&mut self, args: &[u8]) -> Result<(), Fault>
-        ensures { taken_of result self.new ≡ with_said (draft_in self.old) (ban_said (words_in args.now)) }
+        ensures taken { taken_of result self.new ≡ with_said (draft_in self.old) (ban_said (words_in args.now)) }
+        ensures kept { IfErr result (λ e. self.new ≡ self.old) }
     {
         let q = ban_in(args).ok_or(Fault::NotStatement)?;
         self.check_pair(Edition::Bans, q.a, q.b)?;
@@ -113,7 +117,8 @@ impl Draft {
     }
 
     pub fn with_gap(&mut self, args: &[u8]) -> Result<(), Fault>
-        ensures { taken_of result self.new ≡ with_said (draft_in self.old) (gap_said (words_in args.now)) }
+        ensures taken { taken_of result self.new ≡ with_said (draft_in self.old) (gap_said (words_in args.now)) }
+        ensures kept { IfErr result (λ e. self.new ≡ self.old) }
     {
         let q = gap_in(args).ok_or(Fault::NotStatement)?;
         self.check_pair(Edition::Gaps, q.a, q.b)?;

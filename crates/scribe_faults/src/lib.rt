@@ -1,7 +1,8 @@
 // What is said of a fault. docs/RULES.md, 'Sheets as text'.
 #![tactic(auto)]
 
-ghost use Rattle.std.specs.Prelude.{◌≤◌, length};
+ghost use Rattle.std.specs.Prelude.{◌≡◌, ◌≤◌, length};
+ghost use Rattle.lent.specs.Abstract.{over};
 ghost use Rattle.lent.specs.Puts.{Room, Adds};
 ghost use Rattle.text.specs.Text.{Appends};
 ghost use Rattle.scribe_rules.specs.Faults.{fault_words, fault_text};
@@ -44,10 +45,11 @@ fn append_fault(out: &mut Cursor<'_>, fault: Fault)
     }
 }
 
-// The line that is said of a fault, which has at most 89 bytes, and how many they are.
-pub fn fault_text(line: u64, fault: Fault, out: &mut [u8]) -> usize
-    requires { 89 ≤ length out.old }
-    ensures { Appends out.old 0 (fault_text line (fault_of fault)) out.new result × (result ≤ 89) }
+// The line that is said of a fault, which has at most 89 bytes, and how many they are; those past it stay.
+pub fn fault_text(line: u64, fault: Fault, out: &mut [u8; 89]) -> usize
+    ensures appends { Appends out.old 0 (fault_text line (fault_of fault)) out.new result }
+    ensures others_stay { out.new ≡ over 0 (fault_text line (fault_of fault)) out.old }
+    ensures short { result ≤ 89 }
 {
     let mut next = Cursor { buffer: out, at: 0 };
     next.put_all(b"line ");

@@ -1,80 +1,56 @@
--- What a sheet comes to is counted as the definitions say.
--- The figures of a list of fewer than 1,000,000 sheets leave room for one more; what the settling of a sheet answers is its outcome.
-use Prim.Native.Nat.{ℕ, suc, ◌+◌, ◌-◌, ◌^◌, ◌≤◌, ◌<◌, min}
-use mathlib.Core.Path.{◌≡◌, sym, ap, subst, ◌∙◌}
+-- What a sheet comes to is counted as the definitions say, each number capped.
+-- What the settling of a sheet answers is its outcome; the figures of a list of fewer than 1,000,000 sheets are below the cap.
+use Prim.Native.Nat.{ℕ, suc, ◌+◌, ◌-◌, ◌^◌, ◌≤◌, min}
+use mathlib.Core.Path.{◌≡◌, refl, sym, ap, subst, ◌∙◌}
 use mathlib.Core.Logic.{◌≢◌}
-use mathlib.Core.List.{List}
+use mathlib.Core.List.{List, [], ◌∷◌, ◌++◌}
 use mathlib.Core.Option.{Option as Option'}
 use Rattle.std.specs.Prelude.{Option, Ok, Err}
 use Rattle.refusals.specs.Refusals.{refusal_number}
 use Rattle.refusals.specs.declared.Refusal.{Refusal}
 use Rattle.refusals.proofs.Numbers.{refusal-some}
 use native.Mathlib.Omega.{arith}
-use lib.ListN.{length}
+use lib.ListN.{length-append}
 use borrow.Author.Tests.{ne_eqb}
-use Rattle.base.proofs.Tests.{eq_test}
+use Rattle.agent_rules.specs.Counts.{top, raised}
 use Rattle.protocol.specs.Network.{start_sheet}
 use Rattle.protocol.specs.Run.{Ending as Ending', Ran}
 use Rattle.engine.specs.Answers.{ending_of}
 use Rattle.engine.specs.declared.Answer.{Answer}
 use Rattle.dock_text.specs.Settling.{program_rule, settled, Settles}
-use Rattle.season_rules.specs.Season.{season_rule, season_rounds, Outcome, Refused, Ended, outcome_by, outcome, Rounds as Rounds', Figures as Figures', place, one_more, counting, with_outcome, figures_of as figures_of'}
+use Rattle.season_rules.specs.Season.{season_rule, season_rounds, Outcome, Refused, Ended, outcome_by, outcome, Rounds as Rounds', Figures as Figures', place, one_more, counting, with_outcome}
+use Rattle.season_rules.specs.Capped.{capped_rounds, capped_kinds, capped}
 use Rattle.season_rules.specs.Stream.{most_sheets}
-use Rattle.season_rules.specs.Claims.{Known, four}
-use Rattle.season_rules.proofs.Theorems.{each-known, add-up, mean-over, sum_bound, one-more-sheet}
+use Rattle.season_rules.specs.Claims.{Known}
+use Rattle.season_rules.proofs.Theorems.{each-known, one-more-sheet, never-capped}
+use Rattle.season_rules.proofs.Capped.{rounds_again}
 use Rattle.season_figures.specs.declared.figures.Rounds.{Rounds}
 use Rattle.season_figures.specs.declared.figures.Figures.{Figures}
-use Rattle.season_figures.specs.Abstract.{kinds, rounds_of, figures_of, with_word, Room, AddsSheet}
-
--- ---- room
-
-one-of-four : (f : ℕ → ℕ) (k : ℕ) → 1 ≤ k → k ≤ 4 → f k ≤ four f
-unfolding four
-one-of-four f k l h =
-    eq_test k 1 (λ e. rw e (omega arith)) (λ a.
-    eq_test k 2 (λ e. rw e (omega arith)) (λ b.
-    eq_test k 3 (λ e. rw e (omega arith)) (λ c.
-    eq_test k 4 (λ e. rw e (omega arith)) (λ d. absurd (omega arith)))))
-
-counted-few : (f : ℕ → ℕ) → f 1 + f 2 ≤ four f
-unfolding four
-counted-few f = omega arith
-
-list-room : (sheets : List (List ℕ)) → length sheets < most_sheets → Room (figures_of' sheets)
-unfolding most_sheets season_rounds
-list-room sheets h =
-    let a = add-up sheets in
-    let F : Figures' = figures_of' sheets in
-    record {
-      sheets = omega (arith, a.0);
-      refused = λ k l u. omega (arith, a.1, one-of-four F.refused k l u);
-      words = λ k l u. omega (arith, a.1, one-of-four F.words k l u);
-      count = omega (arith, a.1, mean-over sheets, counted-few F.words);
-      sum = omega (arith, sum_bound sheets);
-    }
+use Rattle.season_figures.specs.Abstract.{kinds, rounds_of, figures_of, with_word, AddsSheet, CountsSheet}
+use Rattle.season_figures.proofs.Counting.{raised-sum, Small, kept_kinds}
 
 -- ---- one more
 
-module _ (f : Figures) (s : ℕ) (one : s ≡ min (f.sheets + 1) (2 ^ 64 - 1)) (R : Room (figures_of f)) where
-  sheets-more : s ≡ suc f.sheets
-  unfolding figures_of
-  sheets-more = omega (arith, one, R.sheets)
+module _ (f : Figures) (s : ℕ) (one : s ≡ min (f.sheets + 1) (2 ^ 64 - 1)) (kept : capped_rounds (rounds_of f.rounds) ≡ rounds_of f.rounds) where
+  sheets-more : s ≡ raised 0 (suc f.sheets)
+  sheets-more = raised-sum s (suc f.sheets) (omega arith)
 
-  pub refused_more : (new : List ℕ) (k : ℕ) → 1 ≤ k → k ≤ 4 → (kinds f.refused k < 1000000 → kinds new ≡ one_more (kinds f.refused) k)
-      → figures_of (record { sheets = s; refused = new; words = f.words; rounds = f.rounds }) ≡ with_outcome (Refused k) (figures_of f)
-  unfolding figures_of with_outcome
-  refused_more new k l h e = rw (sheets-more, e (R.refused k l h))
+  pub refused_more : (new : List ℕ) (k : ℕ) → Small f.words → kinds new ≡ capped_kinds (one_more (kinds f.refused) k)
+      → figures_of (record { sheets = s; refused = new; words = f.words; rounds = f.rounds }) ≡ capped (with_outcome (Refused k) (figures_of f))
+  unfolding figures_of with_outcome capped
+  refused_more new k w e = rw (sheets-more, e, kept_kinds f.words w, kept) refl
 
-  pub word_more : (new : List ℕ) (k : ℕ) (r : Option Rounds) → 1 ≤ k → k ≤ 4 → (kinds f.words k < 1000000 → kinds new ≡ one_more (kinds f.words) k)
-      → figures_of (record { sheets = s; refused = f.refused; words = new; rounds = r }) ≡ with_word (figures_of f) k (rounds_of r)
-  unfolding figures_of with_word
-  word_more new k r l h e = rw (sheets-more, e (R.words k l h))
+pub word_more : (f : Figures) (s : ℕ) (new : List ℕ) (k : ℕ) (r : Option Rounds) → s ≡ min (f.sheets + 1) (2 ^ 64 - 1) → Small f.refused
+    → capped_rounds (rounds_of r) ≡ rounds_of r → kinds new ≡ capped_kinds (one_more (kinds f.words) k)
+    → figures_of (record { sheets = s; refused = f.refused; words = new; rounds = r }) ≡ capped (with_word (figures_of f) k (rounds_of r))
+unfolding figures_of with_word capped
+word_more f s new k r one h kept e = rw (raised-sum s (suc f.sheets) (omega arith), e, kept_kinds f.refused h, kept) refl
 
 -- a word and the rounds that it leaves are what the definition makes of an ending
-pub ended_more : (f g : Figures') (e : Ending') (n : ℕ) (r : Option' Rounds') → g ≡ with_word f (place e) r → r ≡ counting e n f.rounds
-    → g ≡ with_outcome (Ended e n) f
-unfolding with_word with_outcome
-ended_more f g e n r w c = w ∙ ap (with_word f (place e)) c
+pub ended_more : (f g : Figures') (e : Ending') (n : ℕ) (r : Option' Rounds') → g ≡ capped (with_word f (place e) r)
+    → r ≡ capped_rounds (counting e n f.rounds) → g ≡ capped (with_outcome (Ended e n) f)
+unfolding with_word with_outcome capped
+ended_more f g e n r w c = w ∙ rw (c, rounds_again) refl
 
 -- ---- a sheet
 
@@ -100,10 +76,14 @@ module _ (sheet : List ℕ) (e : Refusal) (S : Settles 100000 sheet (Err e)) whe
   pub refused_known : (1 ≤ refusal_number e) × (refusal_number e ≤ 4)
   refused_known = subst Known settles_refused (each-known sheet)
 
-pub adds_outcome : (f r : Figures) (sheet : List ℕ) (o : Outcome) → outcome sheet ≡ o
-    → (Room (figures_of f) → figures_of r ≡ with_outcome o (figures_of f)) → AddsSheet f sheet r
-adds_outcome f r sheet o e step sheets h m =
-    step (subst Room (sym m) (list-room sheets h))
-    ∙ ap (with_outcome o) m
-    ∙ ap (λ (x : Outcome). with_outcome x (figures_of' sheets)) (sym e)
-    ∙ sym (one-more-sheet sheets sheet)
+-- ---- the sheet counted
+
+pub counts_outcome : (f r : Figures) (sheet : List ℕ) (o : Outcome) → outcome sheet ≡ o → figures_of r ≡ capped (with_outcome o (figures_of f)) → CountsSheet f sheet r
+counts_outcome f r sheet o e c = rw e c
+
+-- what is counted so is counted as before, where there are not many sheets
+pub counts-adds : (f r : Figures) (sheet : List ℕ) → CountsSheet f sheet r → AddsSheet f sheet r
+unfolding season_rounds most_sheets top
+counts-adds f r sheet C sheets h m =
+    C ∙ rw m (ap capped (sym (one-more-sheet sheets sheet)))
+    ∙ never-capped (sheets ++ (sheet ∷ [])) (omega (arith, length-append sheets (sheet ∷ [])))

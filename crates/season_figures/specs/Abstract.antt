@@ -1,9 +1,9 @@
 -- What the code's figures mean. A primed name is the definitions'.
-use Rattle.std.specs.Prelude.{ℕ, suc, ◌*◌, ◌≤◌, ◌<◌, ◌≡◌, Option, None, Some, List, [], ◌∷◌, ◌++◌, length, get_or}
+use Rattle.std.specs.Prelude.{ℕ, suc, ◌<◌, ◌≡◌, Option, None, Some, List, [], ◌∷◌, ◌++◌, length, get_or}
 use Rattle.std.proofs.Math.Option.{Option as Option', none, some}
-use Rattle.season_rules.specs.Season.{Rounds as Rounds', Figures as Figures', one_more, figures_of as figures_of'}
+use Rattle.season_rules.specs.Season.{Rounds as Rounds', Figures as Figures', one_more, outcome, with_outcome, figures_of as figures_of'}
+use Rattle.season_rules.specs.Capped.{capped}
 use Rattle.season_rules.specs.Stream.{most_sheets}
-use Rattle.season_rules.specs.Claims.{count_in, sum_in}
 use Rattle.season_figures.specs.declared.figures.Rounds.{Rounds}
 use Rattle.season_figures.specs.declared.figures.Figures.{Figures}
 
@@ -26,15 +26,11 @@ figures_of f = record { sheets = f.sheets; refused = kinds f.refused; words = ki
 unfoldable pub with_word : Figures' → ℕ → Option' Rounds' → Figures'
 with_word f k r = record { sheets = suc f.sheets; refused = f.refused; words = one_more f.words k; rounds = r }
 
--- there is room for one more
-pub record Room (f : Figures') : Type 0 where
-  pub sheets : f.sheets < 1000000
-  pub refused : (k : ℕ) → 1 ≤ k → k ≤ 4 → f.refused k < 1000000
-  pub words : (k : ℕ) → 1 ≤ k → k ≤ 4 → f.words k < 1000000
-  pub count : count_in f.rounds < 1000000
-  pub sum : sum_in f.rounds < 100000 * 1000000
-
 -- the figures of any list of fewer than 1,000,000 sheets become those of the list with that sheet more
 abbrev pub AddsSheet : Figures → List ℕ → Figures → Type 0
 AddsSheet f sheet r =
     (sheets : List (List ℕ)) → length sheets < most_sheets → figures_of f ≡ figures_of' sheets → figures_of r ≡ figures_of' (sheets ++ (sheet ∷ []))
+
+-- one sheet more, by the definition, each count capped at the greatest number of 64 bits
+abbrev pub CountsSheet : Figures → List ℕ → Figures → Type 0
+CountsSheet f sheet r = figures_of r ≡ capped (with_outcome (outcome sheet) (figures_of f))

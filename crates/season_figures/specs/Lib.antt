@@ -1,2 +1,3 @@
 pub mod Abstract
+pub mod Promised
 pub mod Pieces

@@ -1,10 +1,11 @@
 // The figures, and one sheet more.
-ghost use Rattle.std.specs.Prelude.{◌≡◌, ◌+◌, ◌^◌, ◌≤◌, ◌<◌};
+ghost use Rattle.std.specs.Prelude.{◌≡◌, ◌≤◌};
 ghost use Rattle.refusals.specs.Refusals.{refusal_number};
 ghost use Rattle.engine.specs.Answers.{ending_of};
 ghost use Rattle.season_rules.specs.Season.{Refused, Ended, no_figures, place, one_more, with_rounds, with_outcome};
-ghost use Rattle.season_rules.specs.Claims.{count_in, sum_in};
-ghost use Rattle.season_figures.specs.Abstract.{kinds, rounds_of, figures_of, Room, with_word, AddsSheet};
+ghost use Rattle.season_rules.specs.Capped.{capped_rounds, capped_kinds, capped};
+ghost use Rattle.season_figures.specs.Abstract.{kinds, rounds_of, figures_of, with_word, AddsSheet, CountsSheet};
+ghost use Rattle.season_figures.specs.Promised.{OutcomeTells, SheetTells};
 
 use dock_text::settle;
 use engine::Ending;
@@ -31,19 +32,17 @@ pub struct Figures {
 // ---- counting
 
 // One more of kind k, 1 to 4: the number of a refusal or the place of a word, as the definitions number both. No count goes beyond the largest number of 64 bits.
-#[tactic(auto, using(crate::proofs::Counting::kinds_behind, crate::proofs::Counting::counts_one))]
 fn counted(mut four: [u64; 4], k: usize) -> [u64; 4]
     requires { (1 ≤ k) × (k ≤ 4) }
-    ensures { kinds four k < 1000000 → kinds result ≡ one_more (kinds four) k }
+    ensures { kinds result ≡ capped_kinds (one_more (kinds four) k) }
 {
     four[k - 1] = four[k - 1].saturating_add(1);
     four
 }
 
 // The rounds of one sheet more.
-#[tactic(auto, using(crate::proofs::Counting::first_rounds, crate::proofs::Counting::more_rounds))]
 fn with_rounds(rounds: Option<Rounds>, n: u64) -> Option<Rounds>
-    ensures { count_in (rounds_of rounds) < 1000000 → n + sum_in (rounds_of rounds) < 2 ^ 64 → rounds_of result ≡ with_rounds n (rounds_of rounds) }
+    ensures { rounds_of result ≡ capped_rounds (with_rounds n (rounds_of rounds)) }
 {
     let more = match rounds {
         None => Rounds {
@@ -94,10 +93,9 @@ impl Figures {
     }
 
     // One more that is refused, with one of the first four numbers.
-    #[tactic(auto, using(crate::proofs::Adding::refused_more))]
     fn with_refused(self, refusal: Refusal) -> Figures
         requires { refusal_number refusal ≤ 4 }
-        ensures { Room (figures_of self) → figures_of result ≡ with_outcome (Refused (refusal_number refusal)) (figures_of self) }
+        ensures { figures_of result ≡ capped (with_outcome (Refused (refusal_number refusal)) (figures_of self)) }
     {
         Figures {
             sheets: self.sheets.saturating_add(1),
@@ -107,10 +105,9 @@ impl Figures {
     }
 
     // One more that ended so, which leaves these rounds.
-    #[tactic(auto, using(crate::proofs::Adding::word_more))]
     fn with_word(self, e: Ending, rounds: Option<Rounds>) -> Figures
         requires { 1 ≤ place (ending_of e) }
-        ensures { Room (figures_of self) → figures_of result ≡ with_word (figures_of self) (place (ending_of e)) (rounds_of rounds) }
+        ensures { figures_of result ≡ capped (with_word (figures_of self) (place (ending_of e)) (rounds_of rounds)) }
     {
         Figures {
             sheets: self.sheets.saturating_add(1),
@@ -122,7 +119,8 @@ impl Figures {
 
     // One more that ended. No start of a sheet is out of shape.
     fn with_ended(self, e: Ending, n: u64) -> Figures
-        ensures { Room (figures_of self) → 1 ≤ place (ending_of e) → n ≤ 100000 → figures_of result ≡ with_outcome (Ended (ending_of e) n) (figures_of self) }
+        requires { 1 ≤ place (ending_of e) }
+        ensures { figures_of result ≡ capped (with_outcome (Ended (ending_of e) n) (figures_of self)) }
     {
         match e {
             Ending::None | Ending::Plan => self.with_word(e, with_rounds(self.rounds, n)),
@@ -132,9 +130,11 @@ impl Figures {
     }
 
     // The sheet is started by rule 1 and run with 100,000 rounds, and what it comes to is counted.
-    #[tactic(auto, using(crate::proofs::Adding::settles_ended, crate::proofs::Adding::settles_refused, crate::proofs::Adding::ended_known, crate::proofs::Adding::refused_known, crate::proofs::Adding::adds_outcome))]
     pub fn with_sheet(self, sheet: &[u8]) -> Figures
-        ensures { AddsSheet self sheet.now result }
+        ensures capped { CountsSheet self sheet.now result }
+        ensures adds { AddsSheet self sheet.now result }
+        ensures promised { OutcomeTells sheet.now }
+        ensures tells { SheetTells self sheet.now result }
     {
         match settle(sheet, 100000) {
             Ok(ran) => self.with_ended(ran.ending, ran.rounds),

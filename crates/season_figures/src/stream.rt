@@ -1,9 +1,11 @@
 // A stream of sheets, each behind its length in two bytes: piece by piece, as it is read, and as a whole.
 ghost use Rattle.std.specs.Prelude.{◌≡◌};
 ghost use Rattle.season_rules.specs.Season.{no_figures};
-ghost use Rattle.season_rules.specs.Stream.{season as season_by};
+ghost use Rattle.season_rules.specs.Stream.{most_sheets, split, season as season_by};
+ghost use Rattle.base.specs.Lists.{All};
 ghost use Rattle.season_figures.specs.Abstract.{figures_of};
-ghost use Rattle.season_figures.specs.Pieces.{said, is_piece, cut_of, is_over, season_of, Steps, Advances};
+ghost use Rattle.season_figures.specs.Pieces.{said, is_piece, cut_of, is_over, reading_of, season_of, Steps, Advances};
+ghost use Rattle.season_figures.specs.Promised.{OutcomeTells, SheetsTell};
 
 use crate::figures::Figures;
 
@@ -100,7 +102,10 @@ impl Season {
 // The stream as a whole.
 #[tactic(auto, using(crate::proofs::Reading::here_begins, crate::proofs::Reading::here_next))]
 pub fn read_stream(stream: &[u8]) -> Season
-    ensures { season_of result ≡ season_by stream.now }
+    ensures season { season_of result ≡ season_by stream.now }
+    ensures reading { result.reading ≡ reading_of (split most_sheets stream.now) }
+    ensures promised { All OutcomeTells (split most_sheets stream.now).sheets }
+    ensures tells { SheetsTell (split most_sheets stream.now).sheets result.figures }
 {
     let mut season = Season::begin();
     let mut rest = stream;

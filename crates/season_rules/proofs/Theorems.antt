@@ -1,10 +1,11 @@
 -- The claims about a season's figures.
-use Rattle.season_rules.specs.Claims.{EachKnown, AddUp, AnyOrder, StreamsInAnyOrder, OneMoreSheet, MeanOver, SumBound, ReadsStream, ReadsNoMore}
+use Rattle.season_rules.specs.Claims.{EachKnown, AddUp, AnyOrder, StreamsInAnyOrder, OneMoreSheet, MeanOver, SumBound, CappedInTurn, NeverCapped, ReadsStream, ReadsNoMore}
 use Rattle.season_rules.specs.Season.{season_rounds}
 use Rattle.season_rules.specs.Stream.{split}
 use Rattle.season_rules.proofs.Outcomes as outcomes
 use Rattle.season_rules.proofs.Order as order
 use Rattle.season_rules.proofs.Bounds.{adds}
+use Rattle.season_rules.proofs.Capped as caps
 use Rattle.season_rules.proofs.Streams as streams
 
 pub each-known : EachKnown
@@ -28,6 +29,12 @@ mean-over sheets = (adds sheets).mean
 pub sum_bound : SumBound
 unfolding season_rounds
 sum_bound sheets = (adds sheets).sum
+
+pub capped-in-turn : CappedInTurn
+capped-in-turn = caps.capped-in-turn
+
+pub never-capped : NeverCapped
+never-capped = caps.never-capped
 
 pub reads-stream : ReadsStream
 reads-stream = streams.reads-stream

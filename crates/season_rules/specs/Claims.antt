@@ -1,8 +1,10 @@
--- The claims: what a sheet comes to; refused and words add up to the sheets; the order of the sheets does not matter; which sheets the rounds are of; what is read of a stream.
+-- The claims: what a sheet comes to; refused and words add up to the sheets; the order of the sheets does not matter; which sheets the rounds are of; what 64 bits hold of the figures; what is read of a stream.
 use Rattle.std.specs.Prelude.{ℕ, ◌+◌, ◌*◌, ◌≤◌, ◌<◌, ◌≡◌, false, List, [], ◌∷◌, ◌++◌, ltb, length}
 use Rattle.std.proofs.Math.Option.{Option, none, some}
 use Rattle.problem.specs.Writing.{two_bytes}
+use Rattle.agent_rules.specs.Counts.{top}
 use Rattle.season_rules.specs.Season.{season_rounds, Outcome, Refused, Ended, outcome, Rounds, place, with_outcome, figures_of}
+use Rattle.season_rules.specs.Capped.{capped}
 use Rattle.season_rules.specs.Stream.{is_whole, split}
 
 -- "refused with a number, 1 to 4", or one of the four words and no more rounds than are allowed
@@ -59,6 +61,16 @@ MeanOver = (sheets : List (List ℕ)) → count_in (figures_of sheets).rounds �
 -- .. and never many
 abbrev pub SumBound : Type 0
 SumBound = (sheets : List (List ℕ)) → sum_in (figures_of sheets).rounds ≤ season_rounds * length sheets
+
+-- ---- numbers of 64 bits
+
+-- counted one by one and capped each time, sheets come to the same as counted together and capped once, however many they are
+abbrev pub CappedInTurn : Type 0
+CappedInTurn = (sheets : List (List ℕ)) (sheet : List ℕ) → capped (with_outcome (outcome sheet) (capped (figures_of sheets))) ≡ capped (figures_of (sheets ++ (sheet ∷ [])))
+
+-- the figures of any list that is not beyond all measure are those without a cap
+abbrev pub NeverCapped : Type 0
+NeverCapped = (sheets : List (List ℕ)) → season_rounds * length sheets ≤ top → capped (figures_of sheets) ≡ figures_of sheets
 
 -- ---- streams
 

@@ -4,11 +4,12 @@
 ghost use Rattle.std.specs.Prelude.{◌≡◌, ◌+◌, ◌≤◌, length};
 ghost use Rattle.std.proofs.Math.Option.{some};
 ghost use Rattle.io.specs.Counts.{IsPrefixLen};
+ghost use Rattle.lent.specs.Abstract.{over};
 ghost use Rattle.lent.specs.Puts.{Room, Adds};
 ghost use Rattle.season_rules.specs.Stream.{season as season_by};
 ghost use Rattle.season_figures.specs.Abstract.{kinds, rounds_of, rounds_from};
 ghost use Rattle.season_figures.specs.Pieces.{season_of};
-ghost use Rattle.season_text.specs.Text.{figure, four_line, mean_line, rounds_lines, Prints};
+ghost use Rattle.season_text.specs.Text.{figure, four_line, mean_line, rounds_lines, season_text, Prints};
 
 use lent::cursor::Cursor;
 use season_figures::figures::Rounds;
@@ -72,9 +73,10 @@ fn append_rounds(out: &mut Cursor<'_>, rounds: Option<Rounds>)
     }
 }
 
-// The text of a season, and how many bytes it has.
+// The text of a season, and how many bytes it has; those past it stay.
 pub fn text(s: Season, out: &mut [u8; 512]) -> usize
     ensures prints { Prints (season_of s) out.new result }
+    ensures others_stay { out.new ≡ over 0 (season_text (season_of s)) out.old }
     ensures prefix_len { IsPrefixLen result out.new }
 {
     let f = s.figures;
@@ -87,9 +89,10 @@ pub fn text(s: Season, out: &mut [u8; 512]) -> usize
     next.at
 }
 
-// The text of a stream of bytes.
+// The text of a stream of bytes, likewise.
 pub fn stream_text(stream: &[u8], out: &mut [u8; 512]) -> usize
     ensures prints { Prints (season_by stream.now) out.new result }
+    ensures others_stay { out.new ≡ over 0 (season_text (season_by stream.now)) out.old }
     ensures prefix_len { IsPrefixLen result out.new }
 {
     text(read_stream(stream), out)

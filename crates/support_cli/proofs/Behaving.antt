@@ -14,20 +14,23 @@ takes_nothing given = record {
   over = λ e. (e, refl)
 }
 
-module _ (given given' : InputState) (out out' err err' : OutputState) (code : ℕ) where
-  pub behaves_blind : (answer : List ℕ → Answer) (a : Answer) → ((s : List ℕ) → answer s ≡ a) → Answered a out out' err err' code
-      → Behaves 0 answer given given out out' err err' code
-  behaves_blind answer a same h = record {
-    input = [];
-    takes = takes_nothing given;
-    answered = λ whole e. rw (same whole) h
-  }
-
-  pub behaves_filled : (most : ℕ) (answer : List ℕ → Answer) (buffer : List ℕ) (count : ℕ) → Fills most buffer count given given'
+module _ {given given' : InputState} {out out' err err' : OutputState} {code : ℕ} where
+  pub behaves_filled : (room most : ℕ) (answer : List ℕ → Answer) (buffer : List ℕ) (count : ℕ) → room ≡ most → Fills room buffer count given given'
       → ((whole : List ℕ) → answer (take most whole) ≡ answer whole) → Answered (answer (take count buffer)) out out' err err' code
       → Behaves most answer given given' out out' err err' code
-  behaves_filled most answer buffer count f cut h = record {
-    input = take count buffer;
-    takes = f.takes;
-    answered = λ whole e. rw (← cut whole, e) h
-  }
+  behaves_filled room most answer buffer count same f cut h =
+      let filled : Fills most buffer count given given' = rw (← same) f in
+      record {
+        input = take count buffer;
+        takes = filled.takes;
+        answered = λ whole e. rw (← cut whole, e) h
+      }
+
+  pub behaves_so : (most most' : ℕ) (answer answer' : List ℕ → Answer) → most' ≡ most → ((s : List ℕ) → answer' s ≡ answer s)
+      → Behaves most answer given given' out out' err err' code → Behaves most' answer' given given' out out' err err' code
+  behaves_so most most' answer answer' e same b = rw e (record { input = b.input; takes = b.takes; answered = λ whole h. rw (same whole) (b.answered whole h) })
+
+module _ {given : InputState} {out out' err err' : OutputState} {code : ℕ} where
+  pub behaves_blind : (most : ℕ) (answer : List ℕ → Answer) (a : Answer) → most ≡ 0 → ((s : List ℕ) → answer s ≡ a) → Answered a out out' err err' code
+      → Behaves most answer given given out out' err err' code
+  behaves_blind most answer a e same h = rw e (record { input = []; takes = takes_nothing given; answered = λ whole f. rw (same whole) h })

@@ -2,7 +2,7 @@
 ghost use Rattle.std.specs.Prelude.{◌≡◌, ◌++◌, take};
 ghost use Rattle.io.specs.Counts.{IsPrefixLen};
 ghost use Rattle.refusals.specs.Refusals.{refusal_number};
-ghost use Rattle.lent.specs.Abstract.{written_of, InBuffer};
+ghost use Rattle.lent.specs.Abstract.{written_of};
 ghost use Rattle.text.specs.Text.{newline, line_of};
 ghost use Rattle.support_cli.specs.Streams.{output_of, Puts};
 ghost use Rattle.support_cli.specs.Answers.{status_code, status_by, failure_line, refused_word, prints, tells, says, says_refused, hands_over, Answered};
@@ -101,18 +101,18 @@ pub fn refuse<W: Write, E: Write>(
     tell(output, errors, &line[..count], Status::Refused)
 }
 
-/// Ends a program that has written bytes into a lent buffer: they are its answer, or its refusal is.
+/// Ends a program that has written bytes into a lent buffer: they are its answer, or its refusal is. No writer says that it has written more bytes than the
+/// buffer has; where one did, all of the buffer is the answer.
 pub fn hand_over<W: Write, E: Write>(
     output: &mut Output<W>,
     errors: &mut Output<E>,
     length: Result<usize, Refusal>,
     buffer: &[u8],
 ) -> Status
-    requires { InBuffer length buffer.now }
     ensures { Answered (hands_over (written_of length buffer.now)) (output_of W.contents output.old) (output_of W.contents output.new) (output_of E.contents errors.old) (output_of E.contents errors.new) (status_code result) }
 {
     match length {
-        Ok(n) => print(output, errors, &buffer[..n], Status::Done),
+        Ok(n) => print(output, errors, &buffer[..n.min(buffer.len())], Status::Done),
         Err(refusal) => refuse(output, errors, refusal),
     }
 }

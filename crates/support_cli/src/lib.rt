@@ -18,4 +18,4 @@ pub use launching::launch;
 pub use output::Output;
 pub use status::Status;
 pub use store::{Store, SystemFiles};
-pub use words::words_of;
+pub use words::{first_word, words_of};

@@ -1,5 +1,5 @@
 // The words of the command line.
-ghost use Rattle.std.specs.Prelude.{◌≤◌, All, IfOk, IfSome, vec_len};
+ghost use Rattle.std.specs.Prelude.{◌≡◌, ◌≤◌, [], ◌∷◌, All, IfOk, MatchOption, map, vec_items, vec_len};
 
 use std::alloc::{AllocError, Global};
 use std::env::FillError;
@@ -38,4 +38,12 @@ pub fn words_of(rt: &impl Env, alloc: Global) -> Result<Vec<Vec<u8>>, AllocError
         words.push(copied(rt, i, alloc)?)?;
     }
     Ok(words)
+}
+
+/// The first word, and those behind it. `None` where there is none.
+pub fn first_word(words: &[Vec<u8>]) -> Option<(&[u8], &[Vec<u8>])>
+    ensures { MatchOption result (map vec_items words.now ≡ []) (λ p. map vec_items words.now ≡ p.0.now ∷ map vec_items p.1.now) }
+{
+    let (word, others) = words.split_first()?;
+    Some((word.as_slice(), others))
 }

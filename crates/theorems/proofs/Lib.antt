@@ -31,4 +31,5 @@ pub mod Jams
 pub mod Deeds
 pub mod Figures
 pub mod Balance
+pub mod Told
 pub mod Theorems

@@ -1,6 +1,6 @@
 -- A run, and a list of calls, leave what their tries leave when they are delivered one by one, and a run saw them answered so: every round
 -- follows its tries, and a run's rounds follow one another.
-use mathlib.Core.Path.{◌≡◌, refl, sym}
+use mathlib.Core.Path.{◌≡◌, refl, sym, ap, ◌∙◌}
 use mathlib.Core.List.{List, [], ◌∷◌, ◌++◌, map, append-nil, append_assoc}
 use Prim.Native.Nat.{ℕ}
 use Rattle.protocol.specs.Network.{Network}
@@ -21,7 +21,7 @@ use Rattle.theorems.specs.Calls.{
   replay,
 }
 use Rattle.theorems.specs.Claims.{Replay}
-use Rattle.theorems.proofs.Tries.{replay-append, Follows, follows-none, follows-append}
+use Rattle.theorems.proofs.Tries.{replay-problem, replay-append, Follows, follows-none, follows-append}
 use Rattle.shape_laws.proofs.Runs.{round_of, kept-by-rounds}
 use Rattle.theorems.proofs.Swept.{round-swept}
 
@@ -58,6 +58,10 @@ run-follows k w =
 
 pub run-replays : Replay
 run-replays k w = record { leaves = (run-follows k w).leaves; refuses = (run-follows k w).sees }
+
+-- .. of the same problem
+pub run-problem : (k : ℕ) (w : Network) → (run k w).network.problem ≡ w.problem
+run-problem k w = ap (λ (v : Network). v.problem) (sym (run-follows k w).leaves) ∙ replay-problem (tries_of (run k w).rounds) w
 
 -- ---- a list of calls
 

@@ -20,6 +20,8 @@ use Rattle.theorems.specs.Claims.{
   RunsMark,
   RunBound,
   RunsCount,
+  RunTells,
+  DeliveryTells,
   AskedOnce,
   StaysInShape,
   CountsExact,
@@ -49,6 +51,7 @@ use Rattle.theorems.proofs.RunRounds.{run-counts}
 use Rattle.theorems.proofs.Figures.{counts-exact as exact, counts-capped as capped, counts-never-fall as never-fall}
 use Rattle.theorems.proofs.Balance.{sent-is-received-and-waiting as balance, sent-is-received-and-waiting-of as balance-of}
 use Rattle.theorems.proofs.CallMarking.{marking, marking-lines, marking-full, marking-made}
+use Rattle.theorems.proofs.Told.{run_tells, delivery_tells}
 use Rattle.theorems.proofs.Jams.{jammed-exactly as jammed, none-after-nothing as none_after, rounds-used as used}
 
 -- Demand 2: a network reached with nothing waiting and no verdict breaks no ban.
@@ -86,6 +89,15 @@ run-bound rule is-rule p r calls =
 -- Demand 3: a run returns exactly how many of its rounds were full.
 pub runs-count : EveryProblem RunsCount
 runs-count = run-counts
+
+-- The word, the full rounds and the slots that a run returns tell of the problem,
+pub run-tells : EveryProblem RunTells
+run-tells rule is-rule p r =
+    run_tells rule p (sound-at-rest rule is-rule p r) (complete-verdict rule is-rule p r) (run-bound rule is-rule p r)
+
+-- .. and so does the network that a delivery leaves.
+pub delivery-tells : EveryProblem DeliveryTells
+delivery-tells rule is-rule p r = delivery_tells rule p (sound-at-rest rule is-rule p r) (complete-verdict rule is-rule p r)
 
 -- A link is asked for once, under a verdict too.
 pub asked-once : EveryProblem AskedOnce
@@ -138,6 +150,12 @@ sheet-runs-count = every-sheet RunsCount runs-count
 
 pub sheet-runs-mark : EverySheet RunsMark
 sheet-runs-mark = every-sheet RunsMark runs-mark
+
+pub sheet-run-tells : EverySheet RunTells
+sheet-run-tells = every-sheet RunTells run-tells
+
+pub sheet-delivery-tells : EverySheet DeliveryTells
+sheet-delivery-tells = every-sheet DeliveryTells delivery-tells
 
 pub sheet-asked-once : EverySheet AskedOnce
 sheet-asked-once = every-sheet AskedOnce asked-once

@@ -33,6 +33,11 @@ unfolding replay
 replay-rule [] w = refl
 replay-rule (l ∷ ls) w = replay-rule ls (attempt_of l w).network ∙ (given_stays l w).1
 
+pub replay-problem : (ls : List Line) (w : Network) → (replay ls w).problem ≡ w.problem
+unfolding replay
+replay-problem [] w = refl
+replay-problem (l ∷ ls) w = replay-problem ls (attempt_of l w).network ∙ (given_stays l w).0
+
 answers-append : (a b : List Line) (w : Network) → answers (a ++ b) w ≡ answers a w ++ answers b (replay a w)
 unfolding answers replay
 answers-append [] b w = refl

@@ -8,7 +8,7 @@ use Rattle.agent_rules.specs.Counts.{Sort, number, raised}
 use Rattle.protocol.specs.Network.{Network, start, is_rule}
 use Rattle.protocol.specs.Shape.{in_shape}
 use Rattle.protocol.specs.Delivery.{deliver}
-use Rattle.protocol.specs.Run.{idle, Round, Jammed, Open, allowed, run}
+use Rattle.protocol.specs.Run.{idle, Ending, None, Plan, Jammed, Open, Round, allowed, run}
 use Rattle.theorems.specs.Calls.{
   Call,
   tries_of,
@@ -94,6 +94,35 @@ AskedOnce rule p =
     (calls : List Call) (x y : ℕ)
     → OneLink ((left_by_all calls (start rule p)).channel y x)
     × (((left_by_all calls (start rule p)).agents x).informs y ≡ true → All (Not IsAddLink) ((left_by_all calls (start rule p)).channel y x))
+
+-- ---- what an answer tells of the problem
+
+-- the slots that the agents hold
+unfoldable pub slots_of : Network → ℕ → ℕ
+slots_of w i = (w.agents i).value
+
+-- The word, the full rounds and the slots of one answer, where the runs before it returned so many full rounds: `plan` tells that the slots obey all
+-- bans, `none` that no choice of slots does, and all full rounds together obey the bound.
+pub record Tells (p : Problem) (before : ℕ) (word : Ending) (made : ℕ) (slots : ℕ → ℕ) : Type 0 where
+  pub plan : word ≡ Plan → Obeys p slots
+  pub none : word ≡ None → (σ : ℕ → ℕ) → Obeys p σ → ⊥
+  pub few : before + made ≤ most_rounds p
+
+-- of a run, behind any calls
+abbrev pub RunTells : ℕ → Problem → Type 0
+RunTells rule p =
+    (calls : List Call) (k : ℕ)
+    → Tells p (made_by_all calls (start rule p)) (run k (left_by_all calls (start rule p))).ending (run k (left_by_all calls (start rule p))).made
+    (slots_of (run k (left_by_all calls (start rule p))).network)
+
+-- A network by itself: at rest with no verdict its slots obey all bans, and under a verdict no choice of slots does.
+pub record StandsFor (p : Problem) (w : Network) : Type 0 where
+  pub rest : w.verdict ≡ false → idle w ≡ true → Obeys p (slots_of w)
+  pub verdict : w.verdict ≡ true → (σ : ℕ → ℕ) → Obeys p σ → ⊥
+
+-- of what a delivery leaves, behind any calls
+abbrev pub DeliveryTells : ℕ → Problem → Type 0
+DeliveryTells rule p = (calls : List Call) (i j : ℕ) → StandsFor p (deliver (left_by_all calls (start rule p)) i j).network
 
 -- ---- figures. docs/RULES.md, 'Figures on every scanner'
 

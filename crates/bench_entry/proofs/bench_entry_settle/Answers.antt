@@ -8,7 +8,7 @@ pub overflow_add-result-in-Ok : goal.overflow_add-result-in-Ok
 overflow_add-result-in-Ok c = omega (arith, c.values_of.ensures.1, c.digit_of.ensures, digit-few (ending_of c.run-ran.result.ending))
 
 pub returns-in-Ok : goal.returns-in-Ok
-returns-in-Ok c = rw c.digit_of.ensures (run-given _ _ c.in-Ok.network c.run-ran.result _ c.in-Ok.ensures c.run-ran.ensures c.values_of.ensures.0)
+returns-in-Ok c = rw c.digit_of.ensures (run-given _ _ c.in-Ok.network c.run-ran.result _ c.in-Ok.ensures c.run-ran.ensures.runs_as c.values_of.ensures.0)
 
 pub returns-in-Err : goal.returns-in-Err
 returns-in-Err c = rw (c.from.ensures, c.number.ensures) (refused-given _ _ c.in-Err.refusal c.in-Err.ensures)

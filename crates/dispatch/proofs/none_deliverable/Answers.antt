@@ -20,9 +20,9 @@ unfolding number_for ending_of
 returns-in-Plan c =
     let a = c.run in
     let e : a.result.ending ≡ Plan = c.in-Plan.is in
-    sym (ap (λ (x : Ending). number_for (ending_of x)) e) ∙ ap number_for a.ensures.ending ∙ nothing_for _ c.requires
+    sym (ap (λ (x : Ending). number_for (ending_of x)) e) ∙ ap number_for a.ensures.runs_as.ending ∙ nothing_for _ c.requires
 
 pub returns-in_default : goal.returns-in_default
 returns-in_default c =
     let a = c.run in
-    not-plan _ c.in_default.not-Plan ∙ ap number_for a.ensures.ending ∙ nothing_for _ c.requires
+    not-plan _ c.in_default.not-Plan ∙ ap number_for a.ensures.runs_as.ending ∙ nothing_for _ c.requires

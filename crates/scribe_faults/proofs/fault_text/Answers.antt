@@ -1,5 +1,5 @@
 -- The parts of the line one behind the other. Assumes nothing.
-use Rattle.std.proofs.Common.{refl, arith, rules}
+use Rattle.std.proofs.Common.{refl, arith}
 use Rattle.lent.proofs.Puts.{adds_then}
 use Rattle.text.specs.Text.{newline}
 use Rattle.text.proofs.Appending.{from-start}
@@ -11,7 +11,9 @@ unfolding fault_text line_word colon_word newline
 returns c =
     let line = c.append_number.ensures in
     let words = c.append_fault.ensures in
-    let all = adds_then c.put_all.ensures (adds_then line.text (adds_then c.put_all-2.ensures (adds_then words.text c.put_all-3.ensures))) in (
-      search (rules, from-start refl all, all.same),
-      omega (arith, c.put_all.ensures.behind, line.text.behind, line.short, c.put_all-2.ensures.behind, words.text.behind, words.short, c.put_all-3.ensures.behind),
-    )
+    let all = adds_then c.put_all.ensures (adds_then line.text (adds_then c.put_all-2.ensures (adds_then words.text c.put_all-3.ensures))) in
+    record {
+      appends = from-start refl all;
+      others_stay = all.put;
+      short = omega (arith, c.put_all.ensures.behind, line.text.behind, line.short, c.put_all-2.ensures.behind, words.text.behind, words.short, c.put_all-3.ensures.behind);
+    }

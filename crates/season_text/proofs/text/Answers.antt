@@ -1,5 +1,6 @@
 -- The eight lines one behind the other. Assumes nothing.
 use mathlib.Core.Path.{refl, ap, ◌∙◌}
+use Rattle.std.proofs.Common.{rules}
 use Rattle.std.specs.Int.{from_bool}
 use Rattle.lent.proofs.Puts.{adds_then}
 use Rattle.text.proofs.Appending.{from-start}
@@ -9,9 +10,9 @@ use Rattle.season_text.specs.Text.{sheets, refused, words, cut, season_text}
 use Rattle.season_text.proofs.Lines.{one-if, prints}
 use Rattle.season_text.proofs.text.Goals as goal
 
-pub returns-clause-prints : goal.returns-clause-prints
+pub returns : goal.returns
 unfolding figures_of season_of sheets refused words cut season_text
-returns-clause-prints c =
+returns c =
     let last = adds_then (rw (c.from.ensures ∙ ap from_bool c.is_cut.ensures ∙ one-if _) at c.append_line-2.ensures.text) c.append_rounds.ensures in
-    prints _
-    (from-start refl (adds_then c.append_line.ensures.text (adds_then c.append_four.ensures.text (adds_then c.append_four-2.ensures.text last))))
+    let all = adds_then c.append_line.ensures.text (adds_then c.append_four.ensures.text (adds_then c.append_four-2.ensures.text last)) in
+    record { prints = prints _ (from-start refl all); others_stay = all.put; prefix_len = search rules }

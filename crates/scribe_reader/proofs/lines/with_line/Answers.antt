@@ -10,17 +10,17 @@ returns-in_default c = says_nothing _ _ c.bare.ensures c.args.draft.now c.in_def
 
 pub returns-then-eq : goal.returns-then-eq
 unfolding slots_word
-returns-then-eq c = c.with_slots.ensures ∙ says-slots _ _ c.bare.ensures (draft_in c.args.draft.now) _ _ c.in-Some.ensures.0
+returns-then-eq c = c.with_slots.ensures.taken ∙ says-slots _ _ c.bare.ensures (draft_in c.args.draft.now) _ _ c.in-Some.ensures.0
     (compared _ c.as_slice.ensures c.eq.ensures c.if-eq.true)
 
 pub returns-then-eq-2 : goal.returns-then-eq-2
 unfolding slots_word ban_word
-returns-then-eq-2 c = c.with_ban.ensures ∙ says-ban _ _ c.bare.ensures (draft_in c.args.draft.now) _ _ c.in-Some.ensures.0
+returns-then-eq-2 c = c.with_ban.ensures.taken ∙ says-ban _ _ c.bare.ensures (draft_in c.args.draft.now) _ _ c.in-Some.ensures.0
     (compared _ c.as_slice.ensures c.eq.ensures c.if-eq.false) (compared _ c.as_slice-else-eq.ensures c.eq-else-eq.ensures c.if-eq-2.true)
 
 pub returns-then-eq-3 : goal.returns-then-eq-3
 unfolding slots_word ban_word gap_word
-returns-then-eq-3 c = c.with_gap.ensures ∙ says-gap _ _ c.bare.ensures (draft_in c.args.draft.now) _ _ c.in-Some.ensures.0
+returns-then-eq-3 c = c.with_gap.ensures.taken ∙ says-gap _ _ c.bare.ensures (draft_in c.args.draft.now) _ _ c.in-Some.ensures.0
     (compared _ c.as_slice.ensures c.eq.ensures c.if-eq.false) (compared _ c.as_slice-else-eq.ensures c.eq-else-eq.ensures c.if-eq-2.false) (compared _ c.as_slice-else-eq-2.ensures c.eq-else-eq-2.ensures c.if-eq-3.true)
 
 pub returns-else-eq-3 : goal.returns-else-eq-3

@@ -1,11 +1,19 @@
 -- Piece by piece, what is read so far and what is left are the season of the stream. Assumes nothing.
 use mathlib.Core.Path.{sym, ◌∙◌}
 use native.Mathlib.Omega.{arith}
-use Rattle.season_figures.proofs.Reading.{over_season, last_season}
+use Rattle.season_figures.proofs.Promised.{all-tell}
+use Rattle.season_figures.proofs.Reading.{over_season, last_season, over_reading, last_reading, season_tells}
 use Rattle.season_figures.proofs.stream.read_stream.Goals as goal
 
 pub returns-after-loop : goal.returns-after-loop
-returns-after-loop c = last_season _ _ _ _ c.loop.invariant (omega arith)
+returns-after-loop c =
+    let H = c.loop.invariant in
+    let e = last_season _ _ _ _ H (omega arith) in
+    record { season = e; reading = last_reading _ _ _ _ H (omega arith); promised = all-tell _; tells = season_tells _ _ e }
 
 pub returns-then-is_over : goal.returns-then-is_over
-returns-then-is_over c = over_season _ _ _ _ c.loop.invariant (sym c.is_over.ensures ∙ c.if-is_over.true)
+returns-then-is_over c =
+    let H = c.loop.invariant in
+    let t = sym c.is_over.ensures ∙ c.if-is_over.true in
+    let e = over_season _ _ _ _ H t in
+    record { season = e; reading = over_reading _ _ _ _ H t; promised = all-tell _; tells = season_tells _ _ e }

@@ -16,26 +16,26 @@ use Rattle.scribe_drafts.proofs.Judging.{passes, stops-at, passed, need-right, a
 use Rattle.scribe_drafts.proofs.Taking.{slots-unclear, slots-count, slots-sized, slots-odd, slots-wrong, slots-next}
 use Rattle.scribe_drafts.proofs.draft.Draft.with_slots.Goals as goal
 
-pub returns-in_err-slots : goal.returns-in_err-slots
+pub returns-in_err-slots-clause-taken : goal.returns-in_err-slots-clause-taken
 unfolding taken_of judged
-returns-in_err-slots c =
+returns-in_err-slots-clause-taken c =
     let p = err_from_is_err_and c.from_residual.result c.from_residual.ensures.1 in
     let n = c.in_err-slots.ensures in
     rw (p.1, p.2)
     (ap (λ f. Wrong (fault_of f)) (absent _ _ _ n.ok_part n.value)
     ∙ slots-unclear (draft_in c.args.self.now) _ (sym n.ok_part ∙ c.slots_in.ensures))
 
-pub returns-in_err-need : goal.returns-in_err-need
+pub returns-in_err-need-clause-taken : goal.returns-in_err-need-clause-taken
 unfolding taken_of judged slots_tests
-returns-in_err-need c =
+returns-in_err-need-clause-taken c =
     let p = err_from_is_err_and c.from_residual-in_err-need.result c.from_residual-in_err-need.ensures.1 in
     let words = words_in c.args.args.now in
     let S = sym c.in_ok-slots.ensures.ok_part ∙ c.slots_in.ensures in
     rw (p.1, p.2) (slots-wrong words c.in_ok-slots.slots S (draft_in c.args.self.now) (stops-at _ (ap not c.begun.ensures) refl (sym c.need.ensures ∙ c.in_err-need.was)))
 
-pub returns-in_err-need-2 : goal.returns-in_err-need-2
+pub returns-in_err-need-2-clause-taken : goal.returns-in_err-need-2-clause-taken
 unfolding taken_of judged slots_tests max_agents
-returns-in_err-need-2 c =
+returns-in_err-need-2-clause-taken c =
     let p = err_from_is_err_and c.from_residual-in_err-need-2.result c.from_residual-in_err-need-2.ensures.1 in
     let words = words_in c.args.args.now in
     let S = sym c.in_ok-slots.ensures.ok_part ∙ c.slots_in.ensures in
@@ -43,9 +43,9 @@ returns-in_err-need-2 c =
     let few = c.within.ensures ∙ ap (within 12) (slots-count words c.in_ok-slots.slots S) in
     rw (p.1, p.2) (slots-wrong words c.in_ok-slots.slots S (draft_in c.args.self.now) (passes _ fresh (sym c.need.ensures ∙ c.in_ok-need.was) (stops-at _ few refl (sym c.need-2.ensures ∙ c.in_err-need-2.was))))
 
-pub returns-in_err-domains : goal.returns-in_err-domains
+pub returns-in_err-domains-clause-taken : goal.returns-in_err-domains-clause-taken
 unfolding taken_of judged slots_tests max_agents max_domain needed
-returns-in_err-domains c =
+returns-in_err-domains-clause-taken c =
     let p = err_from_is_err_and c.from_residual-in_err-domains.result c.from_residual-in_err-domains.ensures.1 in
     let words = words_in c.args.args.now in
     let S = sym c.in_ok-slots.ensures.ok_part ∙ c.slots_in.ensures in
@@ -60,9 +60,9 @@ pub overflow_cast-slots : goal.overflow_cast-slots
 overflow_cast-slots c =
     let w = sym c.within.ensures ∙ need-right _ _ (sym c.need-2.ensures ∙ c.in_ok-need-2.was) in omega (arith, within-true 12 _ w)
 
-pub returns : goal.returns
+pub returns-clause-taken : goal.returns-clause-taken
 unfolding taken_of judged slots_tests max_agents max_domain needed draft_in problem_in with_slots
-returns c =
+returns-clause-taken c =
     let words = words_in c.args.args.now in
     let S = sym c.in_ok-slots.ensures.ok_part ∙ c.slots_in.ensures in
     let fresh = ap not c.begun.ensures in
