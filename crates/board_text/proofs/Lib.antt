@@ -1,3 +1,4 @@
 mod Spelling
 mod Texts
+pub mod CommandLines
 pub mod Capped

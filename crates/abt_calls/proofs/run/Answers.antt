@@ -6,4 +6,4 @@ use Rattle.abt_calls.proofs.run.Goals as goal
 
 pub returns : goal.returns
 unfolding came_of
-returns c = runs c.args.d c.run-answer.result c.unless_refused.result c.args.rounds c.run-answer.ensures c.unless_refused.ensures
+returns c = runs c.args.d c.run-answer.result c.unless_refused.result c.args.rounds c.run-answer.ensures.runs_as c.unless_refused.ensures
