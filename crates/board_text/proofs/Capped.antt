@@ -11,13 +11,16 @@ use Rattle.protocol.specs.Network.{Network}
 use Rattle.protocol.specs.Shape.{in_shape}
 use Rattle.protocol.specs.Run.{max_rounds, allowed, run_from, Ran, run}
 use Rattle.std.specs.Prelude.{Option, Some, option_map}
-use Rattle.board_text.specs.declared.calls.Call.{Call}
-use Rattle.board_text.specs.declared.calls.Call.TheVariants.{Run}
+use Rattle.abt_calls.specs.declared.calls.Call.{Call}
+use Rattle.abt_calls.specs.declared.calls.Call.TheVariants.{Run}
+use Rattle.abt_calls.specs.Abstract.{step_of}
+use Rattle.theorems.specs.Calls.{left_by}
+use Rattle.dispatch_laws.specs.Steps.{left_by_step}
 use Rattle.numerals.specs.Reading.{capped, is_number, value_from, number_in}
 use Rattle.numerals.proofs.Numbers.{capped-low, capped-high}
 use Rattle.dispatch_rules.specs.Dispatch.{Dispatcher, with_network}
 use Rattle.board_text.specs.Reading.{call_in}
-use Rattle.board_text.specs.Calling.{after_call, after_word, RunsAll}
+use Rattle.board_text.specs.Calling.{after_word, RunsAll}
 
 many : (k : ℕ) → 1000000 ≤ k → allowed k ≡ 1000000
 unfolding allowed max_rounds
@@ -48,7 +51,7 @@ run-is digits = refl
 
 -- what the call leaves that a word says
 pub runs-all : (word : List ℕ) (k : Option Call) (d e : Dispatcher) → k ≡ call_in word → e ≡ after_word k d → RunsAll word d e
-unfolding after_word after_call
+unfolding after_word step_of left_by_step left_by
 runs-all word k d e q h digits w n =
     h
     ∙ ap (λ (x : Option Call). after_word x d) (q ∙ ap call_in w ∙ run-is digits ∙ ap (option_map Run) (number-is digits n))

@@ -1,3 +1,4 @@
 mod Spelling
-pub mod Lines
+mod Texts
+pub mod CommandLines
 pub mod Capped

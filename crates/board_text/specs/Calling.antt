@@ -6,14 +6,14 @@ use Rattle.refusals.specs.declared.Refusal.{Refusal}
 use Rattle.numerals.specs.Reading.{is_number, value_from}
 use Rattle.problem.specs.Sheet.{longest_sheet}
 use Rattle.protocol.specs.Network.{empty_network, start_sheet}
-use Rattle.protocol.specs.Delivery.{deliver}
 use Rattle.protocol.specs.Run.{run}
 use Rattle.image_forms.specs.Reading.{load}
-use Rattle.dispatch_rules.specs.Dispatch.{Dispatcher, with_network, pick, dispatcher}
+use Rattle.dispatch_rules.specs.Dispatch.{Dispatcher, with_network, dispatcher}
 use Rattle.dispatch.specs.declared.Dispatcher.{Dispatcher as Record}
-use Rattle.dispatch.specs.Abstract.{line_of, dispatcher_of}
-use Rattle.board_text.specs.declared.calls.Call.{Call}
-use Rattle.board_text.specs.declared.calls.Call.TheVariants.{Deliver, Run, Pick}
+use Rattle.dispatch.specs.Abstract.{dispatcher_of}
+use Rattle.dispatch_laws.specs.Steps.{left_by_step}
+use Rattle.abt_calls.specs.declared.calls.Call.{Call}
+use Rattle.abt_calls.specs.Abstract.{step_of}
 
 -- number 0 and the dispatcher; or the refusal's number and the dispatcher above the empty network
 abbrev pub begun_number : Result Record Refusal → ℕ
@@ -40,15 +40,9 @@ pub record LoadsAs (image : List ℕ) (b : Result Record Refusal) : Type 0 where
   pub whole : (input : List ℕ) → take (suc longest_sheet) input ≡ image
       → (begun_number b ≡ (load input).number) × (begun_of b ≡ dispatcher (load input).network)
 
--- the dispatcher after the call; a delivery and a run leave its count and its place
-unfoldable pub after_call : Call → Dispatcher → Dispatcher
-after_call (Deliver l) d = with_network d (deliver d.network l.from l.to).network
-after_call (Run rounds) d = with_network d (run rounds d.network).network
-after_call (Pick l) d = (pick d (line_of l)).state
-
 -- a word that is no call leaves all
 unfoldable pub after_word : Option Call → Dispatcher → Dispatcher
-after_word (Some k) d = after_call k d
+after_word (Some k) d = left_by_step (step_of k) d
 after_word None d = d
 
 -- `rN` is a run with N rounds, however large N is, though a larger number than 64 bits can say is read as the largest that they can. 'r' is 114.

@@ -1,3 +1,5 @@
 pub mod Reading
 pub mod Options
 pub mod Calling
+pub mod Text
+pub mod Putting

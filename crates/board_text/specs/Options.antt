@@ -1,6 +1,6 @@
 -- What the words of the command line in front of the calls come to, one by one: options, and behind them the file. `--rule N` gives the rule, N 0 to 255;
 -- `--image` says that the file is an image, `--small` that an image is to be written in the second form.
-use Rattle.std.specs.Prelude.{ℕ, Bool, true, false, not, ◌&&◌, ◌||◌, List, [], ◌∷◌, Option, Some, None, is_some, unwrap_or, eqb, get_or}
+use Rattle.std.specs.Prelude.{ℕ, Bool, true, false, not, ◌&&◌, ◌||◌, List, [], ◌∷◌, Option, Some, None, is_some, unwrap_or, eqb, get_or, map, vec_items, ◌≡◌}
 use Rattle.base.specs.Same.{same_numbers}
 use Rattle.protocol.specs.Network.{is_rule}
 use Rattle.board_text.specs.declared.options.Stage.{Stage}
@@ -8,6 +8,7 @@ use Rattle.board_text.specs.declared.options.Stage.TheVariants.{Words, Awaits, F
 use Rattle.board_text.specs.declared.options.Kind.{Kind}
 use Rattle.board_text.specs.declared.options.Kind.TheVariants.{Rule, Image, Small, Unknown, File as FileName}
 use Rattle.board_text.specs.declared.options.Options.{Options}
+use Rattle.board_text.specs.declared.options.Read.{Read}
 use Rattle.board_text.specs.Reading.{byte_in}
 
 -- only a program that draws is told of images, and only one that does not draw of their form
@@ -92,3 +93,26 @@ is_file Wrong = false
 -- a file is opened only where every option is understood and the rule is none that the start refuses
 unfoldable pub opens_file : Options → Bool
 opens_file o = is_file o.stage && is_rule (rule_of o)
+
+-- ---- all the words
+
+-- the options, the word read last, and the words behind it: the calls, where it is the file
+pub record CommandLine : Type 0 where
+  pub options : Options
+  pub word : List ℕ
+  pub calls : List (List ℕ)
+
+-- word by word, up to the file, to a word that is not understood or to the end
+unfoldable pub line_from : Options → List (List ℕ) → CommandLine
+line_from o [] = record { options = o; word = []; calls = [] }
+line_from o (word ∷ words) =
+    elim (goes_on (with_option o word).stage) [
+      | true ↦ line_from (with_option o word) words
+      | false ↦ record { options = with_option o word; word = word; calls = words }
+    ]
+
+-- the code's options, word and calls are these
+pub record ReadsAs (l : CommandLine) (r : Read) : Type 0 where
+  pub options : r.options ≡ l.options
+  pub word : r.word.now ≡ l.word
+  pub calls : map vec_items r.calls.now ≡ l.calls

@@ -3,8 +3,8 @@
 use Rattle.std.specs.Prelude.{ℕ, suc, Bool, true, false, List, [], ◌∷◌, Option, Some, None, option_map, position, eqb, leb, take, drop}
 use Rattle.numerals.specs.Reading.{number_in}
 use Rattle.dispatch.specs.declared.Line.{Line}
-use Rattle.board_text.specs.declared.calls.Call.{Call}
-use Rattle.board_text.specs.declared.calls.Call.TheVariants.{Deliver, Run, Pick}
+use Rattle.abt_calls.specs.declared.calls.Call.{Call}
+use Rattle.abt_calls.specs.declared.calls.Call.TheVariants.{Deliver, Run, Pick}
 
 unfoldable pub is_byte : ℕ → Bool
 is_byte k = leb k 255

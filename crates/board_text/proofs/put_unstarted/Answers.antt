@@ -1,0 +1,18 @@
+-- By the refusal.
+use Rattle.std.proofs.Common.{◌≡◌, ℕ, List, ◌++◌, OnOk, sym, ap, subst, ◌∙◌}
+use Rattle.std.specs.Prelude.{codes}
+use Rattle.text.specs.Text.{line_of}
+use Rattle.board_text.proofs.Texts.{unstarted-rule, unstarted-sheet}
+use Rattle.board_text.proofs.put_unstarted.Goals as goal
+
+pub returns-in-BadRule : goal.returns-in-BadRule
+returns-in-BadRule c =
+    subst (λ (t : List ℕ). OnOk c.put_bad_rule.result (c.put_bad_rule.new.out.items ≡ c.args.out.now.items ++ t))
+    (sym (unstarted-rule c.args.refusal c.in-BadRule.is))
+    c.put_bad_rule.ensures
+
+pub returns-in_default : goal.returns-in_default
+returns-in_default c =
+    subst (λ (t : List ℕ). OnOk c.put_number_line.result (c.put_number_line.new.out.items ≡ c.args.out.now.items ++ t))
+    (ap (line_of (codes "sheet refused ")) (c.from.ensures ∙ c.number.ensures) ∙ sym (unstarted-sheet c.args.refusal c.in_default.not-BadRule))
+    c.put_number_line.ensures

@@ -1,0 +1,4 @@
+mod Playing
+mod Beginning
+mod Files
+mod Ending
