@@ -189,7 +189,7 @@ module _ (tells : Bool) (given now now' : InputState) (err err' err'' : OutputSt
       let rest : more ≡ drop (length_bytes + length_in bytes) bytes = ((goes-on o more).counts w).2 in
       let a = ap (bytes_from most_sheets) (sym (joined more)) ∙ N.needs O bytes in
       let b : bytes_from (suc less) bytes ≡ length_bytes + length_in bytes + bytes_from less more =
-          bytes-go less bytes w ∙ ap (λ (l : List ℕ). length_bytes + length_in bytes + bytes_from less l) (sym rest) in
+      bytes-go less bytes w ∙ ap (λ (l : List ℕ). length_bytes + length_in bytes + bytes_from less l) (sym rest) in
       let c = cut-long bytes more w rest in
       omega (
         arith,
@@ -216,7 +216,7 @@ module _ (tells : Bool) (given now now' : InputState) (err err' err'' : OutputSt
   needed-all o =
       let bytes = P.head ++ (P.sheet ++ []) in
       let w : is_whole bytes ≡ false =
-          test (is_whole bytes) (λ t. never _ o (ap is_over (last.counts t).1 ∙ O)) (λ t. t) in
+      test (is_whole bytes) (λ t. never _ o (ap is_over (last.counts t).1 ∙ O)) (λ t. t) in
       let a = ap (bytes_from most_sheets) (sym last-joined) ∙ N.needs O bytes in
       let b = bytes-end less bytes w in
       let c = ap length last-joined in

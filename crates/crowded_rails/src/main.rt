@@ -1,6 +1,6 @@
 // Tries rails whose lines are full: forged ones, and those that deliveries lead to which starve a scanner. Each delivery is held to a second count of the
 // room that it needs, and made where the rail stands, too; each run is held to the same rounds, made delivery by delivery. Every failure is printed; at the
-// end stands how many of each kind were tried. (The figures were worked out by the program tools/second_reading/crowded_rails.py.)
+// end stands how many of each kind were tried. tools/second_reading/expected works these figures out.
 #![tactic(auto)]
 
 mod forging;
@@ -98,7 +98,7 @@ impl Tally {
     }
 }
 
-// So many forged rails. No scanner has number 13, and starves.
+// So many forged rails. None of their scanners has number 13, so none starves.
 fn try_forged(out: Screen, rails: usize) {
     let mut tally = Tally::new(out, b"forged rails");
     let mut state: u64 = 20030139;

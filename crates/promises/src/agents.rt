@@ -4,11 +4,9 @@ ghost use Rattle.promises.specs.Claims.{CountsUnread, OutdatedAnswered};
 /// An outdated refusal of the own value is answered with that value.
 pub fn outdated()
     ensures answered { OutdatedAnswered }
-{
-}
+{}
 
 /// No rule reads or changes a count: with other counts the step is the same.
 pub fn counts()
     ensures unread { CountsUnread }
-{
-}
+{}

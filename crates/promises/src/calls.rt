@@ -11,8 +11,7 @@ pub fn accuracy()
     ensures sound_of_problems { EveryProblem SoundAtRest }
     ensures complete { EverySheet CompleteVerdict }
     ensures complete_of_problems { EveryProblem CompleteVerdict }
-{
-}
+{}
 
 /// However full rounds are marked off, there are at most 16 · n · (d + 2)^n of them. So are those that the runs of a list return together.
 pub fn round_limit()
@@ -20,8 +19,7 @@ pub fn round_limit()
     ensures bounded_of_problems { EveryProblem RoundBound }
     ensures returned_bounded { EverySheet RunBound }
     ensures returned_bounded_of_problems { EveryProblem RunBound }
-{
-}
+{}
 
 /// Each run returns exactly how many of its own rounds were full. The runs' own rounds are one way to mark off the list.
 pub fn counted_rounds()
@@ -29,23 +27,20 @@ pub fn counted_rounds()
     ensures exact_of_problems { EveryProblem RunsCount }
     ensures marked { EverySheet RunsMark }
     ensures marked_of_problems { EveryProblem RunsMark }
-{
-}
+{}
 
 /// A run stands in a list for the deliveries that it tries, in its order. Of every network, forged ones too.
 pub fn replayed()
     ensures replay { Replay }
     ensures waits { WaitsAsHeld }
-{
-}
+{}
 
 /// `jammed` is said exactly when a whole round delivered nothing while something waits, and at once; `open` only with all allowed rounds used. Of every network, forged ones too.
 pub fn endings()
     ensures jammed { JammedExactly }
     ensures at_once { NoneAfterNothing }
     ensures used { RoundsUsed }
-{
-}
+{}
 
 /// Every rail reached is in shape. A network in shape, forged or not, stays in shape.
 pub fn shape()
@@ -54,15 +49,13 @@ pub fn shape()
     ensures delivery { DeliverKeeps }
     ensures run { RunKeeps }
     ensures rule { RuleKept }
-{
-}
+{}
 
 /// A link is asked for once.
 pub fn links()
     ensures asked_once { EverySheet AskedOnce }
     ensures asked_once_of_problems { EveryProblem AskedOnce }
-{
-}
+{}
 
 /// The six counts of each scanner: exact below the top, capped at it; what is sent is received or waits; no count ever falls.
 pub fn figures()
@@ -75,8 +68,7 @@ pub fn figures()
     ensures balanced_by_sort { EverySheet SentIsReceivedAndWaitingOf }
     ensures balanced_by_sort_of_problems { EveryProblem SentIsReceivedAndWaitingOf }
     ensures never_fall { CountsNeverFall }
-{
-}
+{}
 
 /// What the word, the full rounds and the slots of a run tell, behind any calls; and what a delivery leaves.
 pub fn answers()
@@ -84,8 +76,7 @@ pub fn answers()
     ensures run_of_problems { EveryProblem RunTells }
     ensures delivery { EverySheet DeliveryTells }
     ensures delivery_of_problems { EveryProblem DeliveryTells }
-{
-}
+{}
 
 /// The limit is on full rounds. On one sheet a list of accepted deliveries goes on without end and has no full round, so no such limit holds of deliveries.
 pub fn unbounded()
@@ -94,5 +85,4 @@ pub fn unbounded()
     ensures never_full { NoFullRound }
     ensures passes { PassesTheBound }
     ensures unbounded { DeliveriesUnbounded }
-{
-}
+{}

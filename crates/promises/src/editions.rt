@@ -5,19 +5,16 @@ ghost use Rattle.turn_theorems.specs.Claims.{BansKept, GapsKept, RefusedAsSaid, 
 pub fn kept()
     ensures bans { BansKept }
     ensures gaps { GapsKept }
-{
-}
+{}
 
 /// 15 is given exactly where two agents have two owned pairs of values with equal gap, one banned and one free.
 pub fn refused()
     ensures as_said { RefusedAsSaid }
-{
-}
+{}
 
 /// A ban sheet made of gaps is sayable in gaps. There and back a second time gives the same bytes as the first.
 pub fn there_and_back()
     ensures back_again { BackAgain }
     ensures from_gaps { TwiceFromGaps }
     ensures from_bans { TwiceFromBans }
-{
-}
+{}

@@ -8,26 +8,22 @@ pub fn counted()
     ensures one_more { OneMoreSheet }
     ensures mean { MeanOver }
     ensures bounded { SumBound }
-{
-}
+{}
 
 /// The same whole sheets in another order give the same figures, read from streams too.
 pub fn ordered()
     ensures sheets { AnyOrder }
     ensures streams { StreamsInAnyOrder }
-{
-}
+{}
 
 /// Whole sheets are read as they stand in the stream, at most so many; nothing behind the last one allowed is looked at.
 pub fn streams()
     ensures read { ReadsStream }
     ensures no_more { ReadsNoMore }
-{
-}
+{}
 
 /// Counted one by one and capped each time at the top of 64 bits, sheets come to the same as counted together and capped once; no season is capped.
 pub fn capped()
     ensures in_turn { CappedInTurn }
     ensures never { NeverCapped }
-{
-}
+{}

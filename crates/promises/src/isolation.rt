@@ -8,12 +8,10 @@ ghost use Rattle.tenants.specs.Tenants.{Naming, NamingAbove};
 pub fn acts_alike()
     ensures named { ActsAlike Naming }
     ensures above { ActsAlike NamingAbove }
-{
-}
+{}
 
 /// Whether the next delivery to it is accepted depends on three things more: the shape, a verdict, and room on its outgoing lines.
 pub fn answered_alike()
     ensures named { AnsweredAlike Naming }
     ensures above { AnsweredAlike NamingAbove }
-{
-}
+{}

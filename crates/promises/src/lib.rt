@@ -4,15 +4,15 @@
 //! proof. Start with [`calls`]: what holds of every list of calls on a rail. What each claim says stands in the `specs/Claims.antt` that its import names.
 #![tactic(auto)]
 
-pub mod calls;
 pub mod agents;
+pub mod calls;
+pub mod editions;
+pub mod figures;
 pub mod isolation;
-pub mod storage;
+pub mod little;
+pub mod mixed;
 pub mod picks;
 pub mod sheets;
-pub mod little;
-pub mod figures;
-pub mod editions;
+pub mod storage;
 pub mod texts;
 pub mod worked;
-pub mod mixed;

@@ -9,5 +9,4 @@ pub fn all_of_them()
     ensures found { Found }
     ensures once { Once }
     ensures exactly_one { ExactlyOne }
-{
-}
+{}

@@ -9,8 +9,7 @@ pub fn calls()
     ensures calls { EverySheet ComesToCalls }
     ensures from_a_start_of_problems { EveryProblem ComesToCalls }
     ensures anywhere { ComesToCallsAnywhere }
-{
-}
+{}
 
 /// A rail with nothing waiting and no verdict breaks no ban. The verdict comes only where no choice of slots obeys all bans.
 pub fn accuracy()
@@ -18,8 +17,7 @@ pub fn accuracy()
     ensures sound_of_problems { EveryProblem SoundMixed }
     ensures complete { EverySheet CompleteMixed }
     ensures complete_of_problems { EveryProblem CompleteMixed }
-{
-}
+{}
 
 /// However full rounds are marked off, there are at most 16 · n · (d + 2)^n of them. So are those that the runs of a list return together.
 pub fn round_limit()
@@ -27,8 +25,7 @@ pub fn round_limit()
     ensures bounded_of_problems { EveryProblem RoundBoundMixed }
     ensures returned_bounded { EverySheet RunBoundMixed }
     ensures returned_bounded_of_problems { EveryProblem RunBoundMixed }
-{
-}
+{}
 
 /// Each run returns exactly how many of its own rounds were full. The runs' own rounds are one way to mark off the list.
 pub fn counted_rounds()
@@ -36,8 +33,7 @@ pub fn counted_rounds()
     ensures exact_of_problems { EveryProblem RunsCountMixed }
     ensures marked { EverySheet RunsMarkMixed }
     ensures marked_of_problems { EveryProblem RunsMarkMixed }
-{
-}
+{}
 
 /// Every rail reached is in shape and is one that its image gives back.
 pub fn shape()
@@ -45,15 +41,13 @@ pub fn shape()
     ensures reached_of_problems { EveryProblem ReachedMixed }
     ensures stays { StaysMixed }
     ensures rule { RuleKeptMixed }
-{
-}
+{}
 
 /// A link is asked for once.
 pub fn links()
     ensures asked_once { EverySheet AskedOnceMixed }
     ensures asked_once_of_problems { EveryProblem AskedOnceMixed }
-{
-}
+{}
 
 /// The six counts of each scanner: exact below the top, capped at it; what is sent is received or waits; no count ever falls.
 pub fn figures()
@@ -66,12 +60,10 @@ pub fn figures()
     ensures balanced_by_sort { EverySheet SentIsReceivedAndWaitingOfMixed }
     ensures balanced_by_sort_of_problems { EveryProblem SentIsReceivedAndWaitingOfMixed }
     ensures never_fall { CountsNeverFallMixed }
-{
-}
+{}
 
 /// Noninterference: on two rails alike in an agent that is handed the same, it ends with the same record and has sent the same.
 pub fn acts_alike()
     ensures named { ActsAlikeMixed Naming }
     ensures above { ActsAlikeMixed NamingAbove }
-{
-}
+{}

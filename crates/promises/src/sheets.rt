@@ -8,12 +8,10 @@ pub fn reading()
     ensures bans { BansAsSaid }
     ensures links { LinksAsBanned }
     ensures cut { CutDecodes }
-{
-}
+{}
 
 /// A sheet written of good rows is accepted, and bans exactly what they ban.
 pub fn writing()
     ensures accepted { WritingDecodes }
     ensures bans { WritingBans }
-{
-}
+{}

@@ -11,8 +11,7 @@ pub fn first_form()
     ensures one { OneFirst }
     ensures only { ReadsOnlyFirst }
     ensures length { FirstLength }
-{
-}
+{}
 
 /// The same of either form. No bytes are an image in both.
 pub fn both_forms()
@@ -20,31 +19,27 @@ pub fn both_forms()
     ensures one { OneRail }
     ensures only { ReadsOnlyImages }
     ensures length { ImageLength }
-{
-}
+{}
 
 /// Records laid by place are laid back, for every count and width of records. The second form of an image, made large, is the image.
 pub fn rearranged()
     ensures laid_back { LaidBack }
     ensures large { LargeOfSmall }
-{
-}
+{}
 
 /// An image moved is an image in the other form, and moved back it is the same bytes.
 pub fn moved()
     ensures back { MovesBack }
     ensures through { MovesThrough }
     ensures form { MovedForm }
-{
-}
+{}
 
 /// Every rail that calls lead to from a start is one that its image gives back; so is every network of the code.
 pub fn plain()
     ensures reached { EverySheet ReachedPlain }
     ensures reached_of_problems { EveryProblem ReachedPlain }
     ensures stays { StaysPlain }
-{
-}
+{}
 
 /// A list of calls with writes and reads between them leaves, tries and makes what its calls alone do.
 pub fn carried()
@@ -52,8 +47,7 @@ pub fn carried()
     ensures across_of_problems { EveryProblem CarriesAcross }
     ensures anywhere { CarriesAcrossAnywhere }
     ensures with_room { ReadsWithRoom }
-{
-}
+{}
 
 /// So such a list breaks no ban at rest, and the verdict comes only where nothing works.
 pub fn accuracy()
@@ -61,8 +55,7 @@ pub fn accuracy()
     ensures sound_of_problems { EveryProblem SoundAcross }
     ensures complete { EverySheet CompleteAcross }
     ensures complete_of_problems { EveryProblem CompleteAcross }
-{
-}
+{}
 
 /// And its full rounds are at most 16 · n · (d + 2)^n.
 pub fn round_limit()
@@ -70,5 +63,4 @@ pub fn round_limit()
     ensures bounded_of_problems { EveryProblem RoundBoundAcross }
     ensures returned_bounded { EverySheet RunBoundAcross }
     ensures returned_bounded_of_problems { EveryProblem RunBoundAcross }
-{
-}
+{}

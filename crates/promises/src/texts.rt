@@ -7,12 +7,10 @@ pub fn reading()
     ensures slots { SlotsAsWritten }
     ensures bans { BansAsWritten }
     ensures front { JudgedByFront }
-{
-}
+{}
 
 /// The text of a sheet, read again, gives a sheet with the same problem and the same text; it has at most 67,614 bytes.
 pub fn telling()
     ensures again { TextsReadAgain }
     ensures short { TextsShort }
-{
-}
+{}

@@ -23,47 +23,40 @@ pub fn nights()
     ensures first { NightsHold nights }
     ensures further { NightsHold further_nights }
     ensures quiet { NightsHold quiet_nights }
-{
-}
+{}
 
 /// Nights of the dispatcher.
 pub fn dispatched()
     ensures first { PicksHold pick_nights }
     ensures further { PicksHold dispatched_nights }
-{
-}
+{}
 
 /// Pairs of rails alike in one agent.
 pub fn pairs()
     ensures alike { PairsHold pairs }
-{
-}
+{}
 
 /// Single steps of one agent: each branch of each rule.
 pub fn steps()
     ensures steps { steps_hold step_cases ≡ true }
-{
-}
+{}
 
 /// Sheets of both editions: every fault, the order of the checks.
 pub fn sheets()
     ensures sheets { every sheet_holds sheet_cases ≡ true }
-{
-}
+{}
 
 /// Sheets turned into the other edition, and the buffers that they are put into.
 pub fn editions()
     ensures turned { every turn_holds turn_cases ≡ true }
     ensures put { every turn_put_holds turn_puts ≡ true }
-{
-}
+{}
 
 /// Little sheets, byte by byte.
 pub fn little()
     ensures sheets { every little_holds little_cases ≡ true }
     ensures put { every little_put_holds little_puts ≡ true }
-{
-}
+{}
 
 /// Texts read and told, each fault with its words.
 pub fn texts()
@@ -72,19 +65,16 @@ pub fn texts()
     ensures faults { FaultsSaid }
     ensures told { SheetsTold }
     ensures printed { AllPrinted }
-{
-}
+{}
 
 /// What the first nights come to, and what `season` prints of them.
 pub fn seasons()
     ensures outcomes { NightsEnd }
     ensures printed { AllPrint }
-{
-}
+{}
 
 /// P9's image after two and after three rounds, worked out by hand, and bytes near it that are no image.
 pub fn images()
     ensures first { FirstWorked }
     ensures forms { FormsWorked }
-{
-}
+{}
