@@ -7,7 +7,8 @@
 ghost use Rattle.lent.specs.Abstract.{InBuffer};
 
 use board_text::options::{Options, Stage, goes_on, is_option, no_options, opens, option, rule_of};
-use board_text::quiet::follow;
+use board_text::read_call;
+use abt_calls::play as play_calls;
 use dispatch::Dispatcher;
 use image_mover::{Form, move_image, store_as};
 use network::{Network, is_rule};
@@ -40,11 +41,11 @@ fn write_image(r: Network, form: Form) {
 
 // What the call leaves that a word says, or one line that it is none.
 fn call(d: Dispatcher, word: &[u8]) -> Option<Dispatcher> {
-    let left = follow(d, word);
-    if left.is_none() {
+    let Some(call) = read_call(word) else {
         say(b"call not understood: ", word);
-    }
-    left
+        return None;
+    };
+    Some(play_calls(d, &[call]).dispatcher)
 }
 
 // The calls from argument `first` on, and the image of what they leave; nothing where one of them is none.

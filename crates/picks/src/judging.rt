@@ -21,7 +21,7 @@ pub fn among(n: u8, line: Line) -> bool {
 }
 
 // The number behind that of a line of n scanners; none where there is no such line.
-#[tactic(auto, using(board_text::proofs::Lines::channel), unfolding(base::specs::Finite::within))]
+#[tactic(auto, using(crate::proofs::Lines::channel), unfolding(base::specs::Finite::within))]
 fn behind(n: u8, place: Line) -> Option<usize>
     ensures { IfSome result (λ k. k ≤ 132) }
 {

@@ -1,7 +1,6 @@
 // Worked picks, each printed with its wish, its answer, the count and the place.
 use crate::judging::Pick;
 use crate::sheets::{drafted, rail};
-use board_text::put_ends;
 use dispatch::{Dispatcher, Line, NO_LINE};
 use network::Network;
 use words::printing::Out;
@@ -72,6 +71,14 @@ fn broken(r: Network) -> Network {
 }
 
 // ---- printing
+
+// Both ends of a line, behind a word.
+fn put_ends(o: Out, word: &[u8], line: Line) -> Out {
+    o.put(word)
+        .number(u64::from(line.from))
+        .put(b" ")
+        .number(u64::from(line.to))
+}
 
 // A pick: its wish, its answer, and what it left.
 fn put_pick(o: Out, p: &Pick) -> Out {

@@ -10,19 +10,28 @@
 #![tactic(auto)]
 
 use board_text::options::{Options, goes_on, no_options, opens, option, put_unopened, rule_of};
-use board_text::{Begun, Stepped, begin, begin_image, call};
+use board_text::{put_call, put_image, put_start};
 use cases::kinds::Kind;
 use cases::lines::{Line, first_line};
 use cases::sheets::{Sheet, blank, built};
-use tool::STDIN_FILENO;
-use words::printing::Out;
+use dispatch::Dispatcher;
+use refusals::Refusal;
+use std::alloc::{AllocError, Global};
+use std::io::Write;
+use std::process::ExitCode;
+use support_cli::{Output, Status, launch};
 
-// What lies on the desk: the sheet of the case under hand, the options read for it, and the board.
+// What lies on the desk: the sheet of the case under hand, the options read for it, and the dispatcher with its network.
 #[derive(Clone, Copy)]
 struct Desk {
     sheet: Sheet,
     options: Options,
-    board: Stepped,
+    dispatcher: Dispatcher,
+}
+
+fn put_line(out: &mut Vec<u8>, line: &[u8]) -> Result<(), AllocError> {
+    out.extend_from_slice(line)?;
+    out.extend_from_slice(b"\n")
 }
 
 impl Desk {
@@ -30,87 +39,84 @@ impl Desk {
         Desk {
             sheet: blank(),
             options: no_options(true),
-            board: Stepped {
-                dispatcher: dispatch::begin(network::empty()),
-                out: Out::new(),
-            },
+            dispatcher: dispatch::begin(network::empty()),
         }
     }
 
-    // ---- the programs
-
-    fn put_line(&mut self, line: &[u8]) {
-        self.board.out = self.board.out.put(line).put(b"\n");
-    }
+    // ---- the programs: what each prints is put behind what `out` holds
 
     // What `dock` prints of the sheet.
-    fn put_dock(&mut self, rounds: u64) {
+    fn put_dock(&self, out: &mut Vec<u8>, rounds: u64) -> Result<(), AllocError> {
         let mut text = [0u8; 1024];
         let n = dock_text::text(self.sheet.filled(), rounds, &mut text);
-        self.board.out = self.board.out.put(&text[..n]);
+        out.extend_from_slice(&text[..n])
     }
 
-    // What has begun, on the empty rail where it is refused, and what was printed of it.
-    fn begin(&mut self, begun: Begun) {
-        self.board = Stepped {
-            dispatcher: match begun.dispatcher {
-                Ok(dispatcher) => dispatcher,
-                Err(_) => dispatch::begin(network::empty()),
-            },
-            out: begun.out,
+    // What has begun, on the empty rail where it is refused.
+    fn begin(&mut self, begun: Result<Dispatcher, Refusal>) {
+        self.dispatcher = match begun {
+            Ok(dispatcher) => dispatcher,
+            Err(_) => dispatch::begin(network::empty()),
         };
     }
 
     // What `board` prints of the sheet by a rule, and the dispatcher that begins there.
-    fn begin_sheet(&mut self, rule: u8) {
-        let begun = begin(self.board.out, rule, self.sheet.filled());
+    fn begin_sheet(&mut self, out: &mut Vec<u8>, rule: u8) -> Result<(), AllocError> {
+        let begun = put_start(out, rule, self.sheet.filled())?;
         self.begin(begun);
+        Ok(())
     }
 
     // The same of the bytes as an image.
-    fn begin_image(&mut self) {
-        let begun = begin_image(self.board.out, self.sheet.filled());
+    fn begin_image(&mut self, out: &mut Vec<u8>) -> Result<(), AllocError> {
+        let begun = put_image(out, self.sheet.filled())?;
         self.begin(begun);
+        Ok(())
     }
 
-    fn call(&mut self, word: &[u8]) {
-        self.board = call(self.board.out, self.board.dispatcher, word);
+    fn call(&mut self, out: &mut Vec<u8>, word: &[u8]) -> Result<(), AllocError> {
+        let stepped = put_call(out, self.dispatcher, word)?;
+        self.dispatcher = stepped.dispatcher;
+        Ok(())
     }
 
     // ---- the words in front of the calls
 
     // What they come to. The sheet under hand stands for the file, be it a sheet or an image.
-    fn put_words(&mut self, word: &[u8]) {
+    fn put_words(&mut self, out: &mut Vec<u8>, word: &[u8]) -> Result<(), AllocError> {
         if !opens(self.options) {
-            self.board.out = put_unopened(self.board.out, self.options, word);
+            put_unopened(out, self.options, word)
         } else if self.options.image {
-            self.begin_image();
+            self.begin_image(out)
         } else {
-            self.begin_sheet(rule_of(self.options));
+            self.begin_sheet(out, rule_of(self.options))
         }
     }
 
     // One word more, as long as they are read.
-    fn read_word(&mut self, word: &[u8]) {
+    fn read_word(&mut self, out: &mut Vec<u8>, word: &[u8]) -> Result<(), AllocError> {
         if goes_on(self.options) {
             self.options = option(self.options, word);
             if !goes_on(self.options) {
-                self.put_words(word);
+                return self.put_words(out, word);
             }
         }
+        Ok(())
     }
 
     // No more words.
-    fn end_words(&mut self) {
+    fn end_words(&mut self, out: &mut Vec<u8>) -> Result<(), AllocError> {
         if goes_on(self.options) {
-            self.put_words(b"");
+            self.put_words(out, b"")
+        } else {
+            Ok(())
         }
     }
 
     // ---- the text
 
     // A line builds on the sheet, or prints something. A case begins with no options; its line, and one that is not understood, is printed as it stands.
-    fn follow(&mut self, line: Line<'_>) {
+    fn follow(&mut self, out: &mut Vec<u8>, line: Line<'_>) -> Result<(), AllocError> {
         let Line {
             kind,
             numbers,
@@ -118,36 +124,46 @@ impl Desk {
         } = line;
         self.sheet = built(self.sheet, line);
         match kind {
-            None => self.put_line(text),
+            None => put_line(out, text),
             Some(Kind::Case) => {
                 self.options = no_options(true);
-                self.put_line(text);
+                put_line(out, text)
             }
-            Some(Kind::Dock) => self.put_dock(numbers.values[0]),
-            Some(Kind::Board) => self.begin_sheet(numbers.get(0).map_or(1, |k| (k % 256) as u8)),
-            Some(Kind::Word) => self.call(text.get(5..).unwrap_or(text)),
-            Some(Kind::OptionWord) => self.read_word(text.get(7..).unwrap_or(text)),
-            Some(Kind::End) => self.end_words(),
-            _ => {}
+            Some(Kind::Dock) => self.put_dock(out, numbers.values[0]),
+            Some(Kind::Board) => {
+                let rule = numbers.get(0).map_or(1, |k| (k % 256) as u8);
+                self.begin_sheet(out, rule)
+            }
+            Some(Kind::Word) => self.call(out, text.get(5..).unwrap_or(text)),
+            Some(Kind::OptionWord) => self.read_word(out, text.get(7..).unwrap_or(text)),
+            Some(Kind::End) => self.end_words(out),
+            _ => Ok(()),
         }
     }
 }
 
 // Line by line, as long as what they print can be written.
-fn play(text: &[u8]) {
+fn play<W: Write>(
+    alloc: Global,
+    text: &[u8],
+    output: &mut Output<W>,
+) -> Result<Status, AllocError> {
     let mut desk = Desk::new();
     for line in text.split_inclusive(|b| *b == b'\n') {
-        if desk.board.out.failed {
-            return;
+        if output.has_failed() {
+            return Ok(Status::NotWritten);
         }
-        desk.follow(first_line(line));
+        let mut said = Vec::new(alloc);
+        desk.follow(&mut said, first_line(line))?;
+        output.put(&said);
     }
+    Ok(Status::Done)
 }
 
-// Each program that plays a text has a `main` and a walk over its lines of its own: the walks do not end alike, and a `main` in common that is handed
-// `play` as a closure would be called by a `main` as long.
-fn main() {
-    let mut text = io::large_buffer();
-    let n = io::read_full(STDIN_FILENO, &mut text);
-    play(&text[..n]);
+fn main(rt: HostRuntime) -> ExitCode {
+    launch(&rt, |_, input, output, _| {
+        let mut text = io::large_buffer();
+        let n = input.read_full(&mut text);
+        play(rt.alloc(), &text[..n], output).unwrap_or(Status::NotUnderstood)
+    })
 }
