@@ -16,7 +16,7 @@ use random_rails::draws::next;
 use refusals::Refusal;
 use sheets::{rail, random_sheet};
 use watching::{Watch, none_waited, with_pick};
-use words::printing::Out;
+use words::printing::{Out, Screen};
 use worked::put_worked;
 
 // How many picks served the wish, went round, or were refused with 7, 8 and 10; rails played, failures, and the longest wait.
@@ -174,7 +174,7 @@ fn tried(rails: usize) -> Tally {
     t.tally
 }
 
-fn report(o: Out, t: Tally) -> Out {
+fn report(o: Screen, t: Tally) -> Screen {
     o.line(b"rails ", t.rails)
         .line(b"wishes served ", t.wishes)
         .line(b"lines served in turn ", t.rounds)
@@ -189,6 +189,6 @@ fn report(o: Out, t: Tally) -> Out {
         .put(b" failed\n")
 }
 
-fn main() {
-    report(put_worked(Out::new()), tried(3000));
+fn main(rt: HostRuntime) {
+    report(put_worked(Out::new(rt.stdout())), tried(3000));
 }

@@ -3,7 +3,7 @@ use crate::judging::Pick;
 use crate::sheets::{drafted, rail};
 use dispatch::{Dispatcher, Line, NO_LINE};
 use network::Network;
-use words::printing::Out;
+use words::printing::Screen;
 
 // ---- rails
 
@@ -73,7 +73,7 @@ fn broken(r: Network) -> Network {
 // ---- printing
 
 // Both ends of a line, behind a word.
-fn put_ends(o: Out, word: &[u8], line: Line) -> Out {
+fn put_ends(o: Screen, word: &[u8], line: Line) -> Screen {
     o.put(word)
         .number(u64::from(line.from))
         .put(b" ")
@@ -81,7 +81,7 @@ fn put_ends(o: Out, word: &[u8], line: Line) -> Out {
 }
 
 // A pick: its wish, its answer, and what it left.
-fn put_pick(o: Out, p: &Pick) -> Out {
+fn put_pick(o: Screen, p: &Pick) -> Screen {
     let said = put_ends(o, b"  wish ", p.wish);
     let answered = match p.picked.answer {
         Ok(line) => {
@@ -104,7 +104,7 @@ fn put_pick(o: Out, p: &Pick) -> Out {
 
 // Picks with these wishes one behind the other. Wishes are pairs here, as bans are fours: several stand in a line of the text, where each with the names of
 // its fields would take four.
-fn put_picks(o: Out, name: &[u8], dispatcher: Dispatcher, wishes: &[(u8, u8)]) -> Out {
+fn put_picks(o: Screen, name: &[u8], dispatcher: Dispatcher, wishes: &[(u8, u8)]) -> Screen {
     let mut out = o.put(name).put(b"\n");
     let mut d = dispatcher;
     for (from, to) in wishes {
@@ -135,7 +135,7 @@ fn fresh(network: Network) -> Dispatcher {
 
 // ---- cases
 
-fn put_wishes(o: Out) -> Out {
+fn put_wishes(o: Screen) -> Screen {
     let d = fresh(three());
     let name = b"a wish met, then an even pick, then an empty wish";
     let met = put_picks(o, name, d, &[(1, 3), (1, 3), (1, 3), (1, 3)]);
@@ -144,14 +144,14 @@ fn put_wishes(o: Out) -> Out {
     put_picks(equal, b"the highest numbers", d, &[(255, 255)])
 }
 
-fn put_rooms(o: Out) -> Out {
+fn put_rooms(o: Screen) -> Screen {
     let wishes = [(1, 2), (1, 2), (1, 2)];
     let first = put_picks(o, b"a wish without room", fresh(crowded()), &wishes);
     let none = [(1, 2), (0, 0)];
     put_picks(first, b"nothing has room", fresh(stuck()), &none)
 }
 
-fn put_places(o: Out) -> Out {
+fn put_places(o: Screen) -> Screen {
     let r = three();
     let behind = put_picks(o, b"behind the place", at(r, 1, 1, 2), &[(1, 2)]);
     let name = b"past the last line to the first";
@@ -163,14 +163,14 @@ fn put_places(o: Out) -> Out {
     put_picks(high, b"a place from 3 to 3", at(r, 1, 3, 3), &[(2, 3)])
 }
 
-fn put_counts(o: Out) -> Out {
+fn put_counts(o: Screen) -> Screen {
     let top = at(three(), u64::MAX, 0, 0);
     let said = put_picks(o, b"the count at its top", top, &[(2, 3), (2, 3)]);
     let below = at(three(), u64::MAX - 1, 0, 0);
     put_picks(said, b"the count one below", below, &[(2, 3), (1, 3)])
 }
 
-fn put_refusals(o: Out) -> Out {
+fn put_refusals(o: Screen) -> Screen {
     let alone = put_picks(o, b"one scanner", fresh(one()), &[(1, 1)]);
     let wishes = [(1, 2), (1, 2), (1, 2)];
     let none = put_picks(alone, b"to the verdict", fresh(two()), &wishes);
@@ -183,6 +183,6 @@ fn put_refusals(o: Out) -> Out {
     put_picks(both, b"the empty rail", fresh(network::empty()), &[(1, 2)])
 }
 
-pub fn put_worked(o: Out) -> Out {
+pub fn put_worked(o: Screen) -> Screen {
     put_refusals(put_counts(put_places(put_rooms(put_wishes(o)))))
 }
