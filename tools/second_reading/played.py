@@ -8,6 +8,7 @@ from collections.abc import Callable
 from . import calls, crowded_rails, programs, season, sheet, texts
 from .case_text import Builder, Line, lines
 from .command_line import NotUnderstood, options
+from .commands import commands_of
 from .little import sheet_of
 from .rail import News, Rail
 from .refusals import Refused
@@ -256,4 +257,5 @@ PLAYED = {
     "scribes": scribes_of,
     "worked_cases": worked_cases_of,
     "crowded_rails": crowded_rails_of,
+    "gate_commands": commands_of,
 }

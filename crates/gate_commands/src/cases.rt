@@ -2,11 +2,13 @@
 ghost use Rattle.std.specs.Prelude.{◌<◌};
 
 use crate::ends::{Giver, Manner, Taker};
-use crate::programs::run_program;
+use crate::programs::{Command, run_program};
+use crate::shelf::{File, Shelf};
 use crate::telling::{push_line, push_number};
 use numerals::read_number;
 use std::alloc::{AllocError, Global};
 use std::io::Write;
+use std::mem;
 use support_cli::{Input, Output};
 
 // The case under hand: its command line, its input, and how the input is read and the outputs are written.
@@ -15,6 +17,7 @@ struct Desk {
     alloc: Global,
     words: Vec<Vec<u8>>,
     input: Vec<u8>,
+    shelf: Shelf,
     reader: Manner,
     output: Manner,
     errors: Manner,
@@ -73,6 +76,9 @@ impl Desk {
             alloc,
             words: Vec::new(alloc),
             input: Vec::new(alloc),
+            shelf: Shelf {
+                files: Vec::new(alloc),
+            },
             reader: Manner::whole(),
             output: Manner::whole(),
             errors: Manner::whole(),
@@ -89,7 +95,12 @@ impl Desk {
         let mut input = Input::new(giver);
         let mut output = Output::new(Taker::new(self.alloc, self.output));
         let mut errors = Output::new(Taker::new(self.alloc, self.errors));
-        let status = run_program(name, &self.words, &mut input, &mut output, &mut errors);
+        let command = Command {
+            alloc: self.alloc,
+            files: &self.shelf,
+            words: &self.words,
+        };
+        let status = run_program(name, &command, &mut input, &mut output, &mut errors);
         let mut text = Vec::new(self.alloc);
         match status {
             Some(status) => push_number(&mut text, b"status ", u64::from(status.code()))?,
@@ -99,6 +110,14 @@ impl Desk {
         push_line(&mut text, b"errors ", &errors.into_writer().taken)?;
         push_number(&mut text, b"left ", input.into_reader().left.len() as u64)?;
         Ok(text)
+    }
+
+    // What the input is so far becomes the file of this name, and the input begins anew.
+    fn put_away(&mut self, name: &[u8]) -> Result<(), AllocError> {
+        let bytes = mem::replace(&mut self.input, Vec::new(self.alloc));
+        let name = name.to_vec(self.alloc)?;
+        self.shelf.files.push(File { name, bytes })?;
+        Ok(())
     }
 
     // A line that builds a case. Any other is passed over.
@@ -111,6 +130,7 @@ impl Desk {
             }
             b"zeros" => push_zeros(&mut self.input, number_or_all(Some(rest)))?,
             b"hex" => push_hex(&mut self.input, rest)?,
+            b"file" => self.put_away(rest)?,
             b"reader" => self.reader = manner_of(rest),
             b"output" => self.output = manner_of(rest),
             b"errors" => self.errors = manner_of(rest),

@@ -5,6 +5,7 @@
 //   text TEXT              the input grows by these letters and the end of a line
 //   hex DIGITS             the input grows by these bytes
 //   zeros N                and by so many zero bytes
+//   file NAME              the input so far is the file of this name, and the input begins anew
 //   reader STEP [MOST]     the input is read by at most STEP bytes a time, and fails behind MOST of them
 //   output STEP [MOST]     so is standard output written
 //   errors STEP [MOST]     and standard error
@@ -16,6 +17,7 @@
 mod cases;
 mod ends;
 mod programs;
+mod shelf;
 mod telling;
 
 use cases::play;
