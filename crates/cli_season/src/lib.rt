@@ -20,12 +20,7 @@ use text::append_number;
 // ---- the stream
 
 // With the piece of which these bytes are the length. The sheet behind it fills the part, or what there is of it.
-fn with_sheet_in<R: Read>(
-    s: Season,
-    head: &[u8],
-    part: &mut [u8],
-    input: &mut Input<R>,
-) -> Season
+fn with_sheet_in<R: Read>(s: Season, head: &[u8], part: &mut [u8], input: &mut Input<R>) -> Season
     ensures { TakesSheet (length part.old) head.now (input_of R.remaining input.old) (input_of R.remaining input.new) s result }
 {
     let got = input.read_full(part);

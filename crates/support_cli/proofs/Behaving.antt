@@ -1,6 +1,6 @@
 -- A program that takes nothing of its input answers without it; one that fills a buffer answers for what stands there.
 -- What is taken is a beginning of the buffer, as long as what was read.
-use Rattle.std.proofs.Common.{ℕ, ◌≡◌, ◌≤◌, List, [], length, take, refl, arith}
+use Rattle.std.proofs.Common.{ℕ, ◌≡◌, List, [], take, refl, arith}
 use Rattle.std.proofs.KnownBytes.{Consumes-nil}
 use Rattle.support_cli.specs.Streams.{InputState, OutputState, Takes, Fills}
 use Rattle.support_cli.specs.Answers.{Answer, Answered}
@@ -11,7 +11,7 @@ takes_nothing given = record {
   taken = Consumes-nil given.known;
   few = omega arith;
   all = λ e h. absurd (omega arith);
-  over = λ e. (e, refl)
+  over = λ e. (e, refl);
 }
 
 module _ {given given' : InputState} {out out' err err' : OutputState} {code : ℕ} where
@@ -23,7 +23,7 @@ module _ {given given' : InputState} {out out' err err' : OutputState} {code : �
       record {
         input = take count buffer;
         takes = filled.takes;
-        answered = λ whole e. rw (← cut whole, e) h
+        answered = λ whole e. rw (← cut whole, e) h;
       }
 
   pub behaves_so : (most most' : ℕ) (answer answer' : List ℕ → Answer) → most' ≡ most → ((s : List ℕ) → answer' s ≡ answer s)

@@ -1,6 +1,6 @@
 -- Bytes for which there is room are handed over whole, and a refusal with its number.
 -- What is put stands at the buffer's start, and no refusal has number 0.
-use Rattle.std.proofs.Common.{ℕ, ◌≡◌, ◌≤◌, List, ◌++◌, Result, Ok, Err, length, take, drop, refl, ap}
+use Rattle.std.proofs.Common.{ℕ, ◌≡◌, ◌≤◌, List, Ok, Err, length, take, drop, refl, ap}
 use Rattle.std.proofs.Math.Seq.{take-append_seam}
 use borrow.Author.Tests.{ne_eqb, le-leb}
 use Rattle.base.specs.Lent.{untouched, put}

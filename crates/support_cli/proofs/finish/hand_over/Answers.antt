@@ -1,4 +1,4 @@
-use Rattle.std.proofs.Common.{◌≡◌, length, take, ap, ◌∙◌}
+use Rattle.std.proofs.Common.{◌≡◌, take, ap, ◌∙◌}
 use Rattle.std.proofs.lemmas.List.{take_min}
 use Rattle.support_cli.proofs.Handing.{hands-written, hands-refused}
 use Rattle.support_cli.proofs.finish.hand_over.Goals as goal
