@@ -1,17 +1,15 @@
 -- The status that a text tells is that of its sheet, and an input beyond the longest sheet is settled as its front is.
 -- The text of a sheet that is refused begins with these words, and any other with `verdict`.
-use Rattle.std.proofs.Common.{ℕ, suc, ◌≡◌, Bool, true, false, List, ◌++◌, take, refl, ap, arith}
+use Rattle.std.proofs.Common.{ℕ, suc, ◌≡◌, List, take, refl}
 use lib.Dec.{eqb}
-use Rattle.std.specs.List.{starts_with}
 use Rattle.base.proofs.Tests.{test}
 use Rattle.problem.specs.Sheet.{longest_sheet}
-use Rattle.protocol.specs.Network.{Started, start_sheet}
-use Rattle.protocol.specs.Run.{Ran, run}
+use Rattle.protocol.specs.Network.{start_sheet}
+use Rattle.protocol.specs.Run.{Ran}
 use Rattle.text.specs.Text.{line_of}
 use Rattle.dock_text.specs.Settling.{program_rule, program_rounds, settled}
 use Rattle.dock_text.specs.Text.{sheet_refused, verdict, ran_text, settled_text, dock_text}
 use Rattle.dock_text.proofs.Cut.{start-cut, text-cut}
-use Rattle.support_cli.specs.Answers.{prints}
 use Rattle.cli_dock.specs.Answers.{status_by, status_told, dock_status, dock_answer}
 
 told-by : (number : ℕ) (r : Ran) → status_told (settled_text number r) ≡ status_by number

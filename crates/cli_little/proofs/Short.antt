@@ -1,15 +1,13 @@
 -- No little sheet has more than 120 bytes, so that none is refused for want of room.
 -- Three scanners with two slots each have twelve pairs of slots; the slot counts are gone through.
-use Rattle.std.proofs.Common.{ℕ, ◌≡◌, ◌≤◌, ◌<◌, Bool, true, false, ◌&&◌, List, length, refl, arith}
+use Rattle.std.proofs.Common.{ℕ, ◌≡◌, ◌≤◌, ◌<◌, true, ◌&&◌, List, length, refl, arith}
 use lib.Dec.{leb, eqb, ltb}
 use borrow.Author.Tests.{leb-true, eqb-true, ltb-true}
 use Rattle.base.specs.Finite.{gather, every}
-use Rattle.base.specs.Lent.{put}
 use Rattle.base.proofs.Tests.{test, both}
 use Rattle.base.proofs.Lists.{All, All-map, every-all}
 use Rattle.problem.specs.Problem.{max_agents, domain}
 use Rattle.problem.specs.Sheet.{header_length, record_length}
-use Rattle.problem.specs.Writing.{written}
 use Rattle.problem.proofs.Writing.{writes-length}
 use Rattle.little_rules.specs.Little.{little_count, most_agents, most_values, counts_of, sizes, bare, pairs_of, places, chosen, choice_from, sheet_of, little_sheet}
 use Rattle.little_rules.specs.Putting.{no_ordinal, put_little}

@@ -1,6 +1,6 @@
 -- What is told of a sheet is answered as its text says, and an input beyond the longest sheet as its front.
 -- No text is longer than the longest, no refusal has number 0, and what is longer than the longest sheet is refused whatever follows.
-use Rattle.std.proofs.Common.{ℕ, suc, ◌+◌, ◌*◌, ◌≡◌, ◌≤◌, ◌<◌, List, length, take, refl, sym, ap, ◌∙◌, arith}
+use Rattle.std.proofs.Common.{ℕ, suc, ◌+◌, ◌*◌, ◌≡◌, ◌≤◌, ◌<◌, List, length, take, refl, ap, ◌∙◌, arith}
 use lib.Seq.{take_all}
 use lib.Dec.{leb}
 use borrow.Author.Tests.{ne_eqb, leb-true, leb-false}
@@ -8,7 +8,7 @@ use Rattle.base.proofs.Tests.{test}
 use Rattle.problem.specs.Sheet.{SheetFault, BadLength, BadHeader, fault_number, Decoded, Valid, Invalid, header_length, record_length, max_records, longest_sheet, records_in, header_good, decode}
 use Rattle.problem.proofs.Checks.{fault-some, bad-header, bad-length}
 use Rattle.problem.proofs.Fields.{header-fits}
-use Rattle.problem.proofs.Longest.{longest-is, decode-cut}
+use Rattle.problem.proofs.Longest.{decode-cut}
 use Rattle.scribe_rules.specs.Telling.{longest_told, Told, Text, Refused, told_from, text_of}
 use Rattle.scribe_rules.specs.Printing.{refused_word, told_printed, text_printed}
 use Rattle.scribe_theorems.proofs.Theorems.{texts-short}

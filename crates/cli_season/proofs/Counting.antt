@@ -1,9 +1,8 @@
 -- What is told behind a piece is what progress has more then.
 -- A thousand is full exactly where the count is a multiple of it.
-use Rattle.std.proofs.Common.{ℕ, suc, ◌+◌, ◌*◌, ◌/◌, ◌%◌, ◌≡◌, Bool, true, false, not, ◌&&◌, List, [], ◌++◌, length, refl, sym, ap, ◌∙◌, append-nil, arith}
+use Rattle.std.proofs.Common.{ℕ, suc, ◌+◌, ◌*◌, ◌/◌, ◌%◌, ◌≡◌, Bool, true, false, List, ◌++◌, length, refl, sym, ap, ◌∙◌, append-nil, arith}
 use lib.Dec.{eqb}
 use borrow.Author.Tests.{eqb-true, eqb-false}
-use Rattle.base.specs.Finite.{gather}
 use Rattle.base.proofs.Tests.{test}
 use Rattle.base.proofs.Lists.{gather-last}
 use Rattle.season_rules.specs.Season.{Figures as Figures', figures_of as figures_of'}

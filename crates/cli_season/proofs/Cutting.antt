@@ -1,6 +1,6 @@
 -- What was taken for a length and a sheet is the next piece of a stream, whatever follows.
 -- Bytes are cut off behind as many as were taken: all that were asked for, or all that there are.
-use Rattle.std.proofs.Common.{ℕ, suc, ◌+◌, ◌≡◌, ◌≤◌, ◌<◌, min, true, false, List, [], ◌++◌, Option, unwrap_or, length, refl, sym, ap, ◌∙◌, length-append, drop_at, arith}
+use Rattle.std.proofs.Common.{ℕ, ◌≡◌, ◌≤◌, ◌<◌, min, true, false, List, [], ◌++◌, Option, unwrap_or, length, refl, sym, ap, ◌∙◌, length-append, drop_at, arith}
 use Rattle.std.proofs.lemmas.List.{take_at, nil_from_length}
 use lib.Dec.{leb}
 use borrow.Author.Tests.{leb-true, leb-false}

@@ -1,6 +1,6 @@
 -- What was taken so far is read as a stream of its own: the season so far is its season, and no byte of it is more than that needs.
 -- While reading goes on this holds whatever follows; where it is over, nothing follows.
-use Rattle.std.proofs.Common.{ℕ, zero, suc, ◌+◌, ◌≡◌, ◌≤◌, ◌<◌, Bool, true, false, Option, List, [], ◌∷◌, ◌++◌, None, Some, unwrap_or, length, drop, refl, sym, ap, subst, ◌∙◌, append_assoc, append-nil, length-append, length-drop, arith}
+use Rattle.std.proofs.Common.{ℕ, suc, ◌+◌, ◌≡◌, ◌≤◌, ◌<◌, Bool, true, false, Option, List, [], ◌∷◌, ◌++◌, None, Some, unwrap_or, length, drop, refl, sym, ap, subst, ◌∙◌, append_assoc, append-nil, length-append, length-drop, arith}
 use lib.Dec.{leb}
 use borrow.Author.Tests.{leb-true, leb-false}
 use Rattle.std.specs.Io.KnownBytes.{Consumes, IsAtEnd}
@@ -8,9 +8,8 @@ use Rattle.std.proofs.KnownBytes.{Consumes-nil, Consumes-trans}
 use Rattle.base.specs.Finite.{gather}
 use Rattle.base.proofs.Tests.{test}
 use Rattle.season_rules.specs.Season.{no_figures, figures_of as figures_of'}
-use Rattle.season_rules.specs.Stream.{most_sheets, length_bytes, length_in, is_whole, Stream, split, ended, Season as Season', season_from, season}
-use Rattle.season_figures.specs.declared.stream.Reading.{Reading}
-use Rattle.season_figures.specs.declared.stream.Reading.TheVariants.{Going, Ended, Cut}
+use Rattle.season_rules.specs.Stream.{most_sheets, length_bytes, length_in, is_whole, split, Season as Season', season_from, season}
+use Rattle.season_figures.specs.declared.stream.Reading.TheVariants.{Going}
 use Rattle.season_figures.specs.declared.stream.Season.{Season}
 use Rattle.season_figures.specs.Abstract.{figures_of}
 use Rattle.season_figures.specs.Pieces.{said, is_piece, is_over, over_by, season_of, Steps, Advances}
@@ -19,9 +18,8 @@ use Rattle.season_figures.proofs.Reading.{Here, here_begins, here_next, over_sea
 use Rattle.support_cli.specs.Streams.{InputState, OutputState, Takes, Puts}
 use Rattle.support_cli.proofs.Putting.{puts_then, puts_nothing}
 use Rattle.cli_season.specs.Answers.{told, progress, bytes_from, bytes_read}
-use Rattle.cli_season.specs.Behaving.{ReadsStream}
 use Rattle.cli_season.specs.Pieces.{progress_behind, TakesBehind, TakesPiece, StreamRead}
-use Rattle.cli_season.proofs.Cutting.{wanted, whole-long, broken-short, no-sheet-alone, whole-advances, last-advances}
+use Rattle.cli_season.proofs.Cutting.{wanted, broken-short, whole-advances, last-advances}
 use Rattle.cli_season.proofs.Counting.{told-more, told-still, sheets-are}
 
 pub record Now (tells : Bool) (given now : InputState) (err err' : OutputState) (s : Season) (left : ℕ) : Type 0 where

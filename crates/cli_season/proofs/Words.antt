@@ -1,13 +1,12 @@
 -- What a command line asks for, and what is done for it.
 -- The option is the first word, and nothing may stand behind it; nothing is read where a word is not understood.
-use Rattle.std.proofs.Common.{ℕ, ◌≡◌, Bool, true, false, List, [], ◌∷◌, ◌++◌, refl, sym, ap, subst, arith}
+use Rattle.std.proofs.Common.{ℕ, ◌≡◌, Bool, true, false, List, [], ◌∷◌, refl, arith}
 use Rattle.std.proofs.KnownBytes.{Consumes-nil}
-use Rattle.season_rules.specs.Stream.{most_sheets, split, Season as Season', season}
 use Rattle.season_text.specs.Text.{season_text}
 use Rattle.season_figures.specs.declared.stream.Season.{Season}
 use Rattle.season_figures.specs.Pieces.{season_of}
-use Rattle.support_cli.specs.Streams.{InputState, OutputState, Takes, Puts}
-use Rattle.support_cli.specs.Answers.{done, prints, failure_line, Answered}
+use Rattle.support_cli.specs.Streams.{InputState, OutputState, Takes}
+use Rattle.support_cli.specs.Answers.{done, prints, Answered}
 use Rattle.support_cli.proofs.Putting.{puts_then}
 use Rattle.cli_season.specs.Answers.{is_progress, Asked, Stream, Wrong, asked_behind, asked, wrong_answer, stream_answer}
 use Rattle.cli_season.specs.Behaving.{Serves}

@@ -1,12 +1,12 @@
 -- What is turned fits the buffer that is lent, and an input beyond the longest sheet is turned as its front is.
 -- No sheet that is written is longer than the longest; the header, and with it the edition, is in the first 24 bytes.
-use Rattle.std.proofs.Common.{ℕ, suc, ◌≡◌, ◌≤◌, ◌<◌, Bool, true, false, List, length, take, refl, sym, ap, ◌∙◌, arith}
+use Rattle.std.proofs.Common.{ℕ, suc, ◌≡◌, ◌≤◌, ◌<◌, true, false, List, length, take, refl, sym, ap, ◌∙◌, arith}
 use Rattle.std.proofs.lemmas.List.{get_or-take}
 use lib.Seq.{length-take-le, take_all}
-use lib.Dec.{leb, ltb, eqb}
+use lib.Dec.{leb, eqb}
 use borrow.Author.Tests.{le-ltb, leb-true, leb-false}
 use Rattle.base.proofs.Tests.{test}
-use Rattle.problem.specs.Sheet.{Decoded, Valid, Invalid, BadLength, BadHeader, fault_number, header_length, longest_sheet, byte_at, edition_in, decode}
+use Rattle.problem.specs.Sheet.{Decoded, Valid, Invalid, BadHeader, fault_number, header_length, longest_sheet, byte_at, edition_in, decode}
 use Rattle.problem.proofs.Checks.{fault-some}
 use Rattle.problem.proofs.Longest.{longest-is, decode-cut}
 use Rattle.turn_rules.specs.Gaps.{sayable}
