@@ -49,10 +49,11 @@ module _ (b : Began) (calls : List (List ℕ)) where
       → Said (prints (calls_text calls d) (calls_status calls)) r y z → Said (prints (b.text ++ calls_text calls d) (calls_status calls)) r x z
   unfolding prints
   behind (Ok s) d x y z p (q, status, quiet) = (puts_then b.text (calls_text calls d) x y z p q, status, quiet)
-  behind (Err e) d x y z p (n, q) =
-      (length b.text + n,
-      subst (λ (t : List ℕ). Puts t x z) (sym (take-append-add b.text (calls_text calls d) n))
-      (puts_then b.text (take n (calls_text calls d)) x y z p q))
+  behind (Err e) d x y z p (n, q) = (
+    length b.text + n,
+    subst (λ (t : List ℕ). Puts t x z) (sym (take-append-add b.text (calls_text calls d) n))
+        (puts_then b.text (take n (calls_text calls d)) x y z p q),
+  )
 
   pub said-played : {E : Type 0} (r : Result Status E) (d : Dispatcher) (x y z : OutputState) → 0 ≡ b.number → d ≡ dispatcher b.network → Puts b.text x y
       → Said (prints (calls_text calls d) (calls_status calls)) r y z → Said (played b calls) r x z

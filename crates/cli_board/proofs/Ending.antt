@@ -25,8 +25,8 @@ module _ (x y err err' : OutputState) (code : ℕ) (failure : Puts (failure_line
         errors = subst (λ (t : List ℕ). Puts (t ++ failure_line y.failed) err err') (sym quiet) failure;
         status = e ∙ by-failing y.failed (status_code s) a.status status;
       })
-  answered a (Err f) (n, p) e = inr (n, record { output = p; errors = failure; status = e; })
+  answered a (Err f) (n, p) e = inr (n, record { output = p; errors = failure; status = e })
 
   pub gives : {E : Type 0} (answer : Option (List ℕ) → Answer) (held : Held) (r : Result Status E) → SaidOf answer held r x y
       → code ≡ status_by y.failed (status_code (result_unwrap_or r NotUnderstood)) → Gives answer held x y err err' code
-  gives answer held r s e = record { file = s.file; read = s.read; answered = answered (answer s.file) r s.kept e; }
+  gives answer held r s e = record { file = s.file; read = s.read; answered = answered (answer s.file) r s.kept e }

@@ -41,24 +41,24 @@ some-same {a} {b} e = ap (λ (o : Option ℕ). unwrap_or o a) e
 module _ {E : Type 0} (o : Options) (name : List ℕ) (calls : List (List ℕ)) (r : Result Status E) (x y : OutputState) (buffer : List ℕ) where
   pub opened-none : (held : Held) → ReadsFile held None buffer → Said (unread name) r x y → SaidOf (opened_by o name calls) held r x y
   unfolding opened_by
-  opened-none Unknown f s = record { file = None; read = tt; kept = s; }
-  opened-none Unreadable f s = record { file = None; read = refl; kept = s; }
+  opened-none Unknown f s = record { file = None; read = tt; kept = s }
+  opened-none Unreadable f s = record { file = None; read = refl; kept = s }
   opened-none (Bytes bytes) f s = none-some f.gives.0
 
   pub opened-some : (held : Held) (n : ℕ) → ReadsFile held (Some n) buffer → length buffer ≡ 33817 → Said (played (began_by o (take n buffer)) calls) r x y
       → SaidOf (opened_by o name calls) held r x y
   unfolding opened_by longest_sheet header_length record_length max_records
-  opened-some Unknown n f l s = record { file = Some (take n buffer); read = tt; kept = s; }
+  opened-some Unknown n f l s = record { file = Some (take n buffer); read = tt; kept = s }
   opened-some Unreadable n f l s = some-none f.gives
   opened-some (Bytes bytes) n f l s =
       let front : take n buffer ≡ take (length buffer) bytes = ap (λ (k : ℕ). take k buffer) (some-same f.gives.0) ∙ f.gives.1 in
       let whole : began_by o (take n buffer) ≡ began_by o bytes = ap (began_by o) (front ∙ ap (λ (k : ℕ). take k bytes) l) ∙ began-cut o bytes in
-      record { file = Some bytes; read = refl; kept = subst (λ b. Said (played b calls) r x y) whole s; }
+      record { file = Some bytes; read = refl; kept = subst (λ b. Said (played b calls) r x y) whole s }
 
 pub said-as : {E : Type 0} (answer other : Option (List ℕ) → Answer) (held : Held) (r : Result Status E) (x y : OutputState)
     → ((file : Option (List ℕ)) → answer file ≡ other file) → SaidOf answer held r x y → SaidOf other held r x y
 said-as answer other held r x y same s =
-    record { file = s.file; read = s.read; kept = subst (λ (a : Answer). Said a r x y) (same s.file) s.kept; }
+    record { file = s.file; read = s.read; kept = subst (λ (a : Answer). Said a r x y) (same s.file) s.kept }
 
 -- ---- whether a file is opened
 

@@ -60,8 +60,9 @@ module _ {words : List (List ℕ)} {d : Dispatcher} {begun : OutputState} {left 
       (puts_then p.text (calls_text left e) begun now now p.put (puts_failed (calls_text left e) now failed))
 
   pub playing-short : (n : ℕ) × Puts (take n (calls_text words d)) begun now
-  playing-short =
-      (length p.text,
-      subst (λ (t : List ℕ). Puts t begun now)
-      (sym (take-append_seam p.text (calls_text left e)) ∙ ap (take (length p.text)) p.same)
-      p.put)
+  playing-short = (
+    length p.text,
+    subst (λ (t : List ℕ). Puts t begun now)
+        (sym (take-append_seam p.text (calls_text left e)) ∙ ap (take (length p.text)) p.same)
+        p.put,
+  )

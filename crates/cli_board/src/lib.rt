@@ -12,7 +12,9 @@ ghost use Rattle.board_text.specs.Text.{unopened_text, call_text};
 ghost use Rattle.cli_board.specs.Answers.{calls_text, call_status, calls_status, began_by, played, unread, opened_by, unfiled_status, unopened_status, answer_by, board_answer, file_named};
 ghost use Rattle.cli_board.specs.Saying.{Said, SaidOf, Gives};
 
-use board_text::options::{Options, Read, Stage, no_options, opens, put_unopened, read_options, rule_of};
+use board_text::options::{
+    Options, Read, Stage, no_options, opens, put_unopened, read_options, rule_of,
+};
 use board_text::{Stepped, put_call, put_image, put_start};
 use dispatch::Dispatcher;
 use network::is_rule;

@@ -8,9 +8,10 @@ use Rattle.cli_board.proofs.say_unopened.Goals as goal
 pub returns : goal.returns
 unfolding prints
 returns g c =
-    let text = unopened_text c.args.o c.args.word.now in
-    (subst (λ (t : List ℕ). Puts t (output_of g.W.Write.contents c.args.output.now) (output_of g.W.Write.contents c.put.new.self))
-    (c.deref.ensures.value ∙ c.in_ok-put_unopened.ensures ∙ ap (λ (t : List ℕ). t ++ text) c.new-text.ensures.items)
-    c.put.ensures,
-    λ good. c.unopened_status.ensures,
-    refl)
+    let text = unopened_text c.args.o c.args.word.now in (
+      subst (λ (t : List ℕ). Puts t (output_of g.W.Write.contents c.args.output.now) (output_of g.W.Write.contents c.put.new.self))
+          (c.deref.ensures.value ∙ c.in_ok-put_unopened.ensures ∙ ap (λ (t : List ℕ). t ++ text) c.new-text.ensures.items)
+          c.put.ensures,
+      λ good. c.unopened_status.ensures,
+      refl,
+    )
