@@ -6,9 +6,9 @@
 
 ghost use Rattle.lent.specs.Abstract.{InBuffer};
 
+use abt_calls::play as play_calls;
 use board_text::options::{Options, Stage, goes_on, is_option, no_options, opens, option, rule_of};
 use board_text::read_call;
-use abt_calls::play as play_calls;
 use dispatch::Dispatcher;
 use image_mover::{Form, move_image, store_as};
 use network::{Network, is_rule};
