@@ -54,6 +54,21 @@ fn tell_fault<W: Write, E: Write>(
     tell(output, errors, &text[..length], Status::Refused)
 }
 
+// Why a text gives no sheet.
+fn answer_unread<W: Write, E: Write>(
+    unread: Unread,
+    sheet: &[u8],
+    output: &mut Output<W>,
+    errors: &mut Output<E>,
+) -> Status
+    ensures { Answered (read_answer (read_of (Err unread) sheet.now)) (output_of W.contents output.old) (output_of W.contents output.new) (output_of E.contents errors.old) (output_of E.contents errors.new) (status_code result) }
+{
+    match unread {
+        Unread::Refused(refusal) => hand_over(output, errors, Err(refusal), sheet),
+        Unread::Faulty(faulty) => tell_fault(faulty, output, errors),
+    }
+}
+
 // What was read of a text: its sheet, or the fault.
 fn answer_sheet<W: Write, E: Write>(
     read: Result<usize, Unread>,
@@ -65,8 +80,7 @@ fn answer_sheet<W: Write, E: Write>(
 {
     match read {
         Ok(length) => hand_over(output, errors, Ok(length), sheet),
-        Err(Unread::Refused(refusal)) => hand_over(output, errors, Err(refusal), sheet),
-        Err(Unread::Faulty(faulty)) => tell_fault(faulty, output, errors),
+        Err(unread) => answer_unread(unread, sheet, output, errors),
     }
 }
 

@@ -1,4 +1,4 @@
-use Rattle.std.proofs.Common.{sym, ◌∙◌}
+use Rattle.std.proofs.Common.{Some, sym, ap, ◌∙◌}
 use Rattle.support_cli.proofs.Behaving.{behaves_blind, behaves_so}
 use Rattle.cli_scribe.proofs.Words.{none_given, unread, surplus, taken_whole, answered}
 use Rattle.cli_scribe.proofs.scribe.Goals as goal
@@ -16,3 +16,15 @@ returns-in-Some-first_word g c =
     let known = sym c.command_of.ensures ∙ c.in-Some-command_of.is in
     let b = surplus _ _ _ c.in-Some.ensures _ known _ _ c.in-Some-first_word.ensures in
     behaves_blind _ _ _ b.takes b.says c.complain-in-Some-first_word.ensures
+
+pub returns-in-Sheet : goal.returns-in-Sheet
+returns-in-Sheet g c =
+    let known = sym c.command_of.ensures ∙ c.in-Some-command_of.is ∙ ap Some c.in-Sheet.is in
+    let alone = c.in_default-first_word.ensures in
+    behaves_so _ _ _ _ (taken_whole _ _ _ c.in-Some.ensures _ known alone) (answered _ _ _ c.in-Some.ensures _ known alone) c.write_sheet.ensures
+
+pub returns-in-Text : goal.returns-in-Text
+returns-in-Text g c =
+    let known = sym c.command_of.ensures ∙ c.in-Some-command_of.is ∙ ap Some c.in-Text.is in
+    let alone = c.in_default-first_word.ensures in
+    behaves_so _ _ _ _ (taken_whole _ _ _ c.in-Some.ensures _ known alone) (answered _ _ _ c.in-Some.ensures _ known alone) c.write_told.ensures

@@ -1,0 +1,4 @@
+pub mod Cutting
+pub mod Counting
+pub mod Reading
+pub mod Words
