@@ -1,13 +1,13 @@
 -- What is said of the file's bytes, and behind it of the calls.
-use Rattle.std.proofs.Common.{◌≡◌, ◌≢◌, ℕ, ◌+◌, List, [], ◌++◌, true, false, length, take, refl, sym, ap, ◌∙◌, subst}
+use Rattle.std.proofs.Common.{◌≡◌, ◌≢◌, ℕ, ◌+◌, List, ◌++◌, true, false, length, take, refl, sym, subst}
 use Rattle.std.proofs.Math.Seq.{take-append-add}
 use borrow.Author.Tests.{ne_eqb}
 use Rattle.std.specs.Prelude.{Result, Ok, Err, IfOk}
 use Rattle.dispatch_rules.specs.Dispatch.{Dispatcher, dispatcher}
 use Rattle.image_forms.specs.Reading.{load}
-use Rattle.protocol.specs.Network.{start_sheet, is_rule}
+use Rattle.protocol.specs.Network.{start_sheet}
 use Rattle.support_cli.specs.Streams.{OutputState, Puts}
-use Rattle.support_cli.specs.Answers.{Answer, prints, refused, not_understood}
+use Rattle.support_cli.specs.Answers.{Answer, prints, refused}
 use Rattle.support_cli.specs.declared.status.Status.{Status}
 use Rattle.support_cli.specs.declared.status.Status.TheVariants.{Refused}
 use Rattle.support_cli.proofs.Putting.{puts_then}

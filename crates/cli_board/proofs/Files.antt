@@ -1,5 +1,5 @@
 -- What a file's bytes give is what their first 33,817 give, and what is read of a name is what it holds.
-use Rattle.std.proofs.Common.{◌≡◌, ℕ, suc, List, [], true, false, length, take, refl, sym, ap, ◌∙◌, subst, arith}
+use Rattle.std.proofs.Common.{◌≡◌, ℕ, suc, List, true, false, length, take, refl, sym, ap, ◌∙◌, subst, arith}
 use Rattle.std.specs.Prelude.{Option, None, Some, Result, unwrap_or, map, vec_items}
 use Rattle.problem.specs.Sheet.{header_length, record_length, max_records, longest_sheet}
 use Rattle.base.proofs.Tests.{test}

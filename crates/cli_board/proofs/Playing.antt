@@ -1,5 +1,5 @@
 -- Calls that are made one by one, what is said of each put behind what is said of those before: as far as it has come, that is the text of all of them.
-use Rattle.std.proofs.Common.{◌≡◌, ℕ, ◌+◌, List, [], ◌∷◌, ◌++◌, true, false, length, take, refl, sym, ap, ◌∙◌, append_assoc, append-nil, subst, max, arith}
+use Rattle.std.proofs.Common.{◌≡◌, ℕ, List, [], ◌∷◌, ◌++◌, true, false, length, take, refl, sym, ap, ◌∙◌, append_assoc, append-nil, subst, max, arith}
 use Rattle.std.proofs.Math.Seq.{take-append_seam}
 use Rattle.std.proofs.KnownBytes.{Appends-nil, Keeps-refl}
 use Rattle.dispatch_rules.specs.Dispatch.{Dispatcher}

@@ -24,6 +24,7 @@ pub fn run_program<R: Read, W: Write, E: Write>(
     match name {
         b"dock" => Some(cli_dock::dock(input, output, errors)),
         b"board" => Some(cli_board::board(command.alloc, command.files, words, output, errors)),
+        b"image" => Some(cli_image::image(command.alloc, command.files, words, output, errors)),
         b"little" => Some(cli_little::little(words, output, errors)),
         b"turn" => Some(cli_turn::turn(words, input, output, errors)),
         b"scribe" => Some(cli_scribe::scribe(words, input, output, errors)),

@@ -1,5 +1,5 @@
 -- What is said of the file's bytes, and then the calls.
-use Rattle.std.proofs.Common.{◌≡◌, ℕ, List, ◌++◌, refl, sym, ap, ◌∙◌, subst}
+use Rattle.std.proofs.Common.{ℕ, List, ◌++◌, sym, ap, ◌∙◌, subst}
 use Rattle.std.specs.declared.alloc.AllocError.{AllocError}
 use Rattle.refusals.proofs.Numbers.{refusal-some}
 use Rattle.support_cli.specs.Streams.{output_of, Puts}

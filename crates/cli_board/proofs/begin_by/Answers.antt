@@ -1,8 +1,8 @@
 -- By whether the file is an image.
-use Rattle.std.proofs.Common.{◌≡◌, ℕ, ◌++◌, OnOk, subst, sym, ap, ◌∙◌}
+use Rattle.std.proofs.Common.{◌≡◌, ℕ, ◌++◌, OnOk, subst, ap, ◌∙◌}
 use Rattle.std.specs.Prelude.{IfOk}
 use Rattle.dispatch_rules.specs.Dispatch.{dispatcher}
-use Rattle.board_text.specs.Calling.{begun_number, begun_of, BeginsAs}
+use Rattle.board_text.specs.Calling.{BeginsAs}
 use Rattle.protocol.specs.Network.{start_sheet}
 use Rattle.board_text.specs.Options.{rule_of}
 use Rattle.board_text.specs.Text.{start_text}

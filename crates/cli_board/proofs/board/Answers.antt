@@ -1,7 +1,6 @@
 -- What is said, and how the program ends.
-use Rattle.std.proofs.Common.{◌≡◌, ℕ, true, ap, ◌∙◌, subst}
+use Rattle.std.proofs.Common.{true, ap, ◌∙◌, subst}
 use Rattle.std.specs.Prelude.{map, vec_items}
-use Rattle.support_cli.specs.Streams.{output_of}
 use Rattle.support_cli.specs.Answers.{status_code, status_by}
 use Rattle.support_cli.specs.declared.status.Status.{Status}
 use Rattle.board_text.specs.Options.{no_options, line_from, ReadsAs}

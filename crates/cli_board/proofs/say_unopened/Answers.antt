@@ -1,5 +1,5 @@
 -- The text, in one piece.
-use Rattle.std.proofs.Common.{◌≡◌, ℕ, List, ◌++◌, refl, ap, ◌∙◌, subst}
+use Rattle.std.proofs.Common.{ℕ, List, ◌++◌, refl, ap, ◌∙◌, subst}
 use Rattle.support_cli.specs.Streams.{output_of, Puts}
 use Rattle.support_cli.specs.Answers.{prints}
 use Rattle.board_text.specs.Text.{unopened_text}

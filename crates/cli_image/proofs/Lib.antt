@@ -1,0 +1,6 @@
+mod Calling
+mod Rooms
+mod Giving
+mod Opening
+mod Starting
+mod Words
