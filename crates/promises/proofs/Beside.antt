@@ -1,9 +1,5 @@
 -- The claims of specs/Claims.antt: each is a law of another crate, told here in the claim's own shape. Assumes nothing.
 use mathlib.Core.Path.{◌≡◌, refl}
-use mathlib.Core.Bool.{true, false}
-use mathlib.Core.List.{List, [], ◌∷◌}
-use Prim.Native.Nat.{ℕ}
-use lib.Dec.{eqb}
 use borrow.Author.Tests.{eq-eqb}
 use Rattle.agent_rules.specs.Receiving.{quiet, answer, outdated, on_back, react}
 use Rattle.agent_facts.proofs.Uncounted.{react-uncounted}

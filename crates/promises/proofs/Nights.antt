@@ -16,7 +16,7 @@ use Rattle.protocol.specs.Network.{empty_network, self_of, bans_of, posted, with
 use Rattle.protocol.specs.Shape.{capacity, each_named, each_in, holds_value, last_fits, listens_upward, informs_downward, linked_listen, informed_listen, view_listened, nogood_fits, nogoods_fit, counts_fit, unused, agent_in_shape, lhs_fits, message_fits, has_room, one_request, channel_in_shape, in_shape}
 use Rattle.protocol.specs.Delivery.{rejection_number, answer_number, is_accepted, rejecting, numbers_good, fits, deliver_head, deliver, ask_value}
 use Rattle.protocol.specs.Run.{is_line, is_empty, idle, visits, begin_round, stopped, is_no_room, passed_by, passed_over, counts, tally, skipped, attempt, sweep, round, is_full, ending_number, ending_word, ending_at, finish, is_stuck, one_if, run_from, max_rounds, allowed, run}
-use Rattle.protocol.specs.Nights.{padded, sheet, same_messages, asked, ran_as, tries_in, tries_of, holds_from, sheet1, sheet2, sheet3, sheet4, sheet5, sheet9, sheet_order, empty, AllHold, sheet_of, sheet_shared, told1, told2, crowded}
+use Rattle.protocol.specs.Nights.{padded, sheet, same_messages, asked, ran_as, tries_in, tries_of, holds_from, sheet1, sheet2, sheet3, sheet4, sheet5, sheet9, sheet_order, empty, sheet_of, sheet_shared, told1, told2, crowded}
 use Rattle.problem.specs.Writing.{two_bytes, header_bytes, row_bytes, index_after, chained, written}
 use Rattle.problem.specs.Row.{agents_good, values_good, signed, between, gaps_good, fields_good, row_good, gap, hits, with_row}
 use Rattle.text.specs.Text.{last_decimals, decimal, newline, line_of}

@@ -1,14 +1,14 @@
 -- Claims that stand beside those of the other crates' Claims.antt: laws of the rules, of sheets and of images, each under a name of its own.
-use Rattle.std.specs.Prelude.{ℕ, suc, ◌≤◌, ◌≡◌, Bool, true, false, List, [], ◌∷◌, length, take, eqb}
+use Rattle.std.specs.Prelude.{ℕ, suc, ◌≤◌, ◌≡◌, true, false, List, [], ◌∷◌, length, take, eqb}
 use Rattle.base.specs.Finite.{within, every}
 use Rattle.problem.specs.Problem.{Problem, in_range, banned, no_bans, with_table}
 use Rattle.problem.specs.Row.{Row, row_good, rows_ban, with_rows}
 use Rattle.problem.specs.Sheet.{Valid, longest_sheet, max_records, decode}
 use Rattle.problem.specs.Writing.{written}
-use Rattle.agent_rules.specs.Message.{Assignment, Message, Info, Back, Post, sent_to}
+use Rattle.agent_rules.specs.Message.{Assignment, Message, Info, Back}
 use Rattle.agent_rules.specs.Counts.{Counts}
 use Rattle.agent_rules.specs.Agent.{Self, Bans, Agent, Step, with_counts}
-use Rattle.agent_rules.specs.Receiving.{holds, react, receive}
+use Rattle.agent_rules.specs.Receiving.{holds, react}
 use Rattle.protocol.specs.Network.{Network, start}
 use Rattle.protocol.specs.Shape.{in_shape}
 use Rattle.protocol.specs.Run.{Line}
@@ -34,7 +34,7 @@ OutdatedAnswered =
 abbrev pub with_step_counts : Counts → Step → Step
 with_step_counts c t = record { agent = with_counts t.agent c; sent = t.sent; verdict = t.verdict }
 
--- "No other rule reads or changes a count": with other counts in the record the rules make the same step, and leave those counts in it.
+-- "No rule reads a count.", and none changes one: with other counts in the record the rules make the same step, and leave those counts in it.
 abbrev pub CountsUnread : Type 0
 CountsUnread =
     (s : Self) (bans : Bans) (c : Counts) (a : Agent) (from : ℕ) (m : Message)

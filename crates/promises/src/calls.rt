@@ -29,7 +29,7 @@ pub fn counted_rounds()
     ensures marked_of_problems { EveryProblem RunsMark }
 {}
 
-/// A run stands in a list for the deliveries that it tries, in its order. Of every network, forged ones too.
+/// A run stands in a list for the deliveries that it tries, in its order: of every network, forged ones too. What waits by the list's definition is what the channel holds.
 pub fn replayed()
     ensures replay { Replay }
     ensures waits { WaitsAsHeld }
@@ -78,7 +78,7 @@ pub fn answers()
     ensures delivery_of_problems { EveryProblem DeliveryTells }
 {}
 
-/// The limit is on full rounds. On one sheet a list of accepted deliveries goes on without end and has no full round, so no such limit holds of deliveries.
+/// The limit is on full rounds. On one sheet a list of accepted deliveries goes on for any number of turns and has no full round, so the limit on full rounds does not hold of deliveries.
 pub fn unbounded()
     ensures sheet { OfASheet }
     ensures accepted { AllAccepted }

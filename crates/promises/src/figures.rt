@@ -22,7 +22,7 @@ pub fn streams()
     ensures no_more { ReadsNoMore }
 {}
 
-/// Counted one by one and capped each time at the top of 64 bits, sheets come to the same as counted together and capped once; no season is capped.
+/// Counted one by one and capped each time at the top of 64 bits, sheets come to the same as counted together and capped once. No list is capped of which 100,000 times the number of sheets fits.
 pub fn capped()
     ensures in_turn { CappedInTurn }
     ensures never { NeverCapped }

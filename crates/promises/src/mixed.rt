@@ -1,13 +1,13 @@
 //! What holds of lists that mix deliveries, runs, picks, and writes and reads of the rail in either form.
 ghost use Rattle.theorems.specs.Claims.{EveryProblem, EverySheet};
 ghost use Rattle.tenants.specs.Tenants.{Naming, NamingAbove};
-ghost use Rattle.theorems_lists.specs.Claims.{ComesToCalls, ComesToCallsAnywhere, SoundMixed, CompleteMixed, ReachedMixed, RoundBoundMixed, RunBoundMixed, RunsCountMixed, RunsMarkMixed, CountsExactMixed, CountsCappedMixed, SentIsReceivedAndWaitingMixed, SentIsReceivedAndWaitingOfMixed, AskedOnceMixed, StaysMixed, CountsNeverFallMixed, RuleKeptMixed, ActsAlikeMixed, FromStart, Comes};
+ghost use Rattle.theorems_lists.specs.Claims.{ComesToCalls, ComesToCallsAnywhere, SoundMixed, CompleteMixed, ReachedMixed, RoundBoundMixed, RunBoundMixed, RunsCountMixed, RunsMarkMixed, CountsExactMixed, CountsCappedMixed, SentIsReceivedAndWaitingMixed, SentIsReceivedAndWaitingOfMixed, AskedOnceMixed, StaysMixed, CountsNeverFallMixed, RuleKeptMixed, ActsAlikeMixed, FromStart, Comes, StandsMixed, RunTellsMixed};
 
 /// Such a list leaves, tries, makes, hands over and sends what the calls that it comes to do, and every read answers 0.
 pub fn calls()
-    ensures from_a_start { EverySheet (λ rule p. FromStart rule p Comes) }
     ensures calls { EverySheet ComesToCalls }
-    ensures from_a_start_of_problems { EveryProblem ComesToCalls }
+    ensures calls_of_problems { EveryProblem ComesToCalls }
+    ensures from_start { EverySheet (λ rule p. FromStart rule p Comes) }
     ensures anywhere { ComesToCallsAnywhere }
 {}
 
@@ -17,6 +17,14 @@ pub fn accuracy()
     ensures sound_of_problems { EveryProblem SoundMixed }
     ensures complete { EverySheet CompleteMixed }
     ensures complete_of_problems { EveryProblem CompleteMixed }
+{}
+
+/// What such a list leaves tells by itself, and what the word, the full rounds and the slots of a run tell behind it.
+pub fn answers()
+    ensures stands { EverySheet StandsMixed }
+    ensures stands_of_problems { EveryProblem StandsMixed }
+    ensures run { EverySheet RunTellsMixed }
+    ensures run_of_problems { EveryProblem RunTellsMixed }
 {}
 
 /// However full rounds are marked off, there are at most 16 · n · (d + 2)^n of them. So are those that the runs of a list return together.

@@ -34,7 +34,7 @@ pub fn moved()
     ensures form { MovedForm }
 {}
 
-/// Every rail that calls lead to from a start is one that its image gives back; so is every network of the code.
+/// Every rail that calls lead to from a start is one that its image gives back. (That every network of the code holds nothing outside its arrays is a clause of `image_mover::store_as`.)
 pub fn plain()
     ensures reached { EverySheet ReachedPlain }
     ensures reached_of_problems { EveryProblem ReachedPlain }

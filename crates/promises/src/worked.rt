@@ -17,7 +17,7 @@ ghost use Rattle.season_text.specs.Cases.{AllPrint};
 ghost use Rattle.promises.specs.Nights.{MarkedNights};
 ghost use Rattle.promises.specs.Claims.{FirstWorked, FormsWorked};
 
-/// The nights marked P, as one claim, with all that P9's text prints; then further nights under both rules, of the dispatcher, and pairs of rails that are alike in one agent.
+/// The nights marked P, as one claim, with all that P9's text prints; then further nights under both rules.
 pub fn nights()
     ensures marked { MarkedNights }
     ensures first { NightsHold nights }

@@ -9,12 +9,13 @@ use Rattle.protocol.specs.Run.{Line}
 use Rattle.theorems.specs.Calls.{Call, left_by_all}
 use Rattle.theorems.specs.Marking.{own_marking}
 use Rattle.theorems.specs.Figures.{sent_from, received_by}
-use Rattle.theorems.specs.Claims.{EveryProblem, EverySheet}
+use Rattle.theorems.specs.Claims.{slots_of, EveryProblem, EverySheet}
 use Rattle.theorems.proofs.Theorems.{
   sound-at-rest,
   complete-verdict,
   round-bound,
   run-bound,
+  run-tells,
   runs-count,
   runs-mark,
   asked-once,
@@ -40,6 +41,8 @@ use Rattle.theorems_lists.specs.Claims.{
   ReachedMixed,
   RoundBoundMixed,
   RunBoundMixed,
+  StandsMixed,
+  RunTellsMixed,
   RunsCountMixed,
   RunsMarkMixed,
   CountsExactMixed,
@@ -97,6 +100,17 @@ unfolding above
 run-bound-mixed rule is-rule p r picks place items =
     rw (comes-to-calls rule is-rule p r picks place items).makes
     (run-bound rule is-rule p r (calls_from rule p picks place items))
+
+pub stands-mixed : EveryProblem StandsMixed
+unfolding slots_of
+stands-mixed rule is-rule p r picks place items =
+    record { rest = sound-mixed rule is-rule p r picks place items; verdict = complete-mixed rule is-rule p r picks place items }
+
+pub run-tells-mixed : EveryProblem RunTellsMixed
+unfolding above
+run-tells-mixed rule is-rule p r picks place items k =
+    let C = comes-to-calls rule is-rule p r picks place items in
+    rw (C.leaves, C.makes) (run-tells rule is-rule p r (calls_from rule p picks place items) k)
 
 pub runs-count-mixed : EveryProblem RunsCountMixed
 unfolding above
@@ -195,6 +209,12 @@ sheet-round-bound-mixed = every-sheet RoundBoundMixed round-bound-mixed
 
 pub sheet-run-bound-mixed : EverySheet RunBoundMixed
 sheet-run-bound-mixed = every-sheet RunBoundMixed run-bound-mixed
+
+pub sheet-stands-mixed : EverySheet StandsMixed
+sheet-stands-mixed = every-sheet StandsMixed stands-mixed
+
+pub sheet-run-tells-mixed : EverySheet RunTellsMixed
+sheet-run-tells-mixed = every-sheet RunTellsMixed run-tells-mixed
 
 pub sheet-runs-count-mixed : EverySheet RunsCountMixed
 sheet-runs-count-mixed = every-sheet RunsCountMixed runs-count-mixed

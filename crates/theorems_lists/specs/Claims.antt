@@ -22,7 +22,7 @@ use Rattle.theorems.specs.Calls.{
 use Rattle.theorems.specs.Marking.{parts_of_all, stretch_of, AllMarkedRightly}
 use Rattle.theorems.specs.Deeds.{handed_in, posts_in}
 use Rattle.theorems.specs.Figures.{BelowTop, total_of, total_sent, total_received, waiting_of, total_waiting}
-use Rattle.theorems.specs.Claims.{most_rounds}
+use Rattle.theorems.specs.Claims.{most_rounds, slots_of, Tells, StandsFor}
 use Rattle.tenants.specs.Tenants.{Alike}
 use Rattle.image_format.specs.Plain.{Plain}
 use Rattle.dispatch_rules.specs.Dispatch.{Dispatcher}
@@ -97,6 +97,18 @@ RoundBoundMixed rule p =
 -- .. so are those that its runs return together.
 abbrev pub RunBoundMixed : ℕ → Problem → Type 0
 RunBoundMixed rule p = FromStart rule p (λ items d. made_by_items items d ≤ most_rounds p)
+
+-- What any mixed list leaves tells by itself: at rest its slots obey all bans, and under a verdict no choice of slots does.
+abbrev pub StandsMixed : ℕ → Problem → Type 0
+StandsMixed rule p = FromStart rule p (λ items d. StandsFor p (left_by_items items d).network)
+
+-- What the word, the full rounds and the slots of a run tell, behind any mixed list.
+abbrev pub RunTellsMixed : ℕ → Problem → Type 0
+RunTellsMixed rule p =
+    FromStart rule p (λ items d.
+    (k : ℕ)
+    → Tells p (made_by_items items d) (run k (left_by_items items d).network).ending (run k (left_by_items items d).network).made
+    (slots_of (run k (left_by_items items d).network).network))
 
 -- A run after any mixed list counts a round exactly if it is full at its place, and returns how many it counts.
 pub record RunCountsMixed (rule : ℕ) (p : Problem) (items : List Item) (d : Dispatcher) (k : ℕ) : Type 0 where
