@@ -5,7 +5,7 @@ use Rattle.little_rules.specs.Little.{little_count, little_sheet}
 use Rattle.little_rules.specs.Putting.{no_ordinal}
 use Rattle.support_cli.specs.Answers.{Answer, done, not_understood, prints, says, says_refused}
 
--- "the sheet of that ordinal, 0 to 4995. Above: `refused 14`"
+-- "The program `little N` writes the sheet of that ordinal on standard output."; "14, an ordinal above 4,995"
 unfoldable pub sheet_answer : ℕ → Answer
 sheet_answer ordinal = elim (ltb ordinal little_count) [ true ↦ prints (little_sheet ordinal) done | false ↦ says_refused no_ordinal ]
 
