@@ -293,6 +293,9 @@ fn move_named<S: Store, W: Write, E: Write>(
 
 /// Writes the image that the command line asks for on standard output. Where it is refused or not understood, that is one line on standard error, and nothing is
 /// written on standard output.
+///
+/// The words are those behind the program's name. The status is 0 where the image is written, 1 where a rule, a sheet or an image is refused, 2 where something
+/// is not understood or cannot be read, and where memory runs out for the list of calls, and 3 where standard output cannot be written.
 pub fn image<S: Store, W: Write, E: Write>(
     alloc: Global,
     files: &S,
