@@ -1,6 +1,6 @@
 """The text in which the gate's programs are given their cases: a line asks for something, and some lines build a sheet.
 
-The format is described at the head of crates/worked_cases/src/main.rt and of the programs beside it.
+The format is described at the head of crates/gate_cases/src/main.rt and of the programs beside it.
 """
 
 import re

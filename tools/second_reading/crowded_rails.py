@@ -1,4 +1,4 @@
-"""What crates/crowded_rails has to print: the same rails are drawn, and delivered on and run by this reading."""
+"""What crates/gate_crowded has to print: the same rails are drawn, and delivered on and run by this reading."""
 
 from dataclasses import dataclass, field
 

@@ -1,4 +1,4 @@
-"""The random sheets of the gate's programs (crates/random_rails): both editions, chains out of order, spare records, bans
+"""The random sheets of the gate's programs (crates/gate_random): both editions, chains out of order, spare records, bans
 that stand twice, damaged ones.
 """
 

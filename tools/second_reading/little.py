@@ -8,7 +8,7 @@ from .sheet import Ban, Sheet
 
 def sheet_of(ordinal: int) -> Sheet:
     """"They stand in order: first by n; then by the slot counts, read as digits, scanner 1 first; then by the set of
-    bans, read as a binary number." "There are two refusals: 14, an ordinal above 4,995." """
+    bans, read as a binary number." "There are two rejections: 14, an ordinal above 4,995." """
     for n in (1, 2, 3):
         for counts in product((1, 2), repeat=n):
             pairs = pairs_of(counts)

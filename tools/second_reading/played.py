@@ -18,7 +18,7 @@ SHOWN_BYTES = 64
 
 
 class Texts:
-    """crates/texts: what `dock` and `board` print of each sheet."""
+    """crates/gate_texts: what `dock` and `board` print of each sheet."""
 
     def __init__(self) -> None:
         self.out: list[bytes] = []
@@ -73,7 +73,7 @@ class Texts:
 
 
 def texts_of(text: bytes) -> bytes:
-    """What `texts` prints."""
+    """What `gate_texts` prints."""
     desk = Texts()
     for line in lines(text):
         desk.follow(line)
@@ -81,7 +81,7 @@ def texts_of(text: bytes) -> bytes:
 
 
 def seasons_of(text: bytes) -> bytes:
-    """What `seasons` prints: a sheet goes onto the stream behind its length (`add`), or as it is (`raw`)."""
+    """What `gate_seasons` prints: a sheet goes onto the stream behind its length (`add`), or as it is (`raw`)."""
     out, builder, stream = [], Builder(), b""
     for line in lines(text):
         if line.word == "case":
@@ -107,7 +107,7 @@ def framed(data: bytes) -> bytes:
 
 
 def scribes_of(text: bytes) -> bytes:
-    """What `scribes` prints first, of the texts on its standard input: each stands in front of a line that names it."""
+    """What `gate_sheet_text` prints first, of the texts on its standard input: each stands in front of a line that names it."""
     out, collected = [], b""
     for line in text.splitlines(True):
         if line.startswith(b"="):
@@ -145,7 +145,7 @@ SORT_OF = {"last": "taken", "differs": "same"}
 
 
 class Checks:
-    """crates/worked_cases: each line of a case says what must come of it by docs/RULES.md."""
+    """crates/gate_cases: each line of a case says what must come of it by docs/RULES.md."""
 
     def __init__(self) -> None:
         self.builder = Builder()
@@ -229,7 +229,7 @@ def alike(one: Rail, other: Rail) -> bool:
 
 
 def worked_cases_of(text: bytes) -> bytes:
-    """What `worked_cases` prints: the titles, each check that fails, and how many of each sort were made."""
+    """What `gate_cases` prints: the titles, each check that fails, and how many of each sort were made."""
     checks, out, failed = Checks(), [], 0
     made = dict.fromkeys(SORTS, 0)
     for line in lines(text):
@@ -247,15 +247,15 @@ def worked_cases_of(text: bytes) -> bytes:
 
 
 def crowded_rails_of(_: bytes) -> bytes:
-    """crates/crowded_rails: how many of each kind it tries. It reads nothing."""
+    """crates/gate_crowded: how many of each kind it tries. It reads nothing."""
     return crowded_rails.printed()
 
 
 PLAYED = {
-    "texts": texts_of,
-    "seasons": seasons_of,
-    "scribes": scribes_of,
-    "worked_cases": worked_cases_of,
-    "crowded_rails": crowded_rails_of,
+    "gate_texts": texts_of,
+    "gate_seasons": seasons_of,
+    "gate_sheet_text": scribes_of,
+    "gate_cases": worked_cases_of,
+    "gate_crowded": crowded_rails_of,
     "gate_commands": commands_of,
 }

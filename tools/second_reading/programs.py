@@ -229,7 +229,7 @@ def image_move(answer: Answer, words: Words) -> bytes:
 
 
 def command_of(words: Words, commands: tuple[bytes, ...], form: bytes) -> bytes:
-    """"`no command given: ` and the form of the command; `command not understood: ` and the word." """
+    """"`no command given: ` and the form of the command", "`command not understood: ` and the word". """
     if not words:
         raise NotUnderstood(b"no command given: " + form)
     if words[0] not in commands:
@@ -245,9 +245,7 @@ def no_word_behind(words: Words, many: int) -> None:
 
 @writes_bytes
 def little_program(_: Answer, words: Words) -> bytes:
-    """"The first of these that is so: `no number given: ` and the form of the command; `number not understood: ` and
-    the word; `argument not understood: ` and the word behind the number; `refused 14`."
-    """
+    """"It says the first of these that is so": no number, a first word that is no number, a word too many, 14. """
     if not words:
         raise NotUnderstood(b"no number given: little N")
     ordinal = number(words[0])

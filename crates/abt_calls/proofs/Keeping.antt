@@ -1,14 +1,14 @@
 -- What is claimed of lists of calls holds of the state that a list of steps leaves.
 -- A history that is followed by more steps is a history, and what it leaves is what the calls that it comes to leave: of these the claims are proved.
 use Rattle.std.proofs.Common.{◌≡◌, ◌≤◌, ℕ, true, arith, List, [], ◌∷◌, ◌++◌, sym, refl, ap, ◌∙◌, subst}
-use Rattle.base.proofs.Tests.{test}
-use Rattle.problem.specs.Problem.{Problem}
-use Rattle.problem.specs.Sheet.{Decoded, Valid, Invalid, decode}
-use Rattle.problem.proofs.Checks.{fault-some}
-use Rattle.protocol.specs.Network.{is_rule, bad_rule, started_on, start_sheet}
-use Rattle.theorems.specs.Calls.{left_by_all}
-use Rattle.theorems.specs.Claims.{most_rounds}
-use Rattle.theorems.proofs.Theorems.{
+use Rattle.model_base.proofs.Tests.{test}
+use Rattle.model_sheet.specs.Problem.{Problem}
+use Rattle.model_sheet.specs.Sheet.{Decoded, Valid, Invalid, decode}
+use Rattle.model_sheet.proofs.Checks.{fault-some}
+use Rattle.model_network.specs.Network.{is_rule, bad_rule, started_on, start_sheet}
+use Rattle.theorems_network.specs.Calls.{left_by_all}
+use Rattle.theorems_network.specs.Claims.{most_rounds}
+use Rattle.theorems_network.proofs.Theorems.{
   sheet-sound,
   sheet-complete,
   sheet-round-bound,
@@ -20,13 +20,13 @@ use Rattle.theorems.proofs.Theorems.{
   sheet-sent-is-received-and-waiting,
   sheet-sent-is-received-and-waiting-of,
 }
-use Rattle.tenants.specs.Tenants.{Naming, NamingAbove}
-use Rattle.tenants.specs.Claims.{ActsAlike as CallsActAlike}
-use Rattle.tenants.proofs.Theorems.{acts-alike, named-acts-alike}
-use Rattle.dispatch_rules.specs.Dispatch.{Dispatcher, dispatcher}
-use Rattle.dispatch_laws.specs.Steps.{Step, left_by_step, left_by_steps, calls_in}
-use Rattle.dispatch_laws.specs.Claims.{above}
-use Rattle.dispatch_laws.proofs.Theorems.{picks-are-calls}
+use Rattle.theorems_isolation.specs.Tenants.{Naming, NamingAbove}
+use Rattle.theorems_isolation.specs.Claims.{ActsAlike as CallsActAlike}
+use Rattle.theorems_isolation.proofs.Theorems.{acts-alike, named-acts-alike}
+use Rattle.model_dispatch.specs.Dispatch.{Dispatcher, dispatcher}
+use Rattle.theorems_dispatch.specs.Steps.{Step, left_by_step, left_by_steps, calls_in}
+use Rattle.theorems_dispatch.specs.Claims.{above}
+use Rattle.theorems_dispatch.proofs.Theorems.{picks-are-calls}
 use Rattle.abt_calls.proofs.Telling.{all-told}
 use Rattle.abt_calls.specs.Histories.{History, started, begun, fresh, followed_by, called, Reached, Promised, PromisedFromStart, ActsAlike}
 

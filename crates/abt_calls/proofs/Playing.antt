@@ -26,9 +26,9 @@ use Rattle.std.proofs.Common.{
   drop_of_length-le,
 }
 use Rattle.std.specs.List.{last_or}
-use Rattle.dispatch_laws.specs.Steps.{left_by_steps}
-use Rattle.dispatch.specs.declared.Dispatcher.{Dispatcher}
-use Rattle.dispatch.specs.Abstract.{dispatcher_of}
+use Rattle.theorems_dispatch.specs.Steps.{left_by_steps}
+use Rattle.abt_dispatch.specs.declared.Dispatcher.{Dispatcher}
+use Rattle.abt_dispatch.specs.Abstract.{dispatcher_of}
 use Rattle.abt_calls.specs.declared.calls.Call.{Call}
 use Rattle.abt_calls.specs.declared.calls.Called.{Called}
 use Rattle.abt_calls.specs.declared.calls.Played.{Played}

@@ -1,17 +1,16 @@
 -- The full rounds that the runs of a list return are those of which the callers are told.
 -- A refused run made none, and a pick and a delivery are no runs; so by induction along the list.
-use Rattle.std.proofs.Common.{◌≡◌, ℕ, ◌+◌, Bool, true, false, List, [], ◌∷◌, ◌++◌, sym, refl, ap, ap₂, ◌∙◌, zero-add, add-zero, add_assoc, append-nil, eqb}
-use Rattle.std.proofs.Math.Option.{Option, none, some}
-use Rattle.base.proofs.Tests.{test}
-use Rattle.protocol.specs.Network.{Network}
-use Rattle.protocol.specs.Shape.{in_shape}
-use Rattle.protocol.specs.Delivery.{rejection_number, answer_number, deliver}
-use Rattle.protocol.specs.Run.{Line, idle, Ran, ending_number, ending_at, finish, allowed, run}
-use Rattle.shape_laws.proofs.Runs.{Ends, rests, used, stops, run_ends}
-use Rattle.theorems.specs.Calls.{Call, Deliver, Run, left_by, left_by_all, made_by, made_by_all}
-use Rattle.dispatch_rules.specs.Dispatch.{Dispatcher, pick}
-use Rattle.dispatch_laws.specs.Steps.{Step, Called, Picked, left_by_step, left_by_steps, delivery_of, calls_by, calls_in}
-use Rattle.dispatch_laws.proofs.Theorems.{picks-are-calls}
+use Rattle.std.proofs.Common.{◌≡◌, ℕ, ◌+◌, Bool, true, false, List, [], ◌∷◌, ◌++◌, sym, refl, ap, ap₂, ◌∙◌, zero-add, add-zero, add_assoc, append-nil, eqb, None, Option, Some}
+use Rattle.model_base.proofs.Tests.{test}
+use Rattle.model_network.specs.Network.{Network}
+use Rattle.model_network.specs.Shape.{in_shape}
+use Rattle.model_network.specs.Delivery.{rejection_number, answer_number, deliver}
+use Rattle.model_network.specs.Run.{Line, idle, Ran, ending_number, ending_at, finish, allowed, run}
+use Rattle.theorems_shape.proofs.Runs.{Ends, rests, used, stops, run_ends}
+use Rattle.theorems_network.specs.Calls.{Call, Deliver, Run, left_by, left_by_all, made_by, made_by_all}
+use Rattle.model_dispatch.specs.Dispatch.{Dispatcher, pick}
+use Rattle.theorems_dispatch.specs.Steps.{Step, Called, Picked, left_by_step, left_by_steps, delivery_of, calls_by, calls_in}
+use Rattle.theorems_dispatch.proofs.Theorems.{picks-are-calls}
 use Rattle.abt_calls.specs.Outcomes.{Came, unless_refused, came_to_call, came_to_pick, came_to, came_by_all, rounds_of, rounds_in}
 
 -- ---- a run: in shape it is not refused
@@ -19,7 +18,7 @@ use Rattle.abt_calls.specs.Outcomes.{Came, unless_refused, came_to_call, came_to
 ending-number : (w : Network) (stuck : Bool) → ending_number (ending_at w stuck) ≡ 0
 unfolding ending_at ending_number
 ending-number w stuck =
-    test w.verdict
+    test w.unsolvable
     (λ v. rw (v, ending_at))
     (λ v. test (idle w)
     (λ i. rw (v, ending_at, i))
@@ -54,8 +53,8 @@ call-told (Run k) w = run-told k w
 
 pick-told : (served : Option Line) (number : ℕ) (w : Network) → made_by_all (delivery_of served) w ≡ rounds_of (came_to_pick served number)
 unfolding delivery_of made_by_all made_by came_to_pick rounds_of
-pick-told none number w = refl
-pick-told (some l) number w = refl
+pick-told None number w = refl
+pick-told (Some l) number w = refl
 
 step-told : (d : Dispatcher) (s : Step) → made_by_all (calls_by s d) d.network ≡ rounds_of (came_to s d)
 unfolding calls_by made_by_all came_to

@@ -1,11 +1,11 @@
 -- What the calls and their outcomes mean. A primed name is the definitions'.
 use Rattle.std.specs.Prelude.{◌≡◌, true}
-use Rattle.refusals.specs.Refusals.{refusal_number}
-use Rattle.theorems.specs.Calls.{Deliver as Deliver', Run as Run'}
-use Rattle.dispatch_laws.specs.Steps.{Step, Called as Called', Picked, left_by_step}
-use Rattle.engine.specs.Answers.{ending_of}
-use Rattle.dispatch.specs.declared.Dispatcher.{Dispatcher}
-use Rattle.dispatch.specs.Abstract.{line_of, dispatcher_of}
+use Rattle.support_rejection.specs.Rejections.{rejection_number}
+use Rattle.theorems_network.specs.Calls.{Deliver as Deliver', Run as Run'}
+use Rattle.theorems_dispatch.specs.Steps.{Step, Called as Called', Picked, left_by_step}
+use Rattle.abt_engine.specs.Answers.{ending_of}
+use Rattle.abt_dispatch.specs.declared.Dispatcher.{Dispatcher}
+use Rattle.abt_dispatch.specs.Abstract.{line_of, dispatcher_of}
 use Rattle.abt_calls.specs.declared.calls.Call.{Call}
 use Rattle.abt_calls.specs.declared.calls.Call.TheVariants.{Deliver, Run, Pick}
 use Rattle.abt_calls.specs.declared.calls.Outcome.{Outcome}
@@ -31,7 +31,7 @@ unfoldable pub came_of : Outcome → Came
 came_of Delivered = Delivered'
 came_of (Ran ending rounds) = Ran' (ending_of ending) rounds
 came_of (Served l) = Served' (line_of l)
-came_of (Refused r) = Refused' (refusal_number r)
+came_of (Refused r) = Refused' (rejection_number r)
 
 -- A call on d is answered as the definitions' step s. A refused one hands back the very dispatcher given, unused places and all.
 pub record AnswersAs (d : Dispatcher) (s : Step) (answer : Called) : Type 0 where

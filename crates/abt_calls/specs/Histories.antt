@@ -1,18 +1,18 @@
 -- What is claimed of every list of calls: from the start of a sheet by a rule, through all calls made since. docs/RULES.md, 'Rounds and the run', 'The
 -- dispatcher', 'Figures on every scanner' and 'Two tenants on one rail'.
 use Rattle.std.specs.Prelude.{ℕ, ◌+◌, ◌≤◌, ◌≡◌, true, false, List, [], ◌++◌}
-use Rattle.base.specs.Lists.{All}
-use Rattle.problem.specs.Problem.{Problem, Obeys}
-use Rattle.problem.specs.Sheet.{Valid, decode}
-use Rattle.agent_rules.specs.Sorts.{IsAddLink, Not, OneLink}
-use Rattle.agent_rules.specs.Counts.{Sort, number, raised}
-use Rattle.protocol.specs.Network.{Network, start, is_rule, start_sheet}
-use Rattle.protocol.specs.Shape.{in_shape}
-use Rattle.protocol.specs.Run.{Line, idle}
-use Rattle.theorems.specs.Calls.{Call, tried_by_all, made_by_all, Stretch, lines_of, marked_in, AllFull}
-use Rattle.theorems.specs.Claims.{most_rounds, RunCounts}
-use Rattle.theorems.specs.Deeds.{handed_in, posts_in}
-use Rattle.theorems.specs.Figures.{
+use Rattle.model_base.specs.Lists.{All}
+use Rattle.model_sheet.specs.Problem.{Problem, Obeys}
+use Rattle.model_sheet.specs.Sheet.{Valid, decode}
+use Rattle.model_agent.specs.Sorts.{IsAddLink, Not, OneLink}
+use Rattle.model_agent.specs.Traffic.{Sort, number, raised}
+use Rattle.model_network.specs.Network.{Network, start, is_rule, start_sheet}
+use Rattle.model_network.specs.Shape.{in_shape}
+use Rattle.model_network.specs.Run.{Line, idle}
+use Rattle.theorems_network.specs.Calls.{Call, tried_by_all, made_by_all, Stretch, lines_of, marked_in, AllFull}
+use Rattle.theorems_network.specs.Claims.{most_rounds, RunCounts}
+use Rattle.theorems_network.specs.Deeds.{handed_in, posts_in}
+use Rattle.theorems_network.specs.Figures.{
   sent_from,
   received_by,
   BelowTop,
@@ -22,10 +22,10 @@ use Rattle.theorems.specs.Figures.{
   waiting_of,
   total_waiting,
 }
-use Rattle.tenants.specs.Tenants.{Alike}
-use Rattle.dispatch_rules.specs.Dispatch.{Dispatcher, dispatcher}
-use Rattle.dispatch_laws.specs.Steps.{Step, left_by_steps, calls_in}
-use Rattle.dispatch_laws.specs.Claims.{above}
+use Rattle.theorems_isolation.specs.Tenants.{Alike}
+use Rattle.model_dispatch.specs.Dispatch.{Dispatcher, dispatcher}
+use Rattle.theorems_dispatch.specs.Steps.{Step, left_by_steps, calls_in}
+use Rattle.theorems_dispatch.specs.Claims.{above}
 use Rattle.abt_calls.specs.Outcomes.{came_by_all, rounds_in}
 
 -- ---- histories
@@ -69,9 +69,9 @@ pub record Reached (h : History) (d : Dispatcher) : Type 0 where
 
 pub record Promised (h : History) (w : Network) : Type 0 where
   -- a rail with nothing waiting and no verdict breaks no ban
-  pub sound : w.verdict ≡ false → idle w ≡ true → Obeys h.problem (λ i. (w.agents i).value)
+  pub sound : w.unsolvable ≡ false → idle w ≡ true → Obeys h.problem (λ i. (w.agents i).value)
   -- the verdict stands only where no choice of values obeys all bans
-  pub complete : w.verdict ≡ true → (σ : ℕ → ℕ) → Obeys h.problem σ → ⊥
+  pub complete : w.unsolvable ≡ true → (σ : ℕ → ℕ) → Obeys h.problem σ → ⊥
   -- the rail is in shape
   pub shape : in_shape w ≡ true
   -- however all that was tried is marked off into full rounds without overlap, they are at most 16 × n × (d + 2)^n

@@ -1,14 +1,13 @@
 -- What a call comes to, by the definitions of a delivery, a run and a pick: what its caller is told. docs/RULES.md, 'Why a call comes back', 'Rounds and
 -- the run' and 'The dispatcher'.
-use Rattle.std.specs.Prelude.{ℕ, ◌+◌, ◌≡◌, Bool, true, false, cond, List, [], ◌∷◌, eqb}
-use Rattle.std.proofs.Math.Option.{Option, none, some}
-use Rattle.base.specs.Lists.{All}
-use Rattle.protocol.specs.Network.{Network}
-use Rattle.protocol.specs.Delivery.{answer_number, deliver}
-use Rattle.protocol.specs.Run.{Line, Ending, ending_number, run}
-use Rattle.theorems.specs.Calls.{Call, Deliver, Run}
-use Rattle.dispatch_rules.specs.Dispatch.{Dispatcher, pick}
-use Rattle.dispatch_laws.specs.Steps.{Step, Called, Picked, left_by_step}
+use Rattle.std.specs.Prelude.{ℕ, ◌+◌, ◌≡◌, Bool, true, false, cond, List, [], ◌∷◌, eqb, None, Option, Some}
+use Rattle.model_base.specs.Lists.{All}
+use Rattle.model_network.specs.Network.{Network}
+use Rattle.model_network.specs.Delivery.{answer_number, deliver}
+use Rattle.model_network.specs.Run.{Line, Ending, ending_number, run}
+use Rattle.theorems_network.specs.Calls.{Call, Deliver, Run}
+use Rattle.model_dispatch.specs.Dispatch.{Dispatcher, pick}
+use Rattle.theorems_dispatch.specs.Steps.{Step, Called, Picked, left_by_step}
 
 pub data Came : Type 0 where
   Delivered : Came  -- the delivery was accepted
@@ -34,8 +33,8 @@ came_to_call (Run k) w = unless_refused (ending_number (run k w).ending) (Ran (r
 
 -- a pick, by the line that it served and by its number: a refused one serves no line
 unfoldable pub came_to_pick : Option Line → ℕ → Came
-came_to_pick (some l) number = Served l
-came_to_pick none number = Refused number
+came_to_pick (Some l) number = Served l
+came_to_pick None number = Refused number
 
 unfoldable pub came_to : Step → Dispatcher → Came
 came_to (Called c) d = came_to_call c d.network

@@ -1,47 +1,52 @@
-//! Calls on a rail, by value: one call, and lists of calls of which all is promised that is claimed of lists of deliveries, runs and picks.
+//! Calls on a network (rail), by value: one call, and lists of calls, for which all is promised
+//! that the rules claim of a list of deliveries, runs and picks. It stands on `abt` (deliveries and
+//! runs) and `abt_dispatch` (picks). Start at `play`: its contract, with specs/Histories.antt, says
+//! what holds of the network that a history of calls leaves. The rules are in docs/RULES.md,
+//! 'Rounds and the run', 'The dispatcher', 'Figures on every scanner' and 'Two tenants on one
+//! rail'.
 #![tactic(auto)]
 
 ghost use Rattle.std.specs.Prelude.{◌≡◌, ◌*◌, ◌-◌, true, List, length, map, option_map};
 ghost use Rattle.std.specs.List.{last_or};
-ghost use Rattle.base.specs.Lists.{Any};
-ghost use Rattle.protocol.specs.Delivery.{numbers_good};
-ghost use Rattle.protocol.specs.Run.{Line as Line'};
-ghost use Rattle.theorems.specs.Calls.{left_by_all, Deliver as Deliver', Run as Run'};
-ghost use Rattle.tenants.specs.Tenants.{Naming, NamingAbove};
-ghost use Rattle.dispatch_rules.specs.Claims.{Serves, StaysDeliverable, picks_by};
-ghost use Rattle.dispatch_laws.specs.Steps.{Called as Called', Picked, left_by_steps, calls_in};
-ghost use Rattle.network.specs.Abstract.{network_of};
-ghost use Rattle.engine.specs.Refused.{refused_number};
-ghost use Rattle.dispatch.specs.Abstract.{line_of, dispatcher_of, answered_number, served_of};
+ghost use Rattle.model_base.specs.Lists.{Any};
+ghost use Rattle.model_network.specs.Delivery.{numbers_good};
+ghost use Rattle.model_network.specs.Run.{Line as Line'};
+ghost use Rattle.theorems_network.specs.Calls.{left_by_all, Deliver as Deliver', Run as Run'};
+ghost use Rattle.theorems_isolation.specs.Tenants.{Naming, NamingAbove};
+ghost use Rattle.model_dispatch.specs.Claims.{Serves, StaysDeliverable, picks_by};
+ghost use Rattle.theorems_dispatch.specs.Steps.{Called as Called', Picked, left_by_steps, calls_in};
+ghost use Rattle.abt_record.specs.Abstract.{network_of};
+ghost use Rattle.abt_engine.specs.Refused.{rejected_number};
+ghost use Rattle.abt_dispatch.specs.Abstract.{line_of, dispatcher_of, answered_number, served_of};
 ghost use Rattle.abt_calls.specs.Outcomes.{unless_refused, came_to_pick, came_by_all, AllRefused};
 ghost use Rattle.abt_calls.specs.Abstract.{step_of, came_of, AnswersAs};
 ghost use Rattle.abt_calls.specs.Histories.{History, followed_by, Reached, Promised, PromisedFromStart, ActsAlike};
 
 mod calls;
 
+use abt_dispatch::{Dispatcher, Line};
 pub use calls::{Call, Called, Outcome, Played};
-use dispatch::{Dispatcher, Line};
-use refusals::Refusal;
+use support_rejection::Rejection;
 
 // ---- what a call came to
 
-// This outcome, unless the call was refused.
-fn unless_refused(refusal: Option<Refusal>, accepted: Outcome) -> Outcome
-    ensures { came_of result ≡ unless_refused (refused_number refusal) (came_of accepted) }
+// This outcome, unless the call was rejected.
+fn unless_refused(rejection: Option<Rejection>, accepted: Outcome) -> Outcome
+    ensures { came_of result ≡ unless_refused (rejected_number rejection) (came_of accepted) }
 {
-    match refusal {
+    match rejection {
         None => accepted,
-        Some(refusal) => Outcome::Refused(refusal),
+        Some(rejection) => Outcome::Refused(rejection),
     }
 }
 
 // The outcome of a pick, by its answer.
-fn picked(answer: Result<Line, Refusal>) -> Outcome
+fn picked(answer: Result<Line, Rejection>) -> Outcome
     ensures { came_of result ≡ came_to_pick (served_of answer) (answered_number answer) }
 {
     match answer {
         Ok(line) => Outcome::Served(line),
-        Err(refusal) => Outcome::Refused(refusal),
+        Err(rejection) => Outcome::Refused(rejection),
     }
 }
 
@@ -51,13 +56,13 @@ fn picked(answer: Result<Line, Refusal>) -> Outcome
 fn deliver(d: Dispatcher, line: Line) -> Called
     ensures { AnswersAs d (Called' (Deliver' line.from line.to)) result }
 {
-    let answer = run::deliver(d.network, line.from, line.to);
+    let answer = abt::deliver(d.network, line.from, line.to);
     Called {
         dispatcher: Dispatcher {
             network: answer.network,
             ..d
         },
-        outcome: unless_refused(answer.refusal, Outcome::Delivered),
+        outcome: unless_refused(answer.rejection, Outcome::Delivered),
     }
 }
 
@@ -65,7 +70,7 @@ fn deliver(d: Dispatcher, line: Line) -> Called
 fn run(d: Dispatcher, rounds: u64) -> Called
     ensures { AnswersAs d (Called' (Run' rounds)) result }
 {
-    let answer = run::run(d.network, rounds);
+    let answer = abt::run(d.network, rounds);
     let ran = Outcome::Ran {
         ending: answer.ending,
         rounds: answer.rounds,
@@ -75,21 +80,23 @@ fn run(d: Dispatcher, rounds: u64) -> Called
             network: answer.network,
             ..d
         },
-        outcome: unless_refused(answer.refusal, ran),
+        outcome: unless_refused(answer.rejection, ran),
     }
 }
 
 fn pick(d: Dispatcher, wish: Line) -> Called
     ensures { AnswersAs d (Picked (line_of wish)) result }
 {
-    let answer = dispatch::pick(d, wish);
+    let answer = abt_dispatch::pick(d, wish);
     Called {
         dispatcher: answer.state,
         outcome: picked(answer.answer),
     }
 }
 
-/// Makes one call. It equals the definitions' step: the delivery, the run or the pick. A refused call hands back the very dispatcher given.
+/// Makes one call: the delivery, the run or the pick. Takes any dispatcher. A rejected call hands
+/// back the very dispatcher given. Equals `left_by_step` of theorems_dispatch/specs/Steps.antt and,
+/// for the outcome, `came_to` of specs/Outcomes.antt.
 #[tactic(auto, unfolding(crate::specs::Abstract::step_of))]
 pub fn call(dispatcher: Dispatcher, call: Call) -> Called
     ensures { AnswersAs dispatcher (step_of call) result }
@@ -103,26 +110,33 @@ pub fn call(dispatcher: Dispatcher, call: Call) -> Called
 
 // ---- a list of calls
 
-/// Makes the calls one after the other, each on the state that the one before left. A refused call changes nothing, and the calls behind it are made.
+/// Makes the calls one after the other, each on the dispatcher that the one before left. A rejected
+/// call changes nothing, and the calls after it are made. Takes any dispatcher; where a start and
+/// any calls led to it, `Promised` of specs/Histories.antt holds of the network that is left.
+/// Equals `left_by_steps` of theorems_dispatch/specs/Steps.antt.
 pub fn play(dispatcher: Dispatcher, calls: &[Call]) -> Played
-    // the state and the network are those of the definitions' list of steps, and of the calls that it comes to
+    // the dispatcher and the network are those of the definitions' list of steps, and of the calls
+    // that it comes to
     ensures left { dispatcher_of result.dispatcher ≡ left_by_steps (map step_of calls.now) (dispatcher_of dispatcher) }
     ensures network { network_of result.dispatcher.network ≡ left_by_all (calls_in (map step_of calls.now) (dispatcher_of dispatcher)) (network_of dispatcher.network) }
 
-    // what the last call came to, on the state that the calls before it left
+    // what the last call came to, on the dispatcher that the calls before it left
     ensures came { option_map came_of result.last ≡ last_or None (came_by_all (map step_of calls.now) (dispatcher_of dispatcher)) }
     ensures untouched { AllRefused (map step_of calls.now) (dispatcher_of dispatcher) → result.dispatcher ≡ dispatcher }
 
-    // whatever history led to the state given goes on with these calls; so do those that begin with the start of a sheet
+    // a history that led to the dispatcher given goes on with these calls; so do those that begin
+    // with the start of a sheet
     ensures reached { (h : History) → Reached h (dispatcher_of dispatcher) → Reached (followed_by h (map step_of calls.now)) (dispatcher_of result.dispatcher) }
     ensures promised { (h : History) → Reached h (dispatcher_of dispatcher) → Promised (followed_by h (map step_of calls.now)) (network_of result.dispatcher.network) }
     ensures from_start { PromisedFromStart (dispatcher_of dispatcher) (map step_of calls.now) (network_of result.dispatcher.network) }
 
-    // the bans that must be alike: those with agents above it, which are all that an agent's rules read; and all bans that name it
+    // the bans that must be alike: those with agents above it, which are all that an agent's rules
+    // read; and all bans that name it
     ensures alike { ActsAlike NamingAbove (dispatcher_of dispatcher) (map step_of calls.now) (network_of result.dispatcher.network) }
     ensures named_alike { ActsAlike Naming (dispatcher_of dispatcher) (map step_of calls.now) (network_of result.dispatcher.network) }
 
-    // where the calls are so many picks, a line that stays deliverable until one of them serves it is served by one of them
+    // where the calls are so many picks, a channel that stays deliverable until one of them serves
+    // it is served by one of them
     ensures in_time { (l : Line') (wishes : List Line') → map step_of calls.now ≡ map Picked wishes
         → numbers_good (network_of dispatcher.network) l.from l.to ≡ true
         → length wishes ≡ 2 * (network_of dispatcher.network).problem.count * ((network_of dispatcher.network).problem.count - 1)

@@ -1,50 +1,44 @@
 -- The numbers of decoding, of the start and of a run: where the sheet is refused, and where it is not.
-use Rattle.std.specs.Prelude.{Ok, Err}
-use Prim.Native.Nat.{ℕ, zero, suc, ◌+◌, ◌*◌, ◌%◌, ◌^◌, ◌≤◌, ◌<◌}
-use mathlib.Core.Path.{◌≡◌, refl, sym, ap, ◌∙◌}
-use mathlib.Core.Bool.{true, false}
-use mathlib.Core.List.{List, map}
-use native.Mathlib.Nat.{pow-le-pow_right, pow-suc}
-use native.Mathlib.Omega.{arith}
-use lib.ListN.{length, get_or, length-map, get_or-map}
-use borrow.Author.Tests.{eq-eqb, ne_eqb, lt-ltb, le-ltb}
-use Rattle.base.specs.Finite.{from_one}
-use Rattle.base.proofs.Tests.{test}
-use Rattle.base.proofs.Arrays.{get_or-below, get_d_past}
-use Rattle.problem.specs.Sheet.{Decoded, Valid, Invalid, decode}
-use Rattle.agent_rules.specs.Message.{nobody}
-use Rattle.agent_rules.specs.Agent.{Agent as Agent', unused_agent}
-use Rattle.protocol.specs.Network.{Network as Network', Started, start_sheet}
-use Rattle.protocol.specs.Run.{Ending as Ending', None, Plan, Jammed, Open, Broken, run}
-use Rattle.packed.specs.Packed.{assignment}
-use Rattle.packed.proofs.Digits.{nobody-assigned}
-use Rattle.agent.specs.declared.Agent.{Agent}
-use Rattle.agent.specs.Abstract.{counts_of, agent_of}
-use Rattle.refusals.specs.Refusals.{refusal_number}
-use Rattle.refusals.specs.declared.Refusal.{Refusal}
-use Rattle.refusals.proofs.Numbers.{refusal-some}
-use Rattle.sheet.specs.declared.Problem.{Problem}
-use Rattle.sheet.specs.Abstract.{problem_of, Outcome, outcome, outcome_of}
-use Rattle.sheet.proofs.Outcomes.{accepted}
-use Rattle.start.specs.Started.{StartsAs}
-use Rattle.network.specs.declared.Network.{Network}
-use Rattle.network.specs.Abstract.{is_channel, row_of, agents_of, network_of}
-use Rattle.clauses.proofs.Numbering.{ends}
-use Rattle.network_laws.specs.Held.{held_at}
-use Rattle.network_laws.proofs.Changes.{channel-held}
-use Rattle.engine.specs.declared.Answer.{Answer}
-use Rattle.engine.specs.Answers.{ending_of}
-use Rattle.run.specs.Answers.{RunsAs}
+use Rattle.std.proofs.Common.{Ok, Err, ℕ, zero, suc, ◌+◌, ◌*◌, ◌%◌, ◌^◌, ◌≤◌, ◌<◌, ◌≡◌, refl, sym, ap, ◌∙◌, true, false, List, map, pow-suc, arith, length, get_or, eq-eqb, ne_eqb, lt-ltb, le-ltb}
+use native.Mathlib.Nat.{pow-le-pow_right}
+use lib.ListN.{length-map, get_or-map}
+use Rattle.model_base.specs.Finite.{from_one}
+use Rattle.model_base.proofs.Tests.{test}
+use Rattle.model_base.proofs.Arrays.{get_or-below, get_d_past}
+use Rattle.model_sheet.specs.Sheet.{Decoded, Valid, Invalid, decode}
+use Rattle.model_agent.specs.Message.{nobody}
+use Rattle.model_agent.specs.Agent.{Agent as Agent', unused_agent}
+use Rattle.model_network.specs.Network.{Network as Network', Started, start_sheet}
+use Rattle.model_network.specs.Run.{Ending as Ending', Unsolvable, Plan, Jammed, Open, Broken, run}
+use Rattle.abt_packed.specs.Packed.{assignment}
+use Rattle.abt_packed.proofs.Digits.{nobody-assigned}
+use Rattle.abt_agent.specs.declared.Agent.{Agent}
+use Rattle.abt_agent.specs.Abstract.{counts_of, agent_of}
+use Rattle.support_rejection.specs.Rejections.{rejection_number}
+use Rattle.support_rejection.specs.declared.Rejection.{Rejection}
+use Rattle.support_rejection.proofs.Numbers.{refusal-some}
+use Rattle.sheet_reader.specs.declared.Problem.{Problem}
+use Rattle.sheet_reader.specs.Abstract.{problem_of, Outcome, outcome, outcome_of}
+use Rattle.sheet_reader.proofs.Outcomes.{accepted}
+use Rattle.abt_start.specs.Started.{StartsAs}
+use Rattle.abt_record.specs.declared.Network.{Network}
+use Rattle.abt_record.specs.Abstract.{is_channel, row_of, agents_of, network_of}
+use Rattle.abt_shape.proofs.Numbering.{ends}
+use Rattle.abt_record_laws.specs.Held.{held_at}
+use Rattle.abt_record_laws.proofs.Changes.{channel-held}
+use Rattle.abt_engine.specs.declared.Answer.{Answer}
+use Rattle.abt_engine.specs.Answers.{ending_of}
+use Rattle.abt.specs.Answers.{RunsAs}
 use Rattle.bench_entry.specs.Giving.{word_for, WaitsFor, ending_digit, values_to, ran_for, settled_for, counts_mixed, counts_for}
 
 -- ---- decoding
 
 module _ (sheet : List ℕ) (word : ℕ) where
-  pub fault-given : (e : Refusal) → outcome_of (Err e) ≡ outcome (decode sheet) → refusal_number e ≡ word_for (decode sheet) word
+  pub fault-given : (e : Rejection) → outcome_of (Err e) ≡ outcome (decode sheet) → rejection_number e ≡ word_for (decode sheet) word
   unfolding outcome_of outcome word_for
   fault-given e o = go (decode sheet) o
     where
-      go : (d : Decoded) → outcome_of (Err e) ≡ outcome d → refusal_number e ≡ word_for d word
+      go : (d : Decoded) → outcome_of (Err e) ≡ outcome d → rejection_number e ≡ word_for d word
       go (Valid p) o = absurd (refusal-some e (ap (λ (x : Outcome). x.number) o))
       go (Invalid f) o = ap (λ (x : Outcome). x.number) o
 
@@ -105,13 +99,13 @@ one_value r k values d h e = rw (value-at r k d h, e)
 
 pub digit-few : (e : Ending') → ending_digit e ≤ 5
 unfolding ending_digit
-digit-few None = omega arith
+digit-few Unsolvable = omega arith
 digit-few Plan = omega arith
 digit-few Jammed = omega arith
 digit-few Open = omega arith
 digit-few Broken = omega arith
 
-pub refused-given : (s : Started) (rounds : ℕ) (e : Refusal) → StartsAs s (Err e) → 8 + refusal_number e ≡ settled_for s rounds
+pub refused-given : (s : Started) (rounds : ℕ) (e : Rejection) → StartsAs s (Err e) → 8 + rejection_number e ≡ settled_for s rounds
 unfolding settled_for
 refused-given s rounds e q = rw (q.number, ne_eqb s.number 0 (λ z. refusal-some e (q.number ∙ z)), settled_for)
 

@@ -1,26 +1,22 @@
 -- Deliveries through the public entry, one more at a time, and then the values.
-use Prim.Native.Nat.{ℕ, suc, ◌+◌, ◌*◌, ◌%◌}
-use Rattle.std.specs.Prelude.{Option, Result, Ok, Err}
+use Rattle.std.proofs.Common.{ℕ, suc, ◌+◌, ◌*◌, ◌%◌, Option, Result, Ok, Err, ◌≡◌, refl, ap, ◌∙◌, List, get_or}
 use Rattle.std.specs.Result.{result_err}
-use mathlib.Core.Path.{◌≡◌, refl, ap, ◌∙◌}
-use Rattle.refusals.specs.declared.Refusal.{Refusal}
-use mathlib.Core.List.{List}
-use lib.ListN.{get_or}
-use Rattle.protocol.specs.Network.{Network as Network', Started}
-use Rattle.protocol.specs.Delivery.{deliver, ask_value}
-use Rattle.network.specs.declared.Network.{Network}
-use Rattle.network.specs.Abstract.{network_of}
-use Rattle.start.specs.Started.{started_number}
-use Rattle.engine.specs.Refused.{refused_number}
-use Rattle.run.specs.Answers.{DeliversAs}
+use Rattle.support_rejection.specs.declared.Rejection.{Rejection}
+use Rattle.model_network.specs.Network.{Network as Network', Started}
+use Rattle.model_network.specs.Delivery.{deliver, ask_value}
+use Rattle.abt_record.specs.declared.Network.{Network}
+use Rattle.abt_record.specs.Abstract.{network_of}
+use Rattle.abt_start.specs.Started.{started_number}
+use Rattle.abt_engine.specs.Refused.{rejected_number}
+use Rattle.abt.specs.Answers.{DeliversAs}
 use Rattle.bench_entry.specs.Giving.{mixed, played_one, played_to, Playing, asked_to, played_for}
 
 -- what refuses a start is its number
-refused-start : (r : Result Network Refusal) → refused_number (result_err r) ≡ started_number r
+refused-start : (r : Result Network Rejection) → rejected_number (result_err r) ≡ started_number r
 refused-start (Ok r) = refl
 refused-start (Err e) = refl
 
-pub number-given : (r : Result Network Refusal) (e : Option Refusal) → e ≡ result_err r → refused_number e ≡ started_number r
+pub number-given : (r : Result Network Rejection) (e : Option Rejection) → e ≡ result_err r → rejected_number e ≡ started_number r
 number-given r e q = rw q (refused-start r)
 
 pub none-played : (s : Started) (calls : List ℕ) (r : Network) (sum : ℕ) → network_of r ≡ s.network → sum ≡ s.number → Playing s calls 0 r sum

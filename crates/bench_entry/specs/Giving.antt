@@ -1,21 +1,21 @@
 -- What the entries give: numbers made of what the definitions work out, all that is made of it in one number.
 use Rattle.std.specs.Prelude.{ℕ, zero, suc, ◌+◌, ◌*◌, ◌%◌, ◌≡◌, Bool, true, false, List, eqb, ltb, length, get_or, Result, Ok, Err}
-use Rattle.problem.specs.Sheet.{fault_number, Decoded, Valid, Invalid}
-use Rattle.refusals.specs.Refusals.{refusal_number}
-use Rattle.refusals.specs.declared.Refusal.{Refusal}
-use Rattle.base.specs.Lent.{Written, untouched}
-use Rattle.agent_rules.specs.Counts.{Sort, Infos, Backs, AddLinks, Counts}
-use Rattle.agent_rules.specs.Agent.{Agent}
-use Rattle.protocol.specs.Network.{Network, Started, start_sheet}
-use Rattle.protocol.specs.Delivery.{answer_number, Delivery, deliver, ask_value}
-use Rattle.protocol.specs.Run.{Ending, None, Plan, Jammed, Open, Broken, Ran, run}
-use Rattle.packed.specs.Packed.{assignment}
-use Rattle.image_format.specs.Image.{byte_for}
-use Rattle.image_format.specs.Reading.{Loaded}
-use Rattle.image_forms.specs.Forms.{Form, First, Second}
-use Rattle.image_forms.specs.Writing.{store}
-use Rattle.network.specs.declared.Network.{Network as Rail}
-use Rattle.network.specs.Abstract.{network_of}
+use Rattle.model_sheet.specs.Sheet.{fault_number, Decoded, Valid, Invalid}
+use Rattle.support_rejection.specs.Rejections.{rejection_number}
+use Rattle.support_rejection.specs.declared.Rejection.{Rejection}
+use Rattle.model_base.specs.Lent.{Written, untouched}
+use Rattle.model_agent.specs.Traffic.{Sort, Infos, Backs, AddLinks, Traffic}
+use Rattle.model_agent.specs.Agent.{Agent}
+use Rattle.model_network.specs.Network.{Network, Started, start_sheet}
+use Rattle.model_network.specs.Delivery.{answer_number, Delivery, deliver, ask_value}
+use Rattle.model_network.specs.Run.{Ending, Unsolvable, Plan, Jammed, Open, Broken, Ran, run}
+use Rattle.abt_packed.specs.Packed.{assignment}
+use Rattle.model_image.specs.Image.{byte_for}
+use Rattle.model_image.specs.Reading.{Loaded}
+use Rattle.model_image_forms.specs.Forms.{Form, First, Second}
+use Rattle.model_image_forms.specs.Writing.{store}
+use Rattle.abt_record.specs.declared.Network.{Network as Rail}
+use Rattle.abt_record.specs.Abstract.{network_of}
 
 -- ---- decoding: one word of the ban table, 0 beyond its last, or the number of the sheet's fault
 
@@ -34,7 +34,7 @@ pub record WaitsFor (rule : ℕ) (sheet : List ℕ) (sender r : ℕ) : Type 0 wh
 -- ---- a run
 
 unfoldable pub ending_digit : Ending → ℕ
-ending_digit None = 0
+ending_digit Unsolvable = 0
 ending_digit Plan = 1
 ending_digit Jammed = 2
 ending_digit Open = 4
@@ -90,10 +90,10 @@ played_for p = asked_to 13 p.network p.sum
 unfoldable pub count_mixed : ℕ → ℕ → ℕ
 count_mixed sum count = mixed sum (count % 4294967296)
 
-unfoldable pub sort_mixed : ℕ → Counts → Sort → ℕ
+unfoldable pub sort_mixed : ℕ → Traffic → Sort → ℕ
 sort_mixed sum c x = count_mixed (count_mixed sum (c.sent x)) (c.received x)
 
-unfoldable pub counts_mixed : Counts → ℕ
+unfoldable pub counts_mixed : Traffic → ℕ
 counts_mixed c = sort_mixed (sort_mixed (sort_mixed 0 c Infos) c Backs) c AddLinks
 
 -- of an agent after a run; agents are counted from 0
@@ -109,7 +109,7 @@ agent_mixed sum a = mixed (mixed (count_mixed sum (counts_mixed a.counts)) a.val
 
 -- how many agents there are, the rule, the verdict, and the agents 1 to k
 unfoldable pub read_to : ℕ → Network → ℕ
-read_to zero w = (w.problem.count * 31 + w.rule) * 31 + byte_for w.verdict
+read_to zero w = (w.problem.count * 31 + w.rule) * 31 + byte_for w.unsolvable
 read_to (suc k) w = agent_mixed (read_to k w) (w.agents (suc k))
 
 unfoldable pub read_for : Loaded → ℕ
@@ -131,9 +131,9 @@ unfoldable pub length_for : Written → ℕ
 length_for x = elim (eqb x.number 0) [ true ↦ x.length | false ↦ x.number ]
 
 -- .. as the code answers it
-abbrev pub length_given : Result ℕ Refusal → ℕ
+abbrev pub length_given : Result ℕ Rejection → ℕ
 length_given (Ok n) = n
-length_given (Err e) = refusal_number e
+length_given (Err e) = rejection_number e
 
 -- the last answer, and the buffer as it is left
 pub record WritesFor (form : Form) (w : Network) (times : ℕ) (before : List ℕ) (r : ℕ) (after : List ℕ) : Type 0 where

@@ -1,4 +1,5 @@
-// Reads a sheet on standard input, has the scanners settle it and prints what they come to.
+//! The program `dock`: reads a sheet on standard input, has the agents solve it and prints what
+//! they come to. A thin `main` over `abt_cli_dock::dock`; start there. docs/PROGRAMS.md, 'dock'.
 #![tactic(auto)]
 
 use std::process::ExitCode;
@@ -6,6 +7,6 @@ use support_cli::launch;
 
 fn main(rt: HostRuntime) -> ExitCode {
     launch(&rt, |_, input, output, errors| {
-        cli_dock::dock(input, output, errors)
+        abt_cli_dock::dock(input, output, errors)
     })
 }

@@ -1,17 +1,18 @@
-// The lines of the cases, one after the other.
+//! The lines of the cases, one after the other.
 ghost use Rattle.std.specs.Prelude.{◌<◌};
 
 use crate::ends::{Giver, Manner, Taker};
 use crate::programs::{Command, run_program};
 use crate::shelf::{File, Shelf};
 use crate::telling::{push_line, push_number};
-use numerals::read_number;
 use std::alloc::{AllocError, Global};
 use std::io::Write;
 use std::mem;
+use support_buffer::read_number;
 use support_cli::{Input, Output};
 
-// The case under hand: its command line, its input, and how the input is read and the outputs are written.
+// The case under hand: its command line, its input, and how the input is read and the outputs are
+// written.
 #[derive(Drop)]
 struct Desk {
     alloc: Global,
@@ -25,12 +26,12 @@ struct Desk {
 
 // ---- lines
 
-// The number of a word; none stands for one that is never reached.
+// The number of a word; where there is none, the greatest, which is never reached.
 fn number_or_all(word: Option<&[u8]>) -> usize {
     word.and_then(read_number).unwrap_or(u64::MAX) as usize
 }
 
-// STEP [MOST].
+// Reads `STEP [MOST]`.
 fn manner_of(text: &[u8]) -> Manner {
     let mut numbers = text.split(|b| *b == b' ');
     let step = number_or_all(numbers.next()).max(1);
@@ -60,7 +61,7 @@ fn push_hex(input: &mut Vec<u8>, digits: &[u8]) -> Result<(), AllocError> {
     Ok(())
 }
 
-// At most 100,000.
+// Adds zeros, at most 100,000.
 fn push_zeros(input: &mut Vec<u8>, count: usize) -> Result<(), AllocError> {
     for _ in 0..count.min(100000) {
         input.extend_from_slice(&[0])?;
@@ -120,7 +121,7 @@ impl Desk {
         Ok(())
     }
 
-    // A line that builds a case. Any other is passed over.
+    // Follows a line that builds a case. Any other is passed over.
     fn follow(&mut self, name: &[u8], rest: &[u8]) -> Result<(), AllocError> {
         match name {
             b"word" => self.words.push(rest.to_vec(self.alloc)?)?,
@@ -148,7 +149,8 @@ fn split_line(line: &[u8]) -> (&[u8], &[u8]) {
     }
 }
 
-// Line by line, until standard output fails.
+/// Follows the text line by line, and puts what each program did on `output`. Fails where memory
+/// runs out.
 pub fn play<W: Write>(
     alloc: Global,
     text: &[u8],

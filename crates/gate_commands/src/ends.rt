@@ -1,19 +1,21 @@
-// A reader and a writer in memory that give and take little at a time, and fail.
+//! A reader and a writer in memory that give and take little at a time, and fail.
 ghost use Rattle.std.specs.Prelude.{◌≤◌};
 
 use std::alloc::Global;
 use std::io;
 use std::io::{Error, ErrorKind, Read, Write};
 
-// How much is given or taken at a time, and after how many bytes it fails.
+/// How many bytes are given or taken at a time, and when it fails.
 #[derive(Clone, Copy)]
 pub struct Manner {
+    /// The most bytes at a time.
     pub step: usize,
+    /// How many bytes go through before it fails.
     pub most: usize,
 }
 
 impl Manner {
-    // All at once, and never failing.
+    /// All at once, and never failing.
     pub fn whole() -> Manner {
         Manner {
             step: usize::MAX,
@@ -37,11 +39,12 @@ impl Manner {
     }
 }
 
-// Bytes that are given.
+/// A reader of the bytes `left`. Every other read, the first one too, is interrupted.
 #[derive(Drop)]
 pub struct Giver<'a> {
     pub left: &'a [u8],
     pub manner: Manner,
+    /// The last read was interrupted.
     pub waits: bool,
 }
 
@@ -62,15 +65,17 @@ impl Read for Giver<'_> {
     }
 }
 
-// Bytes that were taken.
+/// A writer that keeps the bytes `taken`. Every other write, the first one too, is interrupted.
 #[derive(Drop)]
 pub struct Taker {
     pub taken: Vec<u8>,
     pub manner: Manner,
+    /// The last write was interrupted.
     pub waits: bool,
 }
 
 impl Taker {
+    /// A writer that has taken nothing yet.
     pub fn new(alloc: Global, manner: Manner) -> Taker {
         Taker {
             taken: Vec::new(alloc),

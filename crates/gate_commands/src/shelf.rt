@@ -1,17 +1,17 @@
-// Files in memory.
+//! Files in memory.
 ghost use Rattle.std.specs.Prelude.{IfSome};
 ghost use Rattle.support_cli.specs.Files.{IsFilled};
 
 use support_cli::{Input, Store};
 
-// A file, by its name.
+/// A file, by its name.
 #[derive(Drop)]
 pub struct File {
     pub name: Vec<u8>,
     pub bytes: Vec<u8>,
 }
 
-// The files of a case.
+/// The files of a case.
 #[derive(Drop)]
 pub struct Shelf {
     pub files: Vec<File>,
@@ -24,7 +24,7 @@ impl Shelf {
         Some(file.bytes.as_slice())
     }
 
-    // How many of its bytes stand at the start of the buffer.
+    // Copies the file's first bytes into the buffer, and returns how many.
     fn read_bytes(&self, name: &[u8], buffer: &mut [u8]) -> Option<usize>
         ensures { IfSome result (λ n. IsFilled n buffer.new) }
     {

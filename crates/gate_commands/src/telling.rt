@@ -1,4 +1,4 @@
-// What a run is told as: lines in letters that can be read.
+//! What a run is told as: lines in letters that can be read.
 use std::alloc::AllocError;
 
 // The letters of hexadecimal digits.
@@ -16,7 +16,8 @@ fn push_byte(text: &mut Vec<u8>, byte: u8) -> Result<(), AllocError> {
     }
 }
 
-// A line: what stands before the bytes, and the bytes.
+/// Adds a line: what stands before the bytes, then the bytes, with an escape for a backslash and for
+/// each byte that is not printable ASCII.
 pub fn push_line(text: &mut Vec<u8>, before: &[u8], bytes: &[u8]) -> Result<(), AllocError> {
     text.extend_from_slice(before)?;
     for byte in bytes {
@@ -25,7 +26,7 @@ pub fn push_line(text: &mut Vec<u8>, before: &[u8], bytes: &[u8]) -> Result<(), 
     text.extend_from_slice(b"\n")
 }
 
-// A line that ends in a number.
+/// Adds a line that ends in a number.
 pub fn push_number(text: &mut Vec<u8>, before: &[u8], number: u64) -> Result<(), AllocError> {
     let mut digits = [0u8; 20];
     let count = io::decimal(number, &mut digits);

@@ -1,19 +1,18 @@
 -- The claims of specs/Claims.antt: each is a law of another crate, told here in the claim's own shape. Assumes nothing.
-use mathlib.Core.Path.{◌≡◌, refl}
-use borrow.Author.Tests.{eq-eqb}
-use Rattle.agent_rules.specs.Receiving.{quiet, answer, outdated, on_back, react}
-use Rattle.agent_facts.proofs.Uncounted.{react-uncounted}
-use Rattle.theorems.proofs.Waiting.{waits-channel}
-use Rattle.problem.proofs.Longest.{decode-cut}
-use Rattle.problem.proofs.Writing.{writing-decodes, writing-bans}
-use Rattle.protocol.specs.Network.{Network}
-use Rattle.image_format.specs.Image.{first_form, header_bytes, image}
-use Rattle.image_forms.specs.Forms.{Form, First, Second, second_form, image_in, other_form, form_of}
-use Rattle.image_forms.specs.Moving.{moved}
-use Rattle.image_forms.specs.Reading.{load}
-use Rattle.image_forms.proofs.Forms.{small-first, large-small}
-use Rattle.image_format.proofs.Cases as first
-use Rattle.image_forms.proofs.Cases as forms
+use Rattle.std.proofs.Common.{◌≡◌, refl, eq-eqb}
+use Rattle.model_agent.specs.Receiving.{quiet, answer, outdated, on_back, react}
+use Rattle.theorems_agent.proofs.Uncounted.{react-uncounted}
+use Rattle.theorems_network.proofs.Waiting.{waits-channel}
+use Rattle.model_sheet.proofs.Longest.{decode-cut}
+use Rattle.model_sheet.proofs.Writing.{writing-decodes, writing-bans}
+use Rattle.model_network.specs.Network.{Network}
+use Rattle.model_image.specs.Image.{first_form, header_bytes, image}
+use Rattle.model_image_forms.specs.Forms.{Form, First, Second, second_form, image_in, other_form, form_of}
+use Rattle.model_image_forms.specs.Moving.{moved}
+use Rattle.model_image_forms.specs.Reading.{load}
+use Rattle.model_image_forms.proofs.Forms.{small-first, large-small}
+use Rattle.model_image.proofs.Cases as first
+use Rattle.model_image_forms.proofs.Cases as forms
 use Rattle.promises.specs.Claims.{
   OutdatedAnswered,
   CountsUnread,

@@ -1,26 +1,26 @@
 -- Claims that stand beside those of the other crates' Claims.antt: laws of the rules, of sheets and of images, each under a name of its own.
 use Rattle.std.specs.Prelude.{ℕ, suc, ◌≤◌, ◌≡◌, true, false, List, [], ◌∷◌, length, take, eqb}
-use Rattle.base.specs.Finite.{within, every}
-use Rattle.problem.specs.Problem.{Problem, in_range, banned, no_bans, with_table}
-use Rattle.problem.specs.Row.{Row, row_good, rows_ban, with_rows}
-use Rattle.problem.specs.Sheet.{Valid, longest_sheet, max_records, decode}
-use Rattle.problem.specs.Writing.{written}
-use Rattle.agent_rules.specs.Message.{Assignment, Message, Info, Back}
-use Rattle.agent_rules.specs.Counts.{Counts}
-use Rattle.agent_rules.specs.Agent.{Self, Bans, Agent, Step, with_counts}
-use Rattle.agent_rules.specs.Receiving.{holds, react}
-use Rattle.protocol.specs.Network.{Network, start}
-use Rattle.protocol.specs.Shape.{in_shape}
-use Rattle.protocol.specs.Run.{Line}
-use Rattle.theorems.specs.Calls.{replay, waits_after}
-use Rattle.image_format.specs.Image.{image}
-use Rattle.image_format.specs.Reading.{load_first}
-use Rattle.image_format.specs.Plain.{Plain}
-use Rattle.image_format.specs.Cases as first
-use Rattle.image_forms.specs.Forms.{small, large, other_form, form_of}
-use Rattle.image_forms.specs.Moving.{moved}
-use Rattle.image_forms.specs.Reading.{load}
-use Rattle.image_forms.specs.Cases as forms
+use Rattle.model_base.specs.Finite.{within, every}
+use Rattle.model_sheet.specs.Problem.{Problem, in_range, banned, no_bans, with_table}
+use Rattle.model_sheet.specs.Row.{Row, row_good, rows_ban, with_rows}
+use Rattle.model_sheet.specs.Sheet.{Valid, longest_sheet, max_records, decode}
+use Rattle.model_sheet.specs.Writing.{written}
+use Rattle.model_agent.specs.Message.{Assignment, Message, Info, Back}
+use Rattle.model_agent.specs.Traffic.{Traffic}
+use Rattle.model_agent.specs.Agent.{Self, Bans, Agent, Step, with_counts}
+use Rattle.model_agent.specs.Receiving.{holds, react}
+use Rattle.model_network.specs.Network.{Network, start}
+use Rattle.model_network.specs.Shape.{in_shape}
+use Rattle.model_network.specs.Run.{Line}
+use Rattle.theorems_network.specs.Calls.{replay, waits_after}
+use Rattle.model_image.specs.Image.{image}
+use Rattle.model_image.specs.Reading.{load_first}
+use Rattle.model_image.specs.Plain.{Plain}
+use Rattle.model_image.specs.Cases as first
+use Rattle.model_image_forms.specs.Forms.{small, large, other_form, form_of}
+use Rattle.model_image_forms.specs.Moving.{moved}
+use Rattle.model_image_forms.specs.Reading.{load}
+use Rattle.model_image_forms.specs.Cases as forms
 
 -- ---- one agent
 
@@ -28,16 +28,16 @@ use Rattle.image_forms.specs.Cases as forms
 abbrev pub OutdatedAnswered : Type 0
 OutdatedAnswered =
     (s : Self) (bans : Bans) (a : Agent) (from : ℕ) (lhs : Assignment) → holds s a lhs a.value ≡ false
-    → react s bans a from (Back lhs a.value) ≡ record { agent = a; sent = record { to = from; message = Info a.value } ∷ []; verdict = false }
+    → react s bans a from (Back lhs a.value) ≡ record { agent = a; sent = record { to = from; message = Info a.value } ∷ []; unsolvable = false }
 
 -- a step whose agent has these counts
-abbrev pub with_step_counts : Counts → Step → Step
-with_step_counts c t = record { agent = with_counts t.agent c; sent = t.sent; verdict = t.verdict }
+abbrev pub with_step_counts : Traffic → Step → Step
+with_step_counts c t = record { agent = with_counts t.agent c; sent = t.sent; unsolvable = t.unsolvable }
 
 -- "No rule reads a count.", and none changes one: with other counts in the record the rules make the same step, and leave those counts in it.
 abbrev pub CountsUnread : Type 0
 CountsUnread =
-    (s : Self) (bans : Bans) (c : Counts) (a : Agent) (from : ℕ) (m : Message)
+    (s : Self) (bans : Bans) (c : Traffic) (a : Agent) (from : ℕ) (m : Message)
     → react s bans (with_counts a c) from m ≡ with_step_counts c (react s bans a from m)
 
 -- ---- lists of calls

@@ -1,8 +1,8 @@
--- The nights of docs/RULES.md that are marked P, each whole, in one claim. `nights` of protocol has more nights beside them.
+-- The nights of docs/RULES.md that are marked P, each whole, in one claim. `nights` of `model_network` has more nights beside them.
 use Rattle.std.specs.Prelude.{ℕ, ◌≡◌, List, [], ◌∷◌}
-use Rattle.agent_rules.specs.Message.{Info, Back, AddLink}
-use Rattle.protocol.specs.Run.{None, Plan, Open}
-use Rattle.protocol.specs.Nights.{
+use Rattle.model_agent.specs.Message.{Info, Back, AddLink}
+use Rattle.model_network.specs.Run.{Unsolvable, Plan, Open}
+use Rattle.model_network.specs.Nights.{
   sheet1,
   sheet2,
   sheet3,
@@ -19,15 +19,15 @@ use Rattle.protocol.specs.Nights.{
   SameStart,
   AllHold,
 }
-use Rattle.dock_text.specs.Settling.{program_rounds}
-use Rattle.dock_text.specs.Text.{dock_text}
+use Rattle.abt_dock_text.specs.Settling.{program_rounds}
+use Rattle.abt_dock_text.specs.Text.{dock_text}
 
 unfoldable pub marked_nights : List Night
 marked_nights =
     -- P1: `plan`, 0 rounds, slot 1. P8, first half: on P1 a delivery from 1 to 1 is refused with 6.
     Played sheet1 (Runs 100000 Plan 0 ∷ Values (1 ∷ []) ∷ Delivers 1 1 6 ∷ [])
     -- P2: `none`, 2 rounds. P7: a delivery after that verdict is refused with 7.
-    ∷ Played sheet2 (Runs 100000 None 2 ∷ Delivers 1 2 7 ∷ [])
+    ∷ Played sheet2 (Runs 100000 Unsolvable 2 ∷ Delivers 1 2 7 ∷ [])
     -- P3: `plan`, 1 round, slots 1 and 2. P8, second half: at rest a delivery from 1 to 2 is refused with 8.
     ∷ Played sheet3 (Runs 100000 Plan 1 ∷ Values (1 ∷ 2 ∷ []) ∷ Delivers 1 2 8 ∷ [])
     -- P4: P3 with its ban on the chain twice is the same rail.

@@ -1,7 +1,7 @@
 //! What holds of one agent's step, by the rules alone.
 ghost use Rattle.promises.specs.Claims.{CountsUnread, OutdatedAnswered};
 
-/// An outdated refusal of the own value is answered with that value.
+/// A Back of the agent's own value that does not hold is answered with an Info of that value.
 pub fn outdated()
     ensures answered { OutdatedAnswered }
 {}

@@ -1,11 +1,14 @@
-//! What holds of every list of deliveries and runs on a rail, from the start of an accepted sheet, under either rule.
+//! What holds of every list of deliveries and runs on a network, under either rule.
 //!
-//! `EverySheet` is every accepted sheet of either edition, `EveryProblem` every problem in range.
+//! `EverySheet C` claims C of the start of every sheet that is accepted, of either edition;
+//! `EveryProblem C` claims C of the start of every problem in range. A claim with neither says
+//! itself of which networks it holds.
 ghost use Rattle.promises.specs.Claims.{WaitsAsHeld};
-ghost use Rattle.theorems.specs.Claims.{EveryProblem, EverySheet, SoundAtRest, CompleteVerdict, StaysInShape, RoundBound, RunsMark, RunBound, RunsCount, Replay, AskedOnce, CountsExact, CountsCapped, SentIsReceivedAndWaiting, SentIsReceivedAndWaitingOf, CountsNeverFall, DeliverKeeps, RunKeeps, JammedExactly, NoneAfterNothing, RoundsUsed, RuleKept, RunTells, DeliveryTells};
-ghost use Rattle.spinning.specs.Claims.{OfASheet, AllAccepted, NoFullRound, PassesTheBound, DeliveriesUnbounded};
+ghost use Rattle.theorems_network.specs.Claims.{EveryProblem, EverySheet, SoundAtRest, CompleteVerdict, StaysInShape, RoundBound, RunsMark, RunBound, RunsCount, Replay, AskedOnce, CountsExact, CountsCapped, SentIsReceivedAndWaiting, SentIsReceivedAndWaitingOf, CountsNeverFall, DeliverKeeps, RunKeeps, JammedExactly, NoneAfterNothing, RoundsUsed, RuleKept, RunTells, DeliveryTells};
+ghost use Rattle.theorems_spinning.specs.Claims.{OfASheet, AllAccepted, NoFullRound, PassesTheBound, DeliveriesUnbounded};
 
-/// A rail with nothing waiting and no verdict breaks no ban. The verdict comes only where no choice of slots obeys all bans.
+/// With nothing waiting and no verdict, the values obey all bans. The verdict comes only where no
+/// assignment obeys all bans.
 pub fn accuracy()
     ensures sound { EverySheet SoundAtRest }
     ensures sound_of_problems { EveryProblem SoundAtRest }
@@ -13,7 +16,8 @@ pub fn accuracy()
     ensures complete_of_problems { EveryProblem CompleteVerdict }
 {}
 
-/// However full rounds are marked off, there are at most 16 · n · (d + 2)^n of them. So are those that the runs of a list return together.
+/// However full rounds are marked off, there are at most 16 · n · (d + 2)^n of them, d the largest
+/// domain. The full rounds that the runs of a list return together are no more either.
 pub fn round_limit()
     ensures bounded { EverySheet RoundBound }
     ensures bounded_of_problems { EveryProblem RoundBound }
@@ -21,7 +25,8 @@ pub fn round_limit()
     ensures returned_bounded_of_problems { EveryProblem RunBound }
 {}
 
-/// Each run returns exactly how many of its own rounds were full. The runs' own rounds are one way to mark off the list.
+/// Each run returns exactly how many of its own rounds were full. The runs' own rounds are one way
+/// to mark off the list.
 pub fn counted_rounds()
     ensures exact { EverySheet RunsCount }
     ensures exact_of_problems { EveryProblem RunsCount }
@@ -29,20 +34,25 @@ pub fn counted_rounds()
     ensures marked_of_problems { EveryProblem RunsMark }
 {}
 
-/// A run stands in a list for the deliveries that it tries, in its order: of every network, forged ones too. What waits by the list's definition is what the channel holds.
+/// Delivering a run's tries one by one leaves the network that the run leaves and rejects the same
+/// tries, on every network, forged ones too. From every start, what waits by the list's definition
+/// is what the channel holds.
 pub fn replayed()
     ensures replay { Replay }
     ensures waits { WaitsAsHeld }
 {}
 
-/// `jammed` is said exactly when a whole round delivered nothing while something waits, and at once; `open` only with all allowed rounds used. Of every network, forged ones too.
+/// A run on any network, forged ones too, ends `jammed` exactly where its last round was whole and
+/// delivered nothing while something waits, and no round follows one that delivered nothing. It
+/// makes no more rounds than it is allowed, and all of them where it ends `open`.
 pub fn endings()
     ensures jammed { JammedExactly }
     ensures at_once { NoneAfterNothing }
     ensures used { RoundsUsed }
 {}
 
-/// Every rail reached is in shape. A network in shape, forged or not, stays in shape.
+/// Every network reached from a start is in shape. A delivery and a run keep the shape and the rule
+/// of every network, forged ones too.
 pub fn shape()
     ensures reached { EverySheet StaysInShape }
     ensures reached_of_problems { EveryProblem StaysInShape }
@@ -51,13 +61,15 @@ pub fn shape()
     ensures rule { RuleKept }
 {}
 
-/// A link is asked for once.
+/// A link is asked for once: no AddLink waits from an agent that is informed already, and no two
+/// wait on one channel.
 pub fn links()
     ensures asked_once { EverySheet AskedOnce }
     ensures asked_once_of_problems { EveryProblem AskedOnce }
 {}
 
-/// The six counts of each scanner: exact below the top, capped at it; what is sent is received or waits; no count ever falls.
+/// The six counts of each agent are exact below the top and capped at it. Below the top the total
+/// sent is the total received plus what waits, in each sort too. No count ever falls.
 pub fn figures()
     ensures exact { EverySheet CountsExact }
     ensures exact_of_problems { EveryProblem CountsExact }
@@ -70,7 +82,8 @@ pub fn figures()
     ensures never_fall { CountsNeverFall }
 {}
 
-/// What the word, the full rounds and the slots of a run tell, behind any calls; and what a delivery leaves.
+/// What the word, the full rounds and the values of a run tell of the problem, behind any calls;
+/// and what the network that a delivery leaves tells.
 pub fn answers()
     ensures run { EverySheet RunTells }
     ensures run_of_problems { EveryProblem RunTells }
@@ -78,7 +91,8 @@ pub fn answers()
     ensures delivery_of_problems { EveryProblem DeliveryTells }
 {}
 
-/// The limit is on full rounds. On one sheet a list of accepted deliveries goes on for any number of turns and has no full round, so the limit on full rounds does not hold of deliveries.
+/// The bound is on full rounds, not on deliveries: on one sheet a list of accepted deliveries goes
+/// on for any number of turns, has no full round, and passes the bound.
 pub fn unbounded()
     ensures sheet { OfASheet }
     ensures accepted { AllAccepted }

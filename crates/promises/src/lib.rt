@@ -1,7 +1,10 @@
-//! The theorems of this project, each on a function.
+//! The theorems of this project, each as a clause of a function.
 //!
-//! A function of this crate takes nothing and does nothing. Its clauses are claims about the definitions, so the crate is proved only where every claim has its
-//! proof. Start with [`calls`]: what holds of every list of calls on a rail. What each claim says stands in the `specs/Claims.antt` that its import names.
+//! A function of this crate takes nothing and does nothing. Its clauses are claims about the
+//! definitions, so the crate is proved only where every claim has its proof. The definitions and
+//! most claims stand in the `model_*` and `theorems_*` crates. Start with [`calls`]: what holds of
+//! every list of calls on a network. What a claim says stands in the file of specs/ that its import
+//! names.
 #![tactic(auto)]
 
 pub mod agents;

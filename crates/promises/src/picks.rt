@@ -1,28 +1,32 @@
 //! What holds of the dispatcher's picks, and of lists of picks, deliveries and runs.
-ghost use Rattle.theorems.specs.Claims.{EveryProblem, EverySheet};
-ghost use Rattle.dispatch_rules.specs.Claims.{ServedInTime, HeadsStay, PicksCounted, PicksDeliver};
-ghost use Rattle.dispatch_laws.specs.Claims.{PicksAreCalls, SoundWithPicks, CompleteWithPicks, InShapeWithPicks, RoundBoundWithPicks, RunBoundWithPicks};
+ghost use Rattle.theorems_network.specs.Claims.{EveryProblem, EverySheet};
+ghost use Rattle.model_dispatch.specs.Claims.{ServedInTime, HeadsStay, PicksCounted, PicksDeliver};
+ghost use Rattle.theorems_dispatch.specs.Claims.{PicksAreCalls, SoundWithPicks, CompleteWithPicks, InShapeWithPicks, RoundBoundWithPicks, RunBoundWithPicks};
 
-/// The head of a line that stays deliverable is served within 2 · n · (n - 1) picks, however the host chooses.
+/// The head of a channel that stays deliverable is served within 2 · n · (n - 1) picks, however the
+/// host chooses.
 pub fn served()
     ensures in_time { ServedInTime }
     ensures heads_stay { HeadsStay }
 {}
 
-/// The count of picks equals the deliveries made, and stays at the top. A pick that serves a line is the delivery on it; one that serves none changes nothing.
+/// The count of picks grows by the deliveries that the picks make, and stays at its top. A pick
+/// that serves a channel is the accepted delivery on it; one that serves none changes nothing.
 pub fn counted()
     ensures counted { PicksCounted }
     ensures delivered { PicksDeliver }
 {}
 
-/// A list with picks leaves what the calls that it comes to leave.
+/// A list with picks leaves the network that the calls that it comes to leave, and from a start
+/// that network is in shape.
 pub fn calls()
     ensures calls { PicksAreCalls }
     ensures in_shape { EverySheet InShapeWithPicks }
     ensures in_shape_of_problems { EveryProblem InShapeWithPicks }
 {}
 
-/// So such a list breaks no ban at rest, and the verdict comes only where nothing works.
+/// With nothing waiting and no verdict, such a list leaves values that obey all bans. The verdict
+/// comes only where no assignment obeys all bans.
 pub fn accuracy()
     ensures sound { EverySheet SoundWithPicks }
     ensures sound_of_problems { EveryProblem SoundWithPicks }
@@ -30,7 +34,8 @@ pub fn accuracy()
     ensures complete_of_problems { EveryProblem CompleteWithPicks }
 {}
 
-/// And its full rounds are at most 16 · n · (d + 2)^n.
+/// Its full rounds, however marked off, and those that its runs return together, are at most
+/// 16 · n · (d + 2)^n.
 pub fn round_limit()
     ensures bounded { EverySheet RoundBoundWithPicks }
     ensures bounded_of_problems { EveryProblem RoundBoundWithPicks }

@@ -1,8 +1,10 @@
 //! What holds of sheets as bytes: what is read, and what is written.
-ghost use Rattle.problem.specs.Chain.{DecodesInRange, BansAsSaid, LinksAsBanned};
+ghost use Rattle.model_sheet.specs.Chain.{DecodesInRange, BansAsSaid, LinksAsBanned};
 ghost use Rattle.promises.specs.Claims.{CutDecodes, WritingDecodes, WritingBans};
 
-/// An accepted sheet gives a problem in range; the table holds exactly what the records on the chain say; two agents are linked exactly if a ban names both. Input beyond the longest sheet comes out as its first 33,817 bytes do.
+/// An accepted sheet gives a problem in range. Its table holds exactly the bans of the records on
+/// the chain, and two agents are linked exactly if some ban names both. Input longer than any sheet
+/// comes out as its first 33,817 bytes do.
 pub fn reading()
     ensures in_range { DecodesInRange }
     ensures bans { BansAsSaid }
@@ -10,7 +12,7 @@ pub fn reading()
     ensures cut { CutDecodes }
 {}
 
-/// A sheet written of good rows is accepted, and bans exactly what they ban.
+/// A sheet written of at most 4,224 good rows is accepted, and bans exactly what the rows ban.
 pub fn writing()
     ensures accepted { WritingDecodes }
     ensures bans { WritingBans }

@@ -1,23 +1,25 @@
-//! The worked cases, computed from the definitions: the nights of docs/RULES.md, single steps of an agent, sheets, images, texts.
+//! The worked cases, computed from the definitions: the nights of docs/RULES.md, single steps of an
+//! agent, sheets, images, texts.
 ghost use Rattle.std.specs.Prelude.{◌≡◌, true};
-ghost use Rattle.base.specs.Finite.{every};
-ghost use Rattle.protocol.specs.Nights.{AllHold as NightsHold, nights};
-ghost use Rattle.nights.specs.Further.{further_nights};
-ghost use Rattle.nights.specs.Quiet.{quiet_nights};
-ghost use Rattle.dispatch_rules.specs.Nights.{AllHold as PicksHold, nights as pick_nights};
-ghost use Rattle.nights.specs.Dispatched.{dispatched_nights};
-ghost use Rattle.tenants.specs.Nights.{AllHold as PairsHold, nights as pairs};
-ghost use Rattle.agent_rules.specs.Cases.{all_hold as steps_hold, step_cases};
-ghost use Rattle.problem.specs.Cases.{case_holds as sheet_holds, cases as sheet_cases};
-ghost use Rattle.turn_rules.specs.Cases.{case_holds as turn_holds, cases as turn_cases, put_holds as turn_put_holds, puts as turn_puts};
-ghost use Rattle.little_rules.specs.Cases.{case_holds as little_holds, cases as little_cases, put_holds as little_put_holds, puts as little_puts};
-ghost use Rattle.scribe_rules.specs.Cases.{TextsRead, RecordsEnd, FaultsSaid, SheetsTold, AllPrinted};
-ghost use Rattle.season_rules.specs.Cases.{NightsEnd};
+ghost use Rattle.model_base.specs.Finite.{every};
+ghost use Rattle.model_network.specs.Nights.{AllHold as NightsHold, nights};
+ghost use Rattle.model_cases.specs.Further.{further_nights};
+ghost use Rattle.model_cases.specs.Quiet.{quiet_nights};
+ghost use Rattle.model_dispatch.specs.Nights.{AllHold as PicksHold, nights as pick_nights};
+ghost use Rattle.model_cases.specs.Dispatched.{dispatched_nights};
+ghost use Rattle.theorems_isolation.specs.Nights.{AllHold as PairsHold, nights as pairs};
+ghost use Rattle.model_agent.specs.Cases.{all_hold as steps_hold, step_cases};
+ghost use Rattle.model_sheet.specs.Cases.{case_holds as sheet_holds, cases as sheet_cases};
+ghost use Rattle.model_editions.specs.Cases.{case_holds as turn_holds, cases as turn_cases, put_holds as turn_put_holds, puts as turn_puts};
+ghost use Rattle.model_little.specs.Cases.{case_holds as little_holds, cases as little_cases, put_holds as little_put_holds, puts as little_puts};
+ghost use Rattle.model_text.specs.Cases.{TextsRead, RecordsEnd, FaultsSaid, SheetsTold, AllPrinted};
+ghost use Rattle.model_season.specs.Cases.{NightsEnd};
 ghost use Rattle.season_text.specs.Cases.{AllPrint};
 ghost use Rattle.promises.specs.Nights.{MarkedNights};
 ghost use Rattle.promises.specs.Claims.{FirstWorked, FormsWorked};
 
-/// The nights marked P, as one claim, with all that P9's text prints; then further nights under both rules.
+/// The nights marked P in docs/RULES.md, as one claim, with the text that `dock` prints of P9; then
+/// further nights under rule 1 and under the quiet rule.
 pub fn nights()
     ensures marked { MarkedNights }
     ensures first { NightsHold nights }
@@ -31,7 +33,7 @@ pub fn dispatched()
     ensures further { PicksHold dispatched_nights }
 {}
 
-/// Pairs of rails alike in one agent.
+/// Pairs of networks alike in one agent.
 pub fn pairs()
     ensures alike { PairsHold pairs }
 {}
@@ -41,7 +43,7 @@ pub fn steps()
     ensures steps { steps_hold step_cases ≡ true }
 {}
 
-/// Sheets of both editions: every fault, the order of the checks.
+/// Sheets of both editions: every fault, and the order of the checks.
 pub fn sheets()
     ensures sheets { every sheet_holds sheet_cases ≡ true }
 {}
@@ -52,13 +54,13 @@ pub fn editions()
     ensures put { every turn_put_holds turn_puts ≡ true }
 {}
 
-/// Little sheets, byte by byte.
+/// Little sheets, byte by byte, and the buffers that they are put into.
 pub fn little()
     ensures sheets { every little_holds little_cases ≡ true }
     ensures put { every little_put_holds little_puts ≡ true }
 {}
 
-/// Texts read and told, each fault with its words.
+/// Texts read and told, and each fault with its words.
 pub fn texts()
     ensures read { TextsRead }
     ensures records { RecordsEnd }
@@ -73,7 +75,8 @@ pub fn seasons()
     ensures printed { AllPrint }
 {}
 
-/// P9's image after two and after three rounds, worked out by hand, and bytes near it that are no image.
+/// P9's image after two rounds, and after three rounds in both forms, worked out by hand; and bytes
+/// near them that are no image.
 pub fn images()
     ensures first { FirstWorked }
     ensures forms { FormsWorked }

@@ -1,29 +1,21 @@
 -- What a sheet comes to is counted as the definitions say, each number capped.
 -- What the settling of a sheet answers is its outcome; the figures of a list of fewer than 1,000,000 sheets are below the cap.
-use Prim.Native.Nat.{ℕ, suc, ◌+◌, ◌-◌, ◌^◌, ◌≤◌, min}
-use mathlib.Core.Path.{◌≡◌, refl, sym, ap, subst, ◌∙◌}
-use mathlib.Core.Logic.{◌≢◌}
-use mathlib.Core.List.{List, [], ◌∷◌, ◌++◌}
-use mathlib.Core.Option.{Option as Option'}
-use Rattle.std.specs.Prelude.{Option, Ok, Err}
-use Rattle.refusals.specs.Refusals.{refusal_number}
-use Rattle.refusals.specs.declared.Refusal.{Refusal}
-use Rattle.refusals.proofs.Numbers.{refusal-some}
-use native.Mathlib.Omega.{arith}
-use lib.ListN.{length-append}
-use borrow.Author.Tests.{ne_eqb}
-use Rattle.agent_rules.specs.Counts.{top, raised}
-use Rattle.protocol.specs.Network.{start_sheet}
-use Rattle.protocol.specs.Run.{Ending as Ending', Ran}
-use Rattle.engine.specs.Answers.{ending_of}
-use Rattle.engine.specs.declared.Answer.{Answer}
-use Rattle.dock_text.specs.Settling.{program_rule, settled, Settles}
-use Rattle.season_rules.specs.Season.{season_rule, season_rounds, Outcome, Refused, Ended, outcome_by, outcome, Rounds as Rounds', Figures as Figures', place, one_more, counting, with_outcome}
-use Rattle.season_rules.specs.Capped.{capped_rounds, capped_kinds, capped}
-use Rattle.season_rules.specs.Stream.{most_sheets}
-use Rattle.season_rules.specs.Claims.{Known}
-use Rattle.season_rules.proofs.Theorems.{each-known, one-more-sheet, never-capped}
-use Rattle.season_rules.proofs.Capped.{rounds_again}
+use Rattle.std.proofs.Common.{ℕ, suc, ◌+◌, ◌-◌, ◌^◌, ◌≤◌, min, ◌≡◌, refl, sym, ap, subst, ◌∙◌, ◌≢◌, List, [], ◌∷◌, ◌++◌, Option, Ok, Err, arith, length-append, ne_eqb}
+use Rattle.support_rejection.specs.Rejections.{rejection_number}
+use Rattle.support_rejection.specs.declared.Rejection.{Rejection}
+use Rattle.support_rejection.proofs.Numbers.{refusal-some}
+use Rattle.model_agent.specs.Traffic.{top, raised}
+use Rattle.model_network.specs.Network.{start_sheet}
+use Rattle.model_network.specs.Run.{Ending as Ending', Ran}
+use Rattle.abt_engine.specs.Answers.{ending_of}
+use Rattle.abt_engine.specs.declared.Answer.{Answer}
+use Rattle.abt_dock_text.specs.Settling.{program_rule, settled, Settles}
+use Rattle.model_season.specs.Season.{season_rule, season_rounds, Outcome, Refused, Ended, outcome_by, outcome, Rounds as Rounds', Figures as Figures', place, one_more, counting, with_outcome}
+use Rattle.model_season.specs.Capped.{capped_rounds, capped_kinds, capped}
+use Rattle.model_season.specs.Stream.{most_sheets}
+use Rattle.model_season.specs.Claims.{Known}
+use Rattle.model_season.proofs.Theorems.{each-known, one-more-sheet, never-capped}
+use Rattle.model_season.proofs.Capped.{rounds_again}
 use Rattle.season_figures.specs.declared.figures.Rounds.{Rounds}
 use Rattle.season_figures.specs.declared.figures.Figures.{Figures}
 use Rattle.season_figures.specs.Abstract.{kinds, rounds_of, figures_of, with_word, AddsSheet, CountsSheet}
@@ -47,7 +39,7 @@ unfolding figures_of with_word capped
 word_more f s new k r one h kept e = rw (raised-sum s (suc f.sheets) (omega arith), e, kept_kinds f.refused h, kept) refl
 
 -- a word and the rounds that it leaves are what the definition makes of an ending
-pub ended_more : (f g : Figures') (e : Ending') (n : ℕ) (r : Option' Rounds') → g ≡ capped (with_word f (place e) r)
+pub ended_more : (f g : Figures') (e : Ending') (n : ℕ) (r : Option Rounds') → g ≡ capped (with_word f (place e) r)
     → r ≡ capped_rounds (counting e n f.rounds) → g ≡ capped (with_outcome (Ended e n) f)
 unfolding with_word with_outcome capped
 ended_more f g e n r w c = w ∙ rw (c, rounds_again) refl
@@ -67,13 +59,13 @@ module _ (sheet : List ℕ) (ran : Answer) (S : Settles 100000 sheet (Ok ran)) w
   unfolding season_rounds
   ended_known = let k = subst Known settles_ended (each-known sheet) in (k.0, k.2)
 
-module _ (sheet : List ℕ) (e : Refusal) (S : Settles 100000 sheet (Err e)) where
-  pub settles_refused : outcome sheet ≡ Refused (refusal_number e)
+module _ (sheet : List ℕ) (e : Rejection) (S : Settles 100000 sheet (Err e)) where
+  pub settles_refused : outcome sheet ≡ Refused (rejection_number e)
   unfolding outcome program_rule season_rule
   settles_refused =
       by-refused (start_sheet season_rule sheet).number _ (λ z. refusal-some e (S.number ∙ z)) ∙ ap Refused (sym S.number)
 
-  pub refused_known : (1 ≤ refusal_number e) × (refusal_number e ≤ 4)
+  pub refused_known : (1 ≤ rejection_number e) × (rejection_number e ≤ 4)
   refused_known = subst Known settles_refused (each-known sheet)
 
 -- ---- the sheet counted

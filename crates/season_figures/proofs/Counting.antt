@@ -1,21 +1,14 @@
 -- One more of a kind, and the rounds of one sheet more, as the definitions say, each number capped.
 -- A place of four holds the kind behind it; a number of 64 bits that is not touched is at most the greatest one.
-use Prim.Native.Nat.{ℕ, zero, suc, ◌+◌, ◌-◌, ◌^◌, ◌≤◌, ◌<◌, min, max}
-use mathlib.Core.Path.{◌≡◌, refl, sym, subst, ◌∙◌, fun_ext}
-use mathlib.Core.Logic.{◌≢◌}
-use mathlib.Core.List.{List, [], ◌∷◌}
-use Rattle.std.specs.Prelude.{Option, None, Some}
-use native.Mathlib.Omega.{arith}
-use lib.ListN.{length, get_or, set}
-use lib.Seq.{get_or-set_same, get_or-set_other}
-use borrow.Author.Tests.{eq-eqb, ne_eqb}
-use Rattle.base.proofs.Tests.{eq_test}
-use Rattle.agent_rules.specs.Counts.{top, raised}
-use Rattle.agent_rules.proofs.Counts.{Raised, exact, full, raises}
-use Rattle.protocol.specs.Run.{one_if}
-use Rattle.season_rules.specs.Season.{one_more, with_rounds}
-use Rattle.season_rules.specs.Capped.{capped_rounds, capped_kinds}
-use Rattle.season_rules.proofs.Capped.{raised_stays, stays_kinds}
+use Rattle.std.proofs.Common.{ℕ, zero, suc, ◌+◌, ◌-◌, ◌^◌, ◌≤◌, ◌<◌, min, max, ◌≡◌, refl, sym, subst, ◌∙◌, ◌≢◌, List, [], ◌∷◌, Option, None, Some, arith, length, get_or, set, get_or-set_same, get_or-set_other, eq-eqb, ne_eqb}
+use mathlib.Core.Path.{fun_ext}
+use Rattle.model_base.proofs.Tests.{eq_test}
+use Rattle.model_agent.specs.Traffic.{top, raised}
+use Rattle.model_agent.proofs.Traffic.{Raised, exact, full, raises}
+use Rattle.model_network.specs.Run.{one_if}
+use Rattle.model_season.specs.Season.{one_more, with_rounds}
+use Rattle.model_season.specs.Capped.{capped_rounds, capped_kinds}
+use Rattle.model_season.proofs.Capped.{raised_stays, stays_kinds}
 use Rattle.season_figures.specs.declared.figures.Rounds.{Rounds}
 use Rattle.season_figures.specs.Abstract.{kinds, rounds_from, rounds_of}
 

@@ -1,20 +1,12 @@
 -- The pieces that are cut off a stream are its next length and sheet.
 -- Cut off are the bytes wanted, as far as there are any.
-use Prim.Native.Nat.{ℕ, ◌+◌, ◌-◌, ◌*◌, ◌≤◌, ◌<◌, min}
-use mathlib.Core.Path.{◌≡◌, refl, sym, ap, subst, ◌∙◌}
-use mathlib.Core.Bool.{Bool, true, false}
-use mathlib.Core.List.{List}
-use native.Mathlib.Omega.{arith}
-use lib.Dec.{ltb, leb}
-use lib.ListN.{length, get_or, take, drop, length-take, length-drop}
-use lib.Seq.{drop-drop, get_or-take}
-use borrow.Author.Tests.{le-leb, lt-leb, lt-ltb, le-ltb, leb-true, leb-false, ltb-true, ltb-false}
-use Rattle.std.specs.Prelude.{Option, None, Some, MatchOption}
+use Rattle.std.proofs.Common.{ℕ, ◌+◌, ◌-◌, ◌*◌, ◌≤◌, ◌<◌, min, ◌≡◌, refl, sym, ap, subst, ◌∙◌, Bool, true, false, List, arith, ltb, leb, length, get_or, take, drop, length-take, length-drop, drop-drop, get_or-take, le-leb, lt-ltb, le-ltb, leb-true, leb-false, ltb-true, ltb-false, Option, None, Some, MatchOption}
+use borrow.Author.Tests.{lt-leb}
 use Rattle.std.proofs.lemmas.List.{take_min, drop_min}
 use Rattle.std.specs.Option.{unwrap_or}
-use Rattle.base.proofs.Tests.{test}
-use Rattle.problem.specs.Sheet.{byte_at, word_from}
-use Rattle.season_rules.specs.Stream.{length_bytes, length_in, is_whole}
+use Rattle.model_base.proofs.Tests.{test}
+use Rattle.model_sheet.specs.Sheet.{byte_at, word_from}
+use Rattle.model_season.specs.Stream.{length_bytes, length_in, is_whole}
 use Rattle.season_figures.specs.declared.stream.Season.{Season}
 use Rattle.season_figures.specs.Abstract.{AddsSheet}
 use Rattle.season_figures.specs.Pieces.{said, is_piece, over_by, Steps, first_sheet, Advances}

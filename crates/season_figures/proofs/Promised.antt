@@ -1,29 +1,23 @@
 -- What the figures tell of the sheets: a sheet that ends with a word is of a problem, and of its one run the claims about lists of calls speak.
 -- A count grows only where the sheet ended so; and a list's counts are counts of such sheets.
-use Prim.Native.Nat.{ℕ, suc, ◌+◌, ◌≤◌, ◌<◌}
-use mathlib.Core.Path.{◌≡◌, refl, sym, ap, subst, ◌∙◌}
+use Rattle.std.proofs.Common.{None, Option, Some, ℕ, suc, ◌+◌, ◌≤◌, ◌<◌, ◌≡◌, refl, sym, ap, subst, ◌∙◌, List, [], ◌∷◌, ◌++◌, arith, eqb, eqb-true}
 use mathlib.Core.Bool.{false≢true}
-use mathlib.Core.List.{List, [], ◌∷◌, ◌++◌}
-use mathlib.Core.Option.{Option as Option', none, some}
-use native.Mathlib.Omega.{arith}
-use lib.Dec.{eqb}
-use borrow.Author.Tests.{eqb-true}
-use Rattle.base.specs.Finite.{within}
-use Rattle.base.specs.Lists.{All}
-use Rattle.base.proofs.Tests.{test}
-use Rattle.agent_rules.specs.Counts.{raised}
-use Rattle.agent_rules.proofs.Counts.{Raised, exact, full, raises}
-use Rattle.problem.specs.Problem.{Problem}
-use Rattle.problem.specs.Sheet.{Decoded, Valid, Invalid, BadLength, BadHeader, BadRecord, Cycle, fault_number, decode}
-use Rattle.protocol.specs.Network.{start, is_rule, started_on, start_sheet}
-use Rattle.protocol.specs.Run.{Ending, None, Plan, Jammed, Open, Broken, one_if, run}
-use Rattle.theorems.specs.Calls.{left_by_all, made_by_all}
-use Rattle.theorems.specs.Claims.{most_rounds, slots_of, Tells}
-use Rattle.theorems.proofs.Theorems.{sheet-run-tells}
-use Rattle.season_rules.specs.Season.{season_rule, season_rounds, Outcome, Refused, Ended, outcome_by, outcome, Rounds as Rounds', Figures as Figures', no_figures, place, has_rounds, one_more, with_rounds, counting, with_outcome, figures_of as figures_of'}
-use Rattle.season_rules.specs.Capped.{capped_rounds, capped_kinds, capped}
-use Rattle.season_rules.specs.Claims.{sum_in}
-use Rattle.season_rules.proofs.Order.{counts-rounds, counts-none}
+use Rattle.model_base.specs.Finite.{within}
+use Rattle.model_base.specs.Lists.{All}
+use Rattle.model_base.proofs.Tests.{test}
+use Rattle.model_agent.specs.Traffic.{raised}
+use Rattle.model_agent.proofs.Traffic.{Raised, exact, full, raises}
+use Rattle.model_sheet.specs.Problem.{Problem}
+use Rattle.model_sheet.specs.Sheet.{Decoded, Valid, Invalid, BadLength, BadHeader, BadRecord, Cycle, fault_number, decode}
+use Rattle.model_network.specs.Network.{start, is_rule, started_on, start_sheet}
+use Rattle.model_network.specs.Run.{Ending, Unsolvable, Plan, Jammed, Open, Broken, one_if, run}
+use Rattle.theorems_network.specs.Calls.{left_by_all, made_by_all}
+use Rattle.theorems_network.specs.Claims.{most_rounds, slots_of, Tells}
+use Rattle.theorems_network.proofs.Theorems.{sheet-run-tells}
+use Rattle.model_season.specs.Season.{season_rule, season_rounds, Outcome, Refused, Ended, outcome_by, outcome, Rounds as Rounds', Figures as Figures', no_figures, place, has_rounds, one_more, with_rounds, counting, with_outcome, figures_of as figures_of'}
+use Rattle.model_season.specs.Capped.{capped_rounds, capped_kinds, capped}
+use Rattle.model_season.specs.Claims.{sum_in}
+use Rattle.model_season.proofs.Order.{counts-rounds, counts-none}
 use Rattle.season_figures.specs.declared.figures.Figures.{Figures}
 use Rattle.season_figures.specs.Abstract.{kinds, rounds_of, figures_of, CountsSheet}
 use Rattle.season_figures.specs.Promised.{slots_left, OutcomeTells, Planned, Hopeless, CountTells, SoMany, CountsTell}
@@ -63,7 +57,7 @@ all-tell (sheet ∷ more) = (outcome-tells sheet, all-tell more)
 -- what ended with the word of a place, by that place
 ended-hopeless : (sheet : List ℕ) (e : Ending) (n : ℕ) → outcome sheet ≡ Ended e n → place e ≡ 1 → Hopeless sheet
 unfolding place
-ended-hopeless sheet None n h q = let t = outcome-tells sheet None n h in (t.0, t.1, t.2.none refl)
+ended-hopeless sheet Unsolvable n h q = let t = outcome-tells sheet Unsolvable n h in (t.0, t.1, t.2.none refl)
 ended-hopeless sheet Plan n h q = absurd (omega arith)
 ended-hopeless sheet Jammed n h q = absurd (omega arith)
 ended-hopeless sheet Open n h q = absurd (omega arith)
@@ -71,7 +65,7 @@ ended-hopeless sheet Broken n h q = absurd (omega arith)
 
 ended-planned : (sheet : List ℕ) (e : Ending) (n : ℕ) → outcome sheet ≡ Ended e n → place e ≡ 2 → Planned sheet
 unfolding place
-ended-planned sheet None n h q = absurd (omega arith)
+ended-planned sheet Unsolvable n h q = absurd (omega arith)
 ended-planned sheet Plan n h q = let t = outcome-tells sheet Plan n h in (t.0, t.1, t.2.plan refl)
 ended-planned sheet Jammed n h q = absurd (omega arith)
 ended-planned sheet Open n h q = absurd (omega arith)
@@ -103,17 +97,17 @@ unfolding capped with_outcome
 grown P w sheet f holds (Refused k) q h = absurd (none-grown f.words w h)
 grown P w sheet f holds (Ended e n) q h = holds e n q (one-grown f.words (place e) w h)
 
-still-sum : (r : Option' Rounds') → sum_in (capped_rounds r) ≤ sum_in r
+still-sum : (r : Option Rounds') → sum_in (capped_rounds r) ≤ sum_in r
 unfolding sum_in capped_rounds
-still-sum none = omega arith
-still-sum (some r) = raised-most r.sum
+still-sum None = omega arith
+still-sum (Some r) = raised-most r.sum
 
-more-sum : (n : ℕ) (r : Option' Rounds') → sum_in (capped_rounds (with_rounds n r)) ≤ sum_in r + n
+more-sum : (n : ℕ) (r : Option Rounds') → sum_in (capped_rounds (with_rounds n r)) ≤ sum_in r + n
 unfolding sum_in capped_rounds with_rounds
-more-sum n none = omega (arith, raised-most n)
-more-sum n (some r) = omega (arith, raised-most (n + r.sum))
+more-sum n None = omega (arith, raised-most n)
+more-sum n (Some r) = omega (arith, raised-most (n + r.sum))
 
-sum-grown : (e : Ending) (n : ℕ) (r : Option' Rounds') → sum_in (capped_rounds (counting e n r)) ≤ sum_in r + n
+sum-grown : (e : Ending) (n : ℕ) (r : Option Rounds') → sum_in (capped_rounds (counting e n r)) ≤ sum_in r + n
 sum-grown e n r =
     test (has_rounds e) (λ t. rw (counts-rounds e n r t) (more-sum n r))
     (λ t. rw (counts-none e n r t) (omega (arith, still-sum r)))

@@ -1,17 +1,11 @@
 -- The season so far, with what is left of the stream, is the season of the stream.
 -- A whole sheet goes from what is left to what is done; where nothing whole is left, reading is over.
-use Prim.Native.Nat.{ℕ, suc, ◌+◌, ◌≤◌, ◌<◌}
-use mathlib.Core.Path.{◌≡◌, refl, sym, ap, subst, ◌∙◌}
-use mathlib.Core.Bool.{Bool, true, false, false≢true}
-use mathlib.Core.List.{List, [], ◌∷◌, ◌++◌, append_assoc, append-nil}
-use native.Mathlib.Omega.{arith}
-use lib.ListN.{length, length-append}
-use lib.Dec.{ltb}
-use borrow.Author.Tests.{lt-ltb, le-ltb}
-use Rattle.base.proofs.Tests.{test}
-use Rattle.season_rules.specs.Season.{figures_of as figures_of', no_figures}
-use Rattle.season_rules.specs.Stream.{Stream, most_sheets, is_whole, ended, behind, split, Season as Season', season_from, season}
-use Rattle.season_rules.proofs.Streams.{split_goes, split-ends}
+use Rattle.std.proofs.Common.{ℕ, suc, ◌+◌, ◌≤◌, ◌<◌, ◌≡◌, refl, sym, ap, subst, ◌∙◌, Bool, true, false, List, [], ◌∷◌, ◌++◌, append_assoc, append-nil, arith, length, length-append, ltb, lt-ltb, le-ltb}
+use mathlib.Core.Bool.{false≢true}
+use Rattle.model_base.proofs.Tests.{test}
+use Rattle.model_season.specs.Season.{figures_of as figures_of', no_figures}
+use Rattle.model_season.specs.Stream.{Stream, most_sheets, is_whole, ended, behind, split, Season as Season', season_from, season}
+use Rattle.model_season.proofs.Streams.{split_goes, split-ends}
 use Rattle.season_figures.specs.declared.stream.Reading.{Reading}
 use Rattle.season_figures.specs.declared.stream.Reading.TheVariants.{Going, Ended, Cut}
 use Rattle.season_figures.specs.declared.stream.Season.{Season}

@@ -1,12 +1,10 @@
 -- What is read of a stream is what the claims about streams say: the same sheets in another order give the same figures, and whole sheets are read as they stand.
 -- Both follow from the season that the definition reads.
-use Rattle.std.proofs.Common.{◌≡◌, ◌<◌, ℕ, List, length, false}
-use mathlib.Core.Path.{ap, ◌∙◌}
-use lib.Dec.{ltb}
-use Rattle.season_rules.specs.Season.{figures_of as figures_of'}
-use Rattle.season_rules.specs.Stream.{most_sheets, is_whole, split, Season as Season', season_from, season}
-use Rattle.season_rules.specs.Claims.{Reordered, stream_of, AllFit}
-use Rattle.season_rules.proofs.Theorems.{streams-in-any-order, reads-stream}
+use Rattle.std.proofs.Common.{◌≡◌, ◌<◌, ℕ, List, length, false, ap, ◌∙◌, ltb}
+use Rattle.model_season.specs.Season.{figures_of as figures_of'}
+use Rattle.model_season.specs.Stream.{most_sheets, is_whole, split, Season as Season', season_from, season}
+use Rattle.model_season.specs.Claims.{Reordered, stream_of, AllFit}
+use Rattle.model_season.proofs.Theorems.{streams-in-any-order, reads-stream}
 use Rattle.season_figures.specs.declared.stream.Season.{Season}
 use Rattle.season_figures.specs.Abstract.{figures_of}
 use Rattle.season_figures.specs.Pieces.{season_of}

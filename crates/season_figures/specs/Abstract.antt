@@ -1,9 +1,8 @@
 -- What the code's figures mean. A primed name is the definitions'.
 use Rattle.std.specs.Prelude.{ℕ, suc, ◌<◌, ◌≡◌, Option, None, Some, List, [], ◌∷◌, ◌++◌, length, get_or}
-use Rattle.std.proofs.Math.Option.{Option as Option', none, some}
-use Rattle.season_rules.specs.Season.{Rounds as Rounds', Figures as Figures', one_more, outcome, with_outcome, figures_of as figures_of'}
-use Rattle.season_rules.specs.Capped.{capped}
-use Rattle.season_rules.specs.Stream.{most_sheets}
+use Rattle.model_season.specs.Season.{Rounds as Rounds', Figures as Figures', one_more, outcome, with_outcome, figures_of as figures_of'}
+use Rattle.model_season.specs.Capped.{capped}
+use Rattle.model_season.specs.Stream.{most_sheets}
 use Rattle.season_figures.specs.declared.figures.Rounds.{Rounds}
 use Rattle.season_figures.specs.declared.figures.Figures.{Figures}
 
@@ -15,15 +14,15 @@ unfoldable pub rounds_from : Rounds → Rounds'
 rounds_from r = record { count = r.count; fewest = r.fewest; most = r.most; sum = r.sum }
 
 -- none where no sheet is counted
-unfoldable pub rounds_of : Option Rounds → Option' Rounds'
-rounds_of None = none
-rounds_of (Some r) = some (rounds_from r)
+unfoldable pub rounds_of : Option Rounds → Option Rounds'
+rounds_of None = None
+rounds_of (Some r) = Some (rounds_from r)
 
 unfoldable pub figures_of : Figures → Figures'
 figures_of f = record { sheets = f.sheets; refused = kinds f.refused; words = kinds f.words; rounds = rounds_of f.rounds }
 
 -- with one more that ended in the word of place k, and these rounds
-unfoldable pub with_word : Figures' → ℕ → Option' Rounds' → Figures'
+unfoldable pub with_word : Figures' → ℕ → Option Rounds' → Figures'
 with_word f k r = record { sheets = suc f.sheets; refused = f.refused; words = one_more f.words k; rounds = r }
 
 -- the figures of any list of fewer than 1,000,000 sheets become those of the list with that sheet more

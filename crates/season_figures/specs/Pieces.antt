@@ -1,6 +1,6 @@
 -- A stream read piece by piece: what one piece does to the figures.
 use Rattle.std.specs.Prelude.{ℕ, ◌+◌, ◌≡◌, Bool, true, false, ◌&&◌, Option, None, Some, List, ltb, leb, length, take, drop}
-use Rattle.season_rules.specs.Stream.{Stream, most_sheets, length_bytes, length_in, is_whole, Season as Season'}
+use Rattle.model_season.specs.Stream.{Stream, most_sheets, length_bytes, length_in, is_whole, Season as Season'}
 use Rattle.season_figures.specs.declared.stream.Reading.{Reading}
 use Rattle.season_figures.specs.declared.stream.Reading.TheVariants.{Going, Ended, Cut}
 use Rattle.season_figures.specs.declared.stream.Season.{Season}

@@ -1,13 +1,13 @@
 -- What the figures tell of the sheets: what is counted under `none` and `plan` is so, and what a sheet adds to the sum is within the bound.
 use Rattle.std.specs.Prelude.{ℕ, ◌+◌, ◌≤◌, ◌<◌, ◌≡◌, List, ◌++◌, length}
-use Rattle.base.specs.Lists.{All}
-use Rattle.problem.specs.Problem.{Problem, Obeys}
-use Rattle.problem.specs.Sheet.{Valid, decode}
-use Rattle.protocol.specs.Network.{start_sheet}
-use Rattle.protocol.specs.Run.{Ending, run}
-use Rattle.theorems.specs.Claims.{most_rounds, slots_of, Tells}
-use Rattle.season_rules.specs.Season.{season_rule, season_rounds, Ended, outcome}
-use Rattle.season_rules.specs.Claims.{sum_in, Reordered}
+use Rattle.model_base.specs.Lists.{All}
+use Rattle.model_sheet.specs.Problem.{Problem, Obeys}
+use Rattle.model_sheet.specs.Sheet.{Valid, decode}
+use Rattle.model_network.specs.Network.{start_sheet}
+use Rattle.model_network.specs.Run.{Ending, run}
+use Rattle.theorems_network.specs.Claims.{most_rounds, slots_of, Tells}
+use Rattle.model_season.specs.Season.{season_rule, season_rounds, Ended, outcome}
+use Rattle.model_season.specs.Claims.{sum_in, Reordered}
 use Rattle.season_figures.specs.declared.figures.Figures.{Figures}
 use Rattle.season_figures.specs.Abstract.{kinds, rounds_of}
 

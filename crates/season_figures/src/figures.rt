@@ -1,38 +1,47 @@
-// The figures, and one sheet more.
+//! The figures of the sheets so far, and how one more sheet is counted.
 ghost use Rattle.std.specs.Prelude.{◌≡◌, ◌≤◌};
-ghost use Rattle.refusals.specs.Refusals.{refusal_number};
-ghost use Rattle.engine.specs.Answers.{ending_of};
-ghost use Rattle.season_rules.specs.Season.{Refused, Ended, no_figures, place, one_more, with_rounds, outcome, with_outcome};
-ghost use Rattle.season_rules.specs.Claims.{Known};
-ghost use Rattle.season_rules.specs.Capped.{capped_rounds, capped_kinds, capped};
+ghost use Rattle.support_rejection.specs.Rejections.{rejection_number};
+ghost use Rattle.abt_engine.specs.Answers.{ending_of};
+ghost use Rattle.model_season.specs.Season.{Refused, Ended, no_figures, place, one_more, with_rounds, outcome, with_outcome};
+ghost use Rattle.model_season.specs.Claims.{Known};
+ghost use Rattle.model_season.specs.Capped.{capped_rounds, capped_kinds, capped};
 ghost use Rattle.season_figures.specs.Abstract.{kinds, rounds_of, figures_of, with_word, AddsSheet, CountsSheet};
 ghost use Rattle.season_figures.specs.Promised.{OutcomeTells, CountTells};
 
-use dock_text::settle;
-use engine::Ending;
-use refusals::Refusal;
+use abt_dock_text::settle;
+use abt_engine::Ending;
+use support_rejection::Rejection;
 
-// The rounds of the sheets that are counted: how many sheets, the fewest and the most of one, and their sum.
+/// The full rounds of the sheets that ended in `none` or `plan`, one at least.
 #[derive(Clone, Copy)]
 pub struct Rounds {
+    /// How many such sheets there are; at most `2^64 - 1`.
     pub count: u64,
+    /// The fewest rounds of one sheet.
     pub fewest: u64,
+    /// The most rounds of one sheet.
     pub most: u64,
+    /// The sum of their rounds; at most `2^64 - 1`.
     pub sum: u64,
 }
 
-// The sheets; those refused, by number; those that ended, by word: `none`, `plan`, `jammed`, `open`; the rounds of `none` and `plan`, if there are any.
+/// The figures of some sheets. A count stays at `2^64 - 1` once it is there.
 #[derive(Clone, Copy)]
 pub struct Figures {
+    /// How many sheets there are.
     pub sheets: u64,
+    /// How many were rejected, by number, 1 to 4.
     pub refused: [u64; 4],
+    /// How many ended, by word: `none`, `plan`, `jammed`, `open`.
     pub words: [u64; 4],
+    /// The rounds of `none` and `plan` together; `None` where no sheet ended so.
     pub rounds: Option<Rounds>,
 }
 
 // ---- counting
 
-// One more of kind k, 1 to 4: the number of a refusal or the place of a word, as the definitions number both. No count goes beyond the largest number of 64 bits.
+// One more of kind k, 1 to 4: the number of a rejection or the place of a word. A count stays at
+// `2^64 - 1`.
 fn counted(mut four: [u64; 4], k: usize) -> [u64; 4]
     requires { (1 ≤ k) × (k ≤ 4) }
     ensures { kinds result ≡ capped_kinds (one_more (kinds four) k) }
@@ -41,7 +50,7 @@ fn counted(mut four: [u64; 4], k: usize) -> [u64; 4]
     four
 }
 
-// The rounds of one sheet more.
+// With the rounds of one sheet more.
 fn with_rounds(rounds: Option<Rounds>, n: u64) -> Option<Rounds>
     ensures { rounds_of result ≡ capped_rounds (with_rounds n (rounds_of rounds)) }
 {
@@ -64,14 +73,13 @@ fn with_rounds(rounds: Option<Rounds>, n: u64) -> Option<Rounds>
 
 // ---- one sheet
 
-// The place of a word among the four, from 1 on; a network out of shape has none. `words::word_for` gives the words: the two share the five cases and no
-// answer.
-#[tactic(auto, unfolding(engine::specs::Answers::ending_of, season_rules::specs::Season::place))]
+// The place of a word among the four, from 1 on; 0 for a network out of shape, which has none.
+#[tactic(auto, unfolding(abt_engine::specs::Answers::ending_of, model_season::specs::Season::place))]
 fn place(e: Ending) -> usize
     ensures { (result ≡ place (ending_of e)) × (result ≤ 4) }
 {
     match e {
-        Ending::None => 1,
+        Ending::Unsolvable => 1,
         Ending::Plan => 2,
         Ending::Jammed => 3,
         Ending::Open => 4,
@@ -80,8 +88,8 @@ fn place(e: Ending) -> usize
 }
 
 impl Figures {
-    // Those of no sheets.
-    #[tactic(auto, using(crate::proofs::Counting::no_kinds), unfolding(crate::specs::Abstract::figures_of, crate::specs::Abstract::rounds_of, season_rules::specs::Season::no_figures))]
+    /// Returns the figures of no sheets. Equals `no_figures` of model_season/specs/Season.antt.
+    #[tactic(auto, using(crate::proofs::Counting::no_kinds), unfolding(crate::specs::Abstract::figures_of, crate::specs::Abstract::rounds_of, model_season::specs::Season::no_figures))]
     pub fn none() -> Figures
         ensures { figures_of result ≡ no_figures }
     {
@@ -93,19 +101,19 @@ impl Figures {
         }
     }
 
-    // One more that is refused, with one of the first four numbers.
-    fn with_refused(self, refusal: Refusal) -> Figures
-        requires { refusal_number refusal ≤ 4 }
-        ensures { figures_of result ≡ capped (with_outcome (Refused (refusal_number refusal)) (figures_of self)) }
+    // One more that is rejected, with one of the first four numbers.
+    fn with_refused(self, rejection: Rejection) -> Figures
+        requires { rejection_number rejection ≤ 4 }
+        ensures { figures_of result ≡ capped (with_outcome (Refused (rejection_number rejection)) (figures_of self)) }
     {
         Figures {
             sheets: self.sheets.saturating_add(1),
-            refused: counted(self.refused, refusal.number() as usize),
+            refused: counted(self.refused, rejection.number() as usize),
             ..self
         }
     }
 
-    // One more that ended so, which leaves these rounds.
+    // One more that ended in this word, and these rounds.
     fn with_word(self, e: Ending, rounds: Option<Rounds>) -> Figures
         requires { 1 ≤ place (ending_of e) }
         ensures { figures_of result ≡ capped (with_word (figures_of self) (place (ending_of e)) (rounds_of rounds)) }
@@ -118,19 +126,22 @@ impl Figures {
         }
     }
 
-    // One more that ended. No start of a sheet is out of shape.
+    // One more that ended, with so many full rounds. No start of a sheet is out of shape.
     fn with_ended(self, e: Ending, n: u64) -> Figures
         requires { 1 ≤ place (ending_of e) }
         ensures { figures_of result ≡ capped (with_outcome (Ended (ending_of e) n) (figures_of self)) }
     {
         match e {
-            Ending::None | Ending::Plan => self.with_word(e, with_rounds(self.rounds, n)),
+            Ending::Unsolvable | Ending::Plan => self.with_word(e, with_rounds(self.rounds, n)),
             Ending::Jammed | Ending::Open => self.with_word(e, self.rounds),
             Ending::Broken => self,
         }
     }
 
-    // The sheet is started by rule 1 and run with 100,000 rounds, and what it comes to is counted.
+    /// Returns the figures with one sheet more: it is started by rule 1 and run with 100,000
+    /// rounds, and what it comes to is counted. A sheet that counts under `none` has no choice of
+    /// values that obeys every ban; one that counts under `plan` was left with values that do.
+    /// Equals `with_outcome` of model_season/specs/Season.antt, each count capped at `2^64 - 1`.
     pub fn with_sheet(self, sheet: &[u8]) -> Figures
         ensures capped { CountsSheet self sheet.now result }
         ensures adds { AddsSheet self sheet.now result }
@@ -140,7 +151,7 @@ impl Figures {
     {
         match settle(sheet, 100000) {
             Ok(ran) => self.with_ended(ran.ending, ran.rounds),
-            Err(refusal) => self.with_refused(refusal),
+            Err(rejection) => self.with_refused(rejection),
         }
     }
 }

@@ -1,34 +1,41 @@
-// A stream of sheets, each behind its length in two bytes: piece by piece, as it is read, and as a whole.
+//! A stream of sheets, each behind its length in two bytes: read piece by piece, or as a whole.
+//! docs/FORMATS.md, 'A stream of sheets'.
 ghost use Rattle.std.specs.Prelude.{◌≡◌, ◌<◌, ℕ, false, List, ltb, length};
-ghost use Rattle.season_rules.specs.Season.{no_figures, figures_of as figures_of'};
-ghost use Rattle.season_rules.specs.Claims.{Reordered, stream_of, AllFit};
-ghost use Rattle.season_rules.specs.Stream.{most_sheets, is_whole, split, season_from, season as season_by};
-ghost use Rattle.base.specs.Lists.{All};
+ghost use Rattle.model_season.specs.Season.{no_figures, figures_of as figures_of'};
+ghost use Rattle.model_season.specs.Claims.{Reordered, stream_of, AllFit};
+ghost use Rattle.model_season.specs.Stream.{most_sheets, is_whole, split, season_from, season as season_by};
+ghost use Rattle.model_base.specs.Lists.{All};
 ghost use Rattle.season_figures.specs.Abstract.{figures_of};
 ghost use Rattle.season_figures.specs.Pieces.{said, is_piece, cut_of, is_over, reading_of, season_of, Steps, Advances};
 ghost use Rattle.season_figures.specs.Promised.{OutcomeTells, CountsTell};
 
 use crate::figures::Figures;
 
-// A season has at most so many sheets.
+/// The most sheets that a season has; what stands behind them is not looked at.
 pub const MOST_SHEETS: usize = 1000000;
 
-// How far reading has come: it goes on, or has ended behind a whole sheet, or was cut off within a length or a sheet.
+/// How far reading has come.
 #[derive(Clone, Copy, Debug, PartialEq, Eq)]
 pub enum Reading {
+    /// All pieces so far were whole, and another may follow.
     Going,
+    /// The stream has ended behind a whole sheet, or at its beginning.
     Ended,
+    /// The stream has broken off within a length or a sheet.
     Cut,
 }
 
-// The figures so far.
+/// A season, as far as it is read.
 #[derive(Clone, Copy)]
 pub struct Season {
+    /// The figures of the whole sheets so far.
     pub figures: Figures,
+    /// Whether more may follow, and how the stream ended where not.
     pub reading: Reading,
 }
 
-// The length that two bytes say, if there are two.
+/// Returns the length that the first two bytes say, low byte first; `None` where there are fewer
+/// than two. Equals `said` of specs/Pieces.antt.
 #[tactic(auto, using(crate::proofs::Pieces::said_nothing, crate::proofs::Pieces::said_length, crate::proofs::Pieces::two_bytes_say))]
 pub fn length_in(head: &[u8]) -> Option<u16>
     ensures { result ≡ said head.now }
@@ -39,7 +46,7 @@ pub fn length_in(head: &[u8]) -> Option<u16>
     }
 }
 
-// A length, and as many bytes as it says.
+// Whether `head` is a length, and `sheet` has as many bytes as it says.
 fn is_piece(head: &[u8], sheet: &[u8]) -> bool
     ensures { result ≡ is_piece head.now sheet.now }
 {
@@ -47,7 +54,7 @@ fn is_piece(head: &[u8], sheet: &[u8]) -> bool
 }
 
 impl Season {
-    // Nothing is read yet.
+    /// Returns the season of which nothing is read yet.
     pub fn begin() -> Season
         ensures { (figures_of result.figures ≡ no_figures) × (result.reading ≡ Reading.Going) }
     {
@@ -57,19 +64,24 @@ impl Season {
         }
     }
 
+    /// Whether the stream has ended or broken off.
     pub fn is_over(self) -> bool
         ensures { result ≡ is_over self.reading }
     {
         self.reading != Reading::Going
     }
 
+    /// Whether the stream has broken off within a length or a sheet.
     pub fn is_cut(self) -> bool
         ensures { result ≡ cut_of self.reading }
     {
         self.reading == Reading::Cut
     }
 
-    // With the next piece: what was read for its length, and of the sheet behind it.
+    /// Returns the season with the next piece: `head` is what was read for its length, at most two
+    /// bytes, and `sheet` what was read of the sheet behind it, at most as many bytes as the length
+    /// says. A whole sheet is counted. Otherwise the figures stay and reading is over: `Ended`
+    /// where `head` is empty, else `Cut`. `Steps` of specs/Pieces.antt says so.
     pub fn with_piece(self, head: &[u8], sheet: &[u8]) -> Season
         ensures { Steps self head.now sheet.now result }
     {
@@ -100,7 +112,9 @@ impl Season {
     }
 }
 
-// The stream as a whole.
+/// Reads a stream as a whole: at most `MOST_SHEETS` sheets, and nothing behind them; `reading` is
+/// left `Going` where there are as many. The same whole sheets in another order give the same
+/// figures. Equals `season` of model_season/specs/Stream.antt.
 #[tactic(auto, using(crate::proofs::Reading::here_begins, crate::proofs::Reading::here_next))]
 pub fn read_stream(stream: &[u8]) -> Season
     ensures season { season_of result ≡ season_by stream.now }

@@ -1,19 +1,16 @@
 -- The worked seasons print what they must.
 -- Their streams are read as the sheets they are made of, and what each of these comes to is a worked outcome.
-use mathlib.Core.Path.{◌≡◌, refl, ap, ◌∙◌}
-use mathlib.Core.Bool.{true, false}
-use mathlib.Core.List.{[], ◌∷◌}
-use native.Mathlib.Omega.{arith}
-use Rattle.problem.specs.Problem.{no_bans}
-use Rattle.problem.specs.Sheet.{byte_at, word_from}
-use Rattle.problem.specs.Writing.{two_bytes, header_bytes, row_bytes, index_after, chained, written}
-use Rattle.protocol.specs.Run.{None, Plan, one_if}
-use Rattle.protocol.specs.Nights.{padded, sheet_of, sheet, sheet1, sheet2, sheet3}
-use Rattle.text.specs.Text.{last_decimals, decimal, newline, line_of}
-use Rattle.season_rules.specs.Season.{Refused, Ended, no_figures, place, has_rounds, one_more, with_rounds, counting, with_outcome, figures_of}
-use Rattle.season_rules.specs.Stream.{most_sheets, length_bytes, length_in, is_whole, ended, split, Season, season_from, season}
-use Rattle.season_rules.proofs.Theorems.{reads-stream}
-use Rattle.season_rules.proofs.Cases.{nights-end}
+use Rattle.std.proofs.Common.{◌≡◌, refl, ap, ◌∙◌, true, false, [], ◌∷◌, arith}
+use Rattle.model_sheet.specs.Problem.{no_bans}
+use Rattle.model_sheet.specs.Sheet.{byte_at, word_from}
+use Rattle.model_sheet.specs.Writing.{two_bytes, header_bytes, row_bytes, index_after, chained, written}
+use Rattle.model_network.specs.Run.{Unsolvable, Plan, one_if}
+use Rattle.model_network.specs.Nights.{padded, sheet_of, sheet, sheet1, sheet2, sheet3}
+use Rattle.model_base.specs.Decimal.{last_decimals, decimal, newline, line_of}
+use Rattle.model_season.specs.Season.{Refused, Ended, no_figures, place, has_rounds, one_more, with_rounds, counting, with_outcome, figures_of}
+use Rattle.model_season.specs.Stream.{most_sheets, length_bytes, length_in, is_whole, ended, split, Season, season_from, season}
+use Rattle.model_season.proofs.Theorems.{reads-stream}
+use Rattle.model_season.proofs.Cases.{nights-end}
 use Rattle.season_text.specs.Text.{sheets, refused, words, cut, fewest, most, sum, mean, blank, over, dash, figure, four_line, dash_line, mean_line, rounds_lines, season_text}
 use Rattle.season_text.specs.Cases.{three_nights, three_nights_text, empty_text, broken, broken_text, AllPrint}
 
@@ -29,7 +26,7 @@ broken-read = reads-stream (sheet1 ∷ [] ∷ []) (omega arith, (omega arith, tt
 -- ---- the figures
 
 abbrev three_season : Season
-three_season = record { figures = with_outcome (Ended Plan 0) (with_outcome (Ended None 2) (with_outcome (Ended Plan 1) no_figures)); cut = false }
+three_season = record { figures = with_outcome (Ended Plan 0) (with_outcome (Ended Unsolvable 2) (with_outcome (Ended Plan 1) no_figures)); cut = false }
 
 three-season : season three_nights ≡ three_season
 unfolding season season_from figures_of

@@ -1,13 +1,9 @@
 -- The lines one behind the other are the season's text.
-use mathlib.Core.Path.{◌≡◌, refl, ◌∙◌}
-use mathlib.Core.Bool.{Bool, true, false}
-use mathlib.Core.List.{List}
-use Prim.Native.Nat.{ℕ}
-use native.Mathlib.Omega.{arith}
+use Rattle.std.proofs.Common.{◌≡◌, refl, ◌∙◌, Bool, true, false, List, ℕ, arith}
 use Rattle.std.specs.Int.{from_bool}
-use Rattle.protocol.specs.Run.{one_if}
-use Rattle.text.specs.Text.{Appends}
-use Rattle.season_rules.specs.Stream.{Season}
+use Rattle.model_network.specs.Run.{one_if}
+use Rattle.model_base.specs.Decimal.{Appends}
+use Rattle.model_season.specs.Stream.{Season}
 use Rattle.season_text.specs.Text.{season_text, Prints}
 
 pub one-if : (b : Bool) → from_bool b ≡ one_if b

@@ -1,8 +1,8 @@
 -- Worked seasons, from bytes to bytes.
 use Rattle.std.specs.Prelude.{ℕ, ◌≡◌, List, [], ◌∷◌}
-use Rattle.protocol.specs.Nights.{sheet1, sheet2, sheet3}
-use Rattle.season_rules.specs.Stream.{season}
-use Rattle.season_rules.specs.Claims.{stream_of}
+use Rattle.model_network.specs.Nights.{sheet1, sheet2, sheet3}
+use Rattle.model_season.specs.Stream.{season}
+use Rattle.model_season.specs.Claims.{stream_of}
 use Rattle.season_text.specs.Text.{season_text}
 
 -- the nights P1, P2, P3 in a row

@@ -1,10 +1,9 @@
--- What `season` prints, as bytes in ASCII: eight lines. docs/RULES.md, 'A season's figures'.
-use Rattle.std.specs.Prelude.{ℕ, ◌≡◌, List, [], ◌∷◌, ◌++◌, length, take}
-use Rattle.std.proofs.Math.Option.{Option, none, some}
-use Rattle.protocol.specs.Run.{one_if}
-use Rattle.text.specs.Text.{decimal, newline, line_of}
-use Rattle.season_rules.specs.Season.{Rounds}
-use Rattle.season_rules.specs.Stream.{Season}
+-- What `season` prints, as bytes in ASCII: eight lines. docs/PROGRAMS.md, 'A season's figures'.
+use Rattle.std.specs.Prelude.{ℕ, ◌≡◌, List, [], ◌∷◌, ◌++◌, length, take, None, Option, Some}
+use Rattle.model_network.specs.Run.{one_if}
+use Rattle.model_base.specs.Decimal.{decimal, newline, line_of}
+use Rattle.model_season.specs.Season.{Rounds}
+use Rattle.model_season.specs.Stream.{Season}
 
 -- ---- the words
 
@@ -71,8 +70,8 @@ unfoldable pub mean_line : Rounds → List ℕ
 mean_line r = figure mean r.sum ++ line_of over r.count
 
 unfoldable pub rounds_lines : Option Rounds → List ℕ
-rounds_lines none = dash_line fewest ++ (dash_line most ++ (dash_line sum ++ dash_line mean))
-rounds_lines (some r) = line_of fewest r.fewest ++ (line_of most r.most ++ (line_of sum r.sum ++ mean_line r))
+rounds_lines None = dash_line fewest ++ (dash_line most ++ (dash_line sum ++ dash_line mean))
+rounds_lines (Some r) = line_of fewest r.fewest ++ (line_of most r.most ++ (line_of sum r.sum ++ mean_line r))
 
 unfoldable pub season_text : Season → List ℕ
 season_text s =

@@ -1,24 +1,18 @@
 -- A sheet is written part by part: header, records one behind the other, the whole.
 -- Each part is put where the one before it ends; the index in a record leads on, or is 0 in the last.
-use Prim.Native.Nat.{ℕ, suc, ◌+◌, ◌*◌, ◌/◌, ◌%◌, ◌≤◌, ◌<◌}
-use mathlib.Core.Path.{◌≡◌, refl, sym, ap, ◌∙◌}
-use mathlib.Core.Bool.{Bool, true, false, cond}
-use mathlib.Core.List.{List, [], ◌∷◌, ◌++◌}
-use native.Mathlib.Omega.{arith}
-use lib.ListN.{length, get_or, take, drop, length-append, length-drop}
-use lib.Seq.{drop-cons, drop-length}
-use lib.Dec.{ltb}
+use Rattle.std.proofs.Common.{ℕ, suc, ◌+◌, ◌*◌, ◌/◌, ◌%◌, ◌≤◌, ◌<◌, ◌≡◌, refl, sym, ap, ◌∙◌, Bool, true, false, cond, List, [], ◌∷◌, ◌++◌, arith, length, get_or, take, drop, length-append, length-drop, drop-cons, ltb, lt-ltb, le-ltb, le-leb}
+use lib.Seq.{drop-length}
 use mir.Val.{bool_byte}
-use borrow.Author.Tests.{lt-ltb, le-ltb, le-leb, lt-leb}
-use Rattle.base.proofs.Tests.{test}
-use Rattle.base.specs.Lent.{short_buffer, untouched, put}
-use Rattle.problem.specs.Problem.{Problem, max_agents}
-use Rattle.problem.specs.Row.{Row}
-use Rattle.problem.specs.Sheet.{header_length, record_length}
-use Rattle.problem.specs.Writing.{two_bytes, header_bytes, row_bytes, index_after, chained, written}
-use Rattle.problem.proofs.Writing.{chained-length, writes-length}
-use Rattle.lent.specs.Abstract.{over}
-use Rattle.lent.proofs.Over.{over_nothing, over-over}
+use borrow.Author.Tests.{lt-leb}
+use Rattle.model_base.proofs.Tests.{test}
+use Rattle.model_base.specs.Lent.{short_buffer, untouched, put}
+use Rattle.model_sheet.specs.Problem.{Problem, max_agents}
+use Rattle.model_sheet.specs.Row.{Row}
+use Rattle.model_sheet.specs.Sheet.{header_length, record_length}
+use Rattle.model_sheet.specs.Writing.{two_bytes, header_bytes, row_bytes, index_after, chained, written}
+use Rattle.model_sheet.proofs.Writing.{chained-length, writes-length}
+use Rattle.support_buffer.specs.Abstract.{over}
+use Rattle.support_buffer.proofs.Over.{over_nothing, over-over}
 use Rattle.sheet_writer.specs.Rows.{next_index}
 
 -- ---- the header

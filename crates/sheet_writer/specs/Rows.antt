@@ -1,6 +1,6 @@
 -- The rows of a sheet as the code holds them, and how the records that are written of them are chained. A primed name is the definitions'.
 use Rattle.std.specs.Prelude.{ℕ, suc, ◌+◌, cond, ltb}
-pub use Rattle.sheet_parts.specs.Rows.{row_of, rows_of}
+pub use Rattle.sheet_records.specs.Rows.{row_of, rows_of}
 
 -- the index that record r + 1 of so many leads to
 unfoldable pub next_index : ℕ → ℕ → ℕ

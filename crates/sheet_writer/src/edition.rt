@@ -2,15 +2,18 @@
 ghost use Rattle.std.specs.Prelude.{◌≡◌};
 ghost use Rattle.sheet_writer.specs.Editions.{number_of};
 
-// A record says one banned pair of slots, or a run of banned gaps.
+/// The edition of a sheet: what its records say.
 #[derive(Clone, Copy, Debug, PartialEq, Eq)]
 pub enum Edition {
+    /// Edition 1: a record bans one pair of values.
     Bans,
+    /// Edition 2: a record bans a run of gaps.
     Gaps,
 }
 
 impl Edition {
-    // As the header has it.
+    /// Returns the edition's number in the header, 1 or 2. Equals `number_of` of
+    /// specs/Editions.antt.
     pub fn number(self) -> u8
         ensures { result ≡ number_of self }
     {

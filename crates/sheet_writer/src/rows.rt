@@ -2,20 +2,21 @@
 ghost use Rattle.std.specs.Prelude.{◌≡◌, ◌≤◌, ◌<◌, ◌↔◌, [], ◌∷◌, ◌++◌, length, IsTrue};
 ghost use Rattle.sheet_writer.specs.Rows.{row_of, rows_of};
 
-use sheet_parts::Row;
+use sheet_records::Row;
 use std::marker::Model;
 
-// Records one behind the other, with room for N: in an array, since the core has no heap. No sheet has more than 4,224.
+/// Records one behind the other, at most `N`; `N` is at most 4,224, the most that a sheet has. A
+/// clause sees them as a list.
 #[derive(Drop)]
 pub struct Rows<const N: usize> {
     rows: [Row; N],
     count: usize,
 }
 
-// Clauses see the records.
+// Clauses see the records that are listed, in their order.
 impl<const N: usize> Model for Rows<N> {
     ghost use Rattle.std.specs.Prelude.{◌≤◌, List, take};
-    ghost use Rattle.problem.specs.Row.{Row as Record};
+    ghost use Rattle.model_sheet.specs.Row.{Row as Record};
 
     ghost Value = { List Record };
 
@@ -27,6 +28,7 @@ impl<const N: usize> Model for Rows<N> {
 }
 
 impl<const N: usize> Rows<N> {
+    /// Returns an empty list. `N` is at most 4,224.
     pub fn new() -> Rows<N>
         requires { N ≤ 4224 }
         ensures { result ≡ [] }
@@ -43,6 +45,7 @@ impl<const N: usize> Rows<N> {
         }
     }
 
+    /// Returns whether the list has `N` records.
     pub fn is_full(&self) -> bool
         ensures full { IsTrue result ↔ (length self.now ≡ N) }
         ensures room { length self.now ≤ N }
@@ -50,7 +53,7 @@ impl<const N: usize> Rows<N> {
         self.as_slice().len() == N
     }
 
-    // `lent::cursor::Cursor::put` does so with a byte: an array of its own and a lent slice are no one type, and each clause says what its reader sees.
+    /// Appends a record. The list must not be full.
     pub fn push(&mut self, row: Row)
         requires { length self.old < N }
         ensures { self.new ≡ self.old ++ row_of row ∷ [] }
@@ -59,6 +62,7 @@ impl<const N: usize> Rows<N> {
         self.count += 1;
     }
 
+    /// Returns the records in their order.
     pub fn as_slice(&self) -> &[Row]
         ensures records { rows_of result.now ≡ self.now }
         ensures room { length result.now ≤ N }

@@ -1,12 +1,15 @@
 // The parts of a sheet: the header, a record, the records.
 ghost use Rattle.std.specs.Prelude.{◌≡◌, cond, ◌++◌, suc, ◌+◌, ◌*◌, ◌≤◌, ◌<◌, length, take, drop, ltb};
-ghost use Rattle.problem.specs.Writing.{header_bytes, row_bytes, chained};
+ghost use Rattle.model_sheet.specs.Writing.{header_bytes, row_bytes, chained};
 ghost use Rattle.sheet_writer.specs.Rows.{row_of, rows_of, next_index};
 
-use lent::put;
-use sheet::Problem;
-use sheet_parts::Row;
+use sheet_reader::Problem;
+use sheet_records::Row;
+use support_buffer::put;
 
+/// Writes the header, the buffer's first 24 bytes, which it must have; the others stay. At most
+/// 4,224 records; the chain begins with record 1 if there is one. Equals `header_bytes` of
+/// model_sheet/specs/Writing.antt.
 pub fn put_header(out: &mut [u8], edition: u8, p: Problem, records: usize)
     requires { (records ≤ 4224) × (24 ≤ length out.old) }
     ensures { out.new
@@ -19,7 +22,7 @@ pub fn put_header(out: &mut [u8], edition: u8, p: Problem, records: usize)
     put(out, 20, &[0; 4]);
 }
 
-// The row as record r + 1 of so many; the last ends the chain.
+// Writes the row as record r + 1 of so many; the last ends the chain.
 fn put_record(out: &mut [u8], r: usize, records: usize, row: Row)
     requires { (r < records) × (records ≤ 4224) × (24 + 8 * records ≤ length out.old) }
     ensures { out.new
@@ -40,7 +43,8 @@ fn put_record(out: &mut [u8], r: usize, records: usize, row: Row)
     );
 }
 
-// The rows, behind the header.
+/// Writes the rows behind the header, chained in their order. At most 4,224 rows, and the buffer
+/// must have room. Equals `chained` of model_sheet/specs/Writing.antt.
 pub fn put_records(out: &mut [u8], rows: &[Row])
     requires { (length rows.now ≤ 4224) × (24 + 8 * length rows.now ≤ length out.old) }
     ensures { out.new

@@ -1,7 +1,7 @@
 -- What is put on either output, and how a program then ends, is the answer that it gives.
 -- What is said where standard output has failed stands behind all else that is said.
 use Rattle.std.proofs.Common.{ℕ, ◌≡◌, List, ◌++◌}
-use Rattle.text.specs.Text.{newline}
+use Rattle.model_base.specs.Decimal.{newline}
 use Rattle.support_cli.specs.Streams.{OutputState, Puts}
 use Rattle.support_cli.specs.Answers.{failure_line, status_by, prints, tells, says, Answered}
 use Rattle.support_cli.proofs.Putting.{puts_then, puts_nothing}

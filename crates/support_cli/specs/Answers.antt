@@ -1,7 +1,7 @@
 -- What a program answers, and that it did so.
 use Rattle.std.specs.Prelude.{ℕ, ◌≡◌, Bool, true, false, List, [], ◌++◌, eqb, take, codes}
-use Rattle.base.specs.Lent.{Written}
-use Rattle.text.specs.Text.{newline, line_of}
+use Rattle.model_base.specs.Lent.{Written}
+use Rattle.model_base.specs.Decimal.{newline, line_of}
 use Rattle.support_cli.specs.Streams.{OutputState, Puts}
 use Rattle.support_cli.specs.declared.status.Status.{Status}
 use Rattle.support_cli.specs.declared.status.Status.TheVariants.{Done, Refused, NotUnderstood, NotWritten}

@@ -24,3 +24,9 @@ pub record IsFilled (n : ℕ) (buffer : List ℕ) : Type 0 where
 pub record ReadsFile (held : Held) (read : Option ℕ) (buffer : List ℕ) : Type 0 where
   pub filled : IsFilled (unwrap_or read 0) buffer
   pub gives : Gives held read buffer
+
+-- the bytes that are read of a name, none where it cannot be read: those that it holds, where that is known
+abbrev pub IsRead : Held → Option (List ℕ) → Type 0
+IsRead Unknown file = Unit {0}
+IsRead Unreadable file = file ≡ None
+IsRead (Bytes bytes) file = file ≡ Some bytes

@@ -1,19 +1,19 @@
 // How a program says what it answers, and ends.
 ghost use Rattle.std.specs.Prelude.{◌≡◌, ◌++◌, take};
 ghost use Rattle.io.specs.Counts.{IsPrefixLen};
-ghost use Rattle.refusals.specs.Refusals.{refusal_number};
-ghost use Rattle.lent.specs.Abstract.{written_of};
-ghost use Rattle.text.specs.Text.{newline, line_of};
+ghost use Rattle.support_rejection.specs.Rejections.{rejection_number};
+ghost use Rattle.support_buffer.specs.Abstract.{written_of};
+ghost use Rattle.model_base.specs.Decimal.{newline, line_of};
 ghost use Rattle.support_cli.specs.Streams.{output_of, Puts};
 ghost use Rattle.support_cli.specs.Answers.{status_code, status_by, failure_line, refused_word, prints, tells, says, says_refused, hands_over, Answered};
 
 use crate::{Output, Status};
-use lent::cursor::Cursor;
-use refusals::Refusal;
 use std::io::Write;
-use text::append_line;
+use support_buffer::append_line;
+use support_buffer::cursor::Cursor;
+use support_rejection::Rejection;
 
-/// One line: what is said, and the word that it is said of.
+/// Writes one line: `what`, `word` and a newline.
 pub fn say<W: Write>(errors: &mut Output<W>, what: &[u8], word: &[u8])
     ensures { Puts (what.now ++ (word.now ++ newline)) (output_of W.contents errors.old) (output_of W.contents errors.new) }
 {
@@ -22,7 +22,8 @@ pub fn say<W: Write>(errors: &mut Output<W>, what: &[u8], word: &[u8])
     errors.put(b"\n");
 }
 
-/// How a program ends that has said all that it has to say. Where standard output has failed, that is said, and the status is that.
+/// Returns the status of a program that has written all its answer. Where standard output has
+/// failed, it writes `cannot write` on standard error and returns [`Status::NotWritten`].
 pub fn end<W: Write, E: Write>(output: &Output<W>, errors: &mut Output<E>, status: Status) -> Status
     ensures said { Puts (failure_line (output_of W.contents output.now).failed) (output_of E.contents errors.old) (output_of E.contents errors.new) }
     ensures status { status_code result ≡ status_by (output_of W.contents output.now).failed (status_code status) }
@@ -35,7 +36,8 @@ pub fn end<W: Write, E: Write>(output: &Output<W>, errors: &mut Output<E>, statu
     }
 }
 
-/// Ends a program that answers on standard output alone.
+/// Ends a program that answers on standard output alone: writes `text` there and ends as by
+/// [`end`]. The answer is `prints` of specs/Answers.antt.
 pub fn print<W: Write, E: Write>(
     output: &mut Output<W>,
     errors: &mut Output<E>,
@@ -48,7 +50,8 @@ pub fn print<W: Write, E: Write>(
     end(output, errors, status)
 }
 
-/// Ends a program that answers on standard error alone.
+/// Ends a program that answers on standard error alone: writes `text` there and ends as by [`end`].
+/// The answer is `tells` of specs/Answers.antt.
 pub fn tell<W: Write, E: Write>(
     output: &Output<W>,
     errors: &mut Output<E>,
@@ -61,7 +64,8 @@ pub fn tell<W: Write, E: Write>(
     end(output, errors, status)
 }
 
-/// .. in one line: what is said, and the word that it is said of.
+/// Ends a program that answers with one line on standard error: writes `what`, `word` and a newline
+/// there and ends as by [`end`]. The answer is `says` of specs/Answers.antt.
 pub fn complain<W: Write, E: Write>(
     output: &Output<W>,
     errors: &mut Output<E>,
@@ -75,44 +79,47 @@ pub fn complain<W: Write, E: Write>(
     end(output, errors, status)
 }
 
-// The line that has a refusal's number, and how many bytes it has.
-fn refusal_line(refusal: Refusal, line: &mut [u8; 29]) -> usize
-    ensures text { take result line.new ≡ line_of refused_word (refusal_number refusal) }
+// Writes the line that has a rejection's number, and returns its length.
+fn refusal_line(rejection: Rejection, line: &mut [u8; 29]) -> usize
+    ensures text { take result line.new ≡ line_of refused_word (rejection_number rejection) }
     ensures prefix_len { IsPrefixLen result line.new }
 {
     let mut next = Cursor {
         buffer: line,
         at: 0,
     };
-    append_line(&mut next, b"refused ", u64::from(refusal.number()));
+    append_line(&mut next, b"refused ", u64::from(rejection.number()));
     next.at
 }
 
-/// .. in one line that has a refusal's number.
+/// Ends a program that answers with one line on standard error: writes `refused ` and the
+/// rejection's number there and ends as by [`end`], with [`Status::Refused`]. The answer is
+/// `says_refused` of specs/Answers.antt.
 pub fn refuse<W: Write, E: Write>(
     output: &Output<W>,
     errors: &mut Output<E>,
-    refusal: Refusal,
+    rejection: Rejection,
 ) -> Status
-    ensures { Answered (says_refused (refusal_number refusal)) (output_of W.contents output.now) (output_of W.contents output.now) (output_of E.contents errors.old) (output_of E.contents errors.new) (status_code result) }
+    ensures { Answered (says_refused (rejection_number rejection)) (output_of W.contents output.now) (output_of W.contents output.now) (output_of E.contents errors.old) (output_of E.contents errors.new) (status_code result) }
 {
     let mut line = [0u8; 29];
-    let count = refusal_line(refusal, &mut line);
+    let count = refusal_line(rejection, &mut line);
     tell(output, errors, &line[..count], Status::Refused)
 }
 
-/// Ends a program that has written bytes into a lent buffer: they are its answer, or its refusal is. No writer says that it has written more bytes than the
-/// buffer has; where one did, all of the buffer is the answer.
+/// Ends a program that has written into a lent buffer. `Ok(n)`: writes the buffer's first `n` bytes
+/// on standard output, all of them where it has fewer, and the status is [`Status::Done`]. `Err`:
+/// ends as by [`refuse`]. The answer is `hands_over` of specs/Answers.antt.
 pub fn hand_over<W: Write, E: Write>(
     output: &mut Output<W>,
     errors: &mut Output<E>,
-    length: Result<usize, Refusal>,
+    length: Result<usize, Rejection>,
     buffer: &[u8],
 ) -> Status
     ensures { Answered (hands_over (written_of length buffer.now)) (output_of W.contents output.old) (output_of W.contents output.new) (output_of E.contents errors.old) (output_of E.contents errors.new) (status_code result) }
 {
     match length {
         Ok(n) => print(output, errors, &buffer[..n.min(buffer.len())], Status::Done),
-        Err(refusal) => refuse(output, errors, refusal),
+        Err(rejection) => refuse(output, errors, rejection),
     }
 }

@@ -5,21 +5,22 @@ ghost use Rattle.support_cli.specs.Streams.{input_of, Fills};
 
 use std::io::{ErrorKind, Read};
 
-/// What a program reads, and whether a read has failed. That is the end of the input then.
+/// What a program reads, and whether a read has failed. A failed read is the end of the input.
 #[derive(Drop)]
 pub struct Input<R> {
     reader: R,
     failed: bool,
 }
 
-// How far a buffer was filled, and whether that was since a read failed.
+// How many bytes a buffer was filled with, and whether a failed read ended that.
 #[derive(Clone, Copy)]
 struct Filled {
     count: usize,
     failed: bool,
 }
 
-// Reads until the buffer is full, the input ends or a read fails. A read that is interrupted is tried again.
+// Reads until the buffer is full, the input ends or a read fails. A read that is interrupted is
+// tried again.
 fn fill<R: Read>(reader: &mut R, buffer: &mut [u8]) -> Filled
     ensures inside { result.count ≤ length buffer.new }
     ensures taken { Consumes (R.remaining reader.old) (R.remaining reader.new) (take result.count buffer.new) }
@@ -58,7 +59,7 @@ fn fill<R: Read>(reader: &mut R, buffer: &mut [u8]) -> Filled
 }
 
 impl<R: Read> Input<R> {
-    /// The input that this reader is, where nothing has failed.
+    /// Makes an input of this reader, where no read has failed.
     pub fn new(reader: R) -> Input<R>
         ensures left { (input_of R.remaining result).known ≡ R.remaining reader }
         ensures good { (input_of R.remaining result).failed ≡ false }
@@ -69,14 +70,16 @@ impl<R: Read> Input<R> {
         }
     }
 
-    /// Whether a read has failed.
+    /// Returns whether a read has failed.
     pub fn has_failed(&self) -> bool
         ensures { result ≡ (input_of R.remaining self.now).failed }
     {
         self.failed
     }
 
-    /// Reads until the buffer is full, the input ends or a read fails, and gives how many bytes it put at the buffer's start. The rest of the buffer is zero.
+    /// Reads until the buffer is full, the input ends or a read fails, and returns how many bytes
+    /// it put at the buffer's start. The rest of the buffer is zero. After a failed read it reads
+    /// nothing.
     pub fn read_full(&mut self, buffer: &mut [u8]) -> usize
         ensures { Fills (length buffer.old) buffer.new result (input_of R.remaining self.old) (input_of R.remaining self.new) }
     {
@@ -90,7 +93,7 @@ impl<R: Read> Input<R> {
         count
     }
 
-    /// The reader again.
+    /// Returns the reader.
     pub fn into_reader(self) -> R
         ensures { R.remaining result ≡ (input_of R.remaining self).known }
     {

@@ -7,8 +7,9 @@ use crate::{Input, Output, Status, words_of};
 use std::process::ExitCode;
 use std::rt::{HostRuntime, Stderr, Stdin, Stdout};
 
-/// Runs a program on the words of the command line, standard input, standard output and standard error, and gives the status that it ends with. Where memory
-/// runs out before, nothing is run, and the status is that of [`Status::NotUnderstood`].
+/// Runs a program on the words of the command line, standard input, standard output and standard
+/// error, and returns the status that it ends with. Where memory runs out before the program
+/// starts, it runs nothing and returns the status of [`Status::NotUnderstood`].
 pub fn launch<F>(rt: &HostRuntime, program: F) -> ExitCode
 where
     F: FnOnce(&[Vec<u8>], &mut Input<Stdin>, &mut Output<Stdout>, &mut Output<Stderr>) -> Status,

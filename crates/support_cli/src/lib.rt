@@ -1,7 +1,10 @@
-//! What every program is made of: its input and its two outputs, the words of its command line, the files that it reads, how it ends, and what it answers.
+//! The parts of every program: its input and its two outputs, the words of its command line, the
+//! files that it reads, its exit status, and how it gives its answer and ends.
 //!
-//! A program is a function over these. Its contract says what it answers (`Answer` in specs/Answers.antt), for every command line and every input; its `main`
-//! hands the system's to it by [`launch`].
+//! A program is a function over these. Its contract says what it answers (`Answer` in
+//! specs/Answers.antt), for every command line and every input; its `main` hands the system's parts
+//! to it by [`launch`]. Start at finish.rt and specs/Answers.antt.
+//! docs/PROGRAMS.md, 'Exit statuses'.
 #![tactic(auto)]
 
 mod finish;

@@ -5,14 +5,15 @@ ghost use Rattle.support_cli.specs.Streams.{output_of, Puts};
 
 use std::io::{ErrorKind, Write};
 
-/// Where a program writes, and whether a write has failed. Nothing more is written there then.
+/// Where a program writes, and whether a write has failed. Nothing is written after a failed write.
 #[derive(Drop)]
 pub struct Output<W> {
     writer: W,
     failed: bool,
 }
 
-// Writes all of the bytes, and says whether all were taken. A write that is interrupted is tried again.
+// Writes all of the bytes, and says whether all were taken. A write that is interrupted is tried
+// again.
 fn put_all<W: Write>(writer: &mut W, bytes: &[u8]) -> bool
     ensures some { (n : ℕ) × Appends (W.contents writer.old) (W.contents writer.new) (take n bytes.now) }
     ensures all { result ≡ true → Appends (W.contents writer.old) (W.contents writer.new) bytes.now }
@@ -36,7 +37,7 @@ fn put_all<W: Write>(writer: &mut W, bytes: &[u8]) -> bool
 }
 
 impl<W: Write> Output<W> {
-    /// The output that this writer is, where nothing has failed.
+    /// Makes an output of this writer, where no write has failed.
     pub fn new(writer: W) -> Output<W>
         ensures holds { (output_of W.contents result).known ≡ W.contents writer }
         ensures good { (output_of W.contents result).failed ≡ false }
@@ -47,15 +48,15 @@ impl<W: Write> Output<W> {
         }
     }
 
-    /// Whether a write has failed.
+    /// Returns whether a write has failed.
     pub fn has_failed(&self) -> bool
         ensures { result ≡ (output_of W.contents self.now).failed }
     {
         self.failed
     }
 
-    /// Writes all of the bytes behind the others. Where a write fails, a beginning of them may stand there, and the output has failed; one that has failed
-    /// stays as it is.
+    /// Writes all of the bytes behind the others. Where a write fails, a beginning of them may
+    /// stand there, and the output has failed; a failed output stays as it is.
     pub fn put(&mut self, bytes: &[u8])
         ensures { Puts bytes.now (output_of W.contents self.old) (output_of W.contents self.new) }
     {
@@ -64,7 +65,7 @@ impl<W: Write> Output<W> {
         }
     }
 
-    /// The writer again.
+    /// Returns the writer.
     pub fn into_writer(self) -> W
         ensures { W.contents result ≡ (output_of W.contents self).known }
     {

@@ -2,12 +2,13 @@
 ghost use Rattle.std.specs.Prelude.{◌≡◌, max};
 ghost use Rattle.support_cli.specs.Answers.{status_code};
 
-/// How a program ends, by the greatest of what was said.
+/// How a program ends: with the greatest status of what it said. The discriminant is the exit
+/// status.
 #[derive(Clone, Copy, Debug, PartialEq, Eq)]
 pub enum Status {
-    /// What was asked for is done.
+    /// The program did what its command line asks for.
     Done = 0,
-    /// A sheet, a rule, an image, an ordinal or a text is refused.
+    /// A sheet, a rule, an image, an ordinal or a text is rejected.
     Refused = 1,
     /// Something was not understood or could not be read, or memory ran out.
     NotUnderstood = 2,
@@ -16,14 +17,14 @@ pub enum Status {
 }
 
 impl Status {
-    /// The number that the system is told, 0 to 3.
+    /// Returns the exit status, 0 to 3. Equals `status_code` of specs/Answers.antt.
     pub fn code(self) -> u8
         ensures { result ≡ status_code self }
     {
         self as u8
     }
 
-    /// The greater of the two.
+    /// Returns the greater of the two.
     pub fn or(self, other: Status) -> Status
         ensures { status_code result ≡ max (status_code self) (status_code other) }
     {

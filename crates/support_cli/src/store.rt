@@ -8,28 +8,29 @@ use std::rt::Files;
 
 /// Where a program's files are.
 pub trait Store {
-    /// What each name holds, where that is known.
+    /// What each name holds, where that is known: `Held` of specs/Files.antt.
     ghost held: { Self → List ℕ → Held } = { λ _ _. Unknown };
 
-    /// Reads a named file's bytes into a lent buffer, as many as it takes, and gives how many they are: where the buffer is full, there may be more. The rest
-    /// of the buffer is zero. `None` where the file cannot be read.
+    /// Reads a named file's bytes into a lent buffer, as many as it takes, and returns how many
+    /// they are; where the buffer is full, the file may have more. The rest of the buffer is zero.
+    /// Returns `None` where the file cannot be read.
     fn read(&self, name: &[u8], buffer: &mut [u8]) -> Option<usize>
         ensures { ReadsFile (held self.now name.now) result buffer.new };
 }
 
-/// The files of the system. A name that is not UTF-8 is that of no file.
+/// The files of the system. A name that is not UTF-8 names no file.
 #[derive(Clone, Copy)]
 pub struct SystemFiles<'a, R> {
     system: &'a R,
 }
 
 impl<'a, R: Files> SystemFiles<'a, R> {
-    /// The files of this system.
+    /// Returns the files of this system.
     pub fn new(system: &'a R) -> SystemFiles<'a, R> {
         SystemFiles { system }
     }
 
-    // How many of a file's bytes stand at the start of the buffer.
+    // Reads a file's bytes to the start of the buffer, and returns how many they are.
     fn read_open(&self, name: &[u8], buffer: &mut [u8]) -> Option<usize>
         ensures { IfSome result (λ n. IsFilled n buffer.new) }
     {

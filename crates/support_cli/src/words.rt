@@ -14,7 +14,8 @@ fn is_given(rt: &impl Env, i: usize) -> bool {
     !matches!(rt.arg(i, &mut first), Err(FillError::NotPresent))
 }
 
-// A copy of word i. One that is not there, or that is longer than the system passes, is given as the empty word: it is understood as little as an empty one.
+// Returns a copy of word i. A word that is absent, or longer than the system passes, is copied as
+// the empty word.
 fn copied(rt: &impl Env, i: usize, alloc: Global) -> Result<Vec<u8>, AllocError>
     ensures { IfOk result (λ word. vec_len word ≤ 131072) }
 {
@@ -23,7 +24,8 @@ fn copied(rt: &impl Env, i: usize, alloc: Global) -> Result<Vec<u8>, AllocError>
     word[..count].to_vec(alloc)
 }
 
-/// The words of the command line without the program's name, as they were given: any bytes, at most 131,072 a word.
+/// Returns the words of the command line without the program's name, as they were given: any bytes,
+/// at most 131,072 a word.
 ///
 /// # Errors
 /// Where memory runs out.
@@ -40,7 +42,7 @@ pub fn words_of(rt: &impl Env, alloc: Global) -> Result<Vec<Vec<u8>>, AllocError
     Ok(words)
 }
 
-/// The first word, and those behind it. `None` where there is none.
+/// Returns the first word and those behind it, or `None` where there is none.
 pub fn first_word(words: &[Vec<u8>]) -> Option<(&[u8], &[Vec<u8>])>
     ensures { MatchOption result (map vec_items words.now ≡ []) (λ p. map vec_items words.now ≡ p.0.now ∷ map vec_items p.1.now) }
 {

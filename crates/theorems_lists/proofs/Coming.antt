@@ -1,25 +1,22 @@
 -- A mixed list is the calls that it comes to. A step leaves what its calls leave, and a write and a read leave a plain network in shape, its count and
 -- its place as they are; so every item finds the network that the calls before it left, plain and in shape, and what it does is what its calls do.
-use mathlib.Core.Path.{◌≡◌, refl, sym, ap}
-use mathlib.Core.Bool.{true}
-use mathlib.Core.List.{List, [], ◌∷◌, ◌++◌, append-nil, append_assoc}
-use Prim.Native.Nat.{ℕ}
-use Rattle.base.specs.Lists.{All}
-use Rattle.base.proofs.Lists.{All-append}
-use Rattle.protocol.specs.Network.{Network}
-use Rattle.protocol.specs.Shape.{in_shape}
-use Rattle.protocol.specs.Run.{Line}
-use Rattle.theorems.specs.Calls.{Call, Deliver, Run, left_by, left_by_all, tried_by_all, made_by_all}
-use Rattle.theorems.specs.Marking.{parts_of_all}
-use Rattle.theorems.specs.Deeds.{handed_to, posts_by, handed_in, posts_in}
-use Rattle.theorems.proofs.Theorems.{deliver-keeps, run-keeps}
-use Rattle.image_format.specs.Plain.{Plain}
-use Rattle.image_forms.specs.Forms.{Form}
-use Rattle.image_laws.specs.Entries.{Stored, left_by_entry, read_by, left_by_entries, read_by_entries, calls_in as calls_in_entries, call_in}
-use Rattle.image_laws.proofs.Theorems.{stays_plain, carries-across-anywhere}
-use Rattle.dispatch_rules.specs.Dispatch.{Dispatcher, with_network}
-use Rattle.dispatch_laws.specs.Steps.{Step, left_by_step, left_by_steps, calls_by, calls_in}
-use Rattle.dispatch_laws.proofs.Theorems.{picks-are-calls}
+use Rattle.std.proofs.Common.{◌≡◌, refl, sym, ap, true, List, [], ◌∷◌, ◌++◌, append-nil, append_assoc, ℕ}
+use Rattle.model_base.specs.Lists.{All}
+use Rattle.model_base.proofs.Lists.{All-append}
+use Rattle.model_network.specs.Network.{Network}
+use Rattle.model_network.specs.Shape.{in_shape}
+use Rattle.model_network.specs.Run.{Line}
+use Rattle.theorems_network.specs.Calls.{Call, Deliver, Run, left_by, left_by_all, tried_by_all, made_by_all}
+use Rattle.theorems_network.specs.Marking.{parts_of_all}
+use Rattle.theorems_network.specs.Deeds.{handed_to, posts_by, handed_in, posts_in}
+use Rattle.theorems_network.proofs.Theorems.{deliver-keeps, run-keeps}
+use Rattle.model_image.specs.Plain.{Plain}
+use Rattle.model_image_forms.specs.Forms.{Form}
+use Rattle.theorems_image.specs.Entries.{Stored, left_by_entry, read_by, left_by_entries, read_by_entries, calls_in as calls_in_entries, call_in}
+use Rattle.theorems_image.proofs.Theorems.{stays_plain, carries-across-anywhere}
+use Rattle.model_dispatch.specs.Dispatch.{Dispatcher, with_network}
+use Rattle.theorems_dispatch.specs.Steps.{Step, left_by_step, left_by_steps, calls_by, calls_in}
+use Rattle.theorems_dispatch.proofs.Theorems.{picks-are-calls}
 use Rattle.theorems_lists.specs.Items.{
   Item,
   Stepped,

@@ -1,15 +1,12 @@
 -- Two lists of calls one after the other leave, try, make, hand over and send what the first does and then the second, on the network that the first
 -- left. Each by induction along the first.
-use mathlib.Core.Path.{◌≡◌, refl, sym}
-use mathlib.Core.List.{List, [], ◌∷◌, ◌++◌, append_assoc}
-use Prim.Native.Nat.{ℕ, ◌+◌}
-use native.Mathlib.Omega.{arith}
-use Rattle.protocol.specs.Network.{Network}
-use Rattle.protocol.specs.Run.{Line}
-use Rattle.theorems.specs.Calls.{Call, tried_by, left_by, left_by_all, tried_by_all, made_by_all, attempt_of, replay}
-use Rattle.theorems.specs.Marking.{parts_of, parts_of_all}
-use Rattle.theorems.specs.Deeds.{handed_now, handed_to, posts_now, posts_by, handed_in, posts_in}
-use Rattle.theorems.proofs.Replay.{calls-replay}
+use Rattle.std.proofs.Common.{◌≡◌, refl, sym, List, [], ◌∷◌, ◌++◌, append_assoc, ℕ, ◌+◌, arith}
+use Rattle.model_network.specs.Network.{Network}
+use Rattle.model_network.specs.Run.{Line}
+use Rattle.theorems_network.specs.Calls.{Call, tried_by, left_by, left_by_all, tried_by_all, made_by_all, attempt_of, replay}
+use Rattle.theorems_network.specs.Marking.{parts_of, parts_of_all}
+use Rattle.theorems_network.specs.Deeds.{handed_now, handed_to, posts_now, posts_by, handed_in, posts_in}
+use Rattle.theorems_network.proofs.Replay.{calls-replay}
 
 pub left-join : (early late : List Call) (w : Network) → left_by_all (early ++ late) w ≡ left_by_all late (left_by_all early w)
 unfolding left_by_all

@@ -1,16 +1,14 @@
 -- The claims about mixed lists. A mixed list does what the calls that it comes to do, and of lists of calls each claim is proved: so the proofs
 -- rewrite along that law.
-use Prim.Native.Nat.{ℕ}
-use mathlib.Core.Path.{sym, ◌∙◌}
-use mathlib.Core.List.{List, []}
-use Rattle.problem.specs.Problem.{Problem}
-use Rattle.protocol.specs.Network.{start}
-use Rattle.protocol.specs.Run.{Line}
-use Rattle.theorems.specs.Calls.{Call, left_by_all}
-use Rattle.theorems.specs.Marking.{own_marking}
-use Rattle.theorems.specs.Figures.{sent_from, received_by}
-use Rattle.theorems.specs.Claims.{slots_of, EveryProblem, EverySheet}
-use Rattle.theorems.proofs.Theorems.{
+use Rattle.std.proofs.Common.{ℕ, sym, ◌∙◌, List, []}
+use Rattle.model_sheet.specs.Problem.{Problem}
+use Rattle.model_network.specs.Network.{start}
+use Rattle.model_network.specs.Run.{Line}
+use Rattle.theorems_network.specs.Calls.{Call, left_by_all}
+use Rattle.theorems_network.specs.Marking.{own_marking}
+use Rattle.theorems_network.specs.Figures.{sent_from, received_by}
+use Rattle.theorems_network.specs.Claims.{slots_of, EveryProblem, EverySheet}
+use Rattle.theorems_network.proofs.Theorems.{
   sound-at-rest,
   complete-verdict,
   round-bound,
@@ -27,11 +25,11 @@ use Rattle.theorems.proofs.Theorems.{
   rule-kept,
   every-sheet,
 }
-use Rattle.tenants.specs.Tenants.{Naming, NamingAbove}
-use Rattle.tenants.specs.Claims.{ActsAlike}
-use Rattle.tenants.proofs.Theorems.{acts-alike, named-acts-alike}
-use Rattle.image_laws.proofs.Theorems.{reached-plain}
-use Rattle.dispatch_laws.specs.Claims.{above}
+use Rattle.theorems_isolation.specs.Tenants.{Naming, NamingAbove}
+use Rattle.theorems_isolation.specs.Claims.{ActsAlike}
+use Rattle.theorems_isolation.proofs.Theorems.{acts-alike, named-acts-alike}
+use Rattle.theorems_image.proofs.Theorems.{reached-plain}
+use Rattle.theorems_dispatch.specs.Claims.{above}
 use Rattle.theorems_lists.specs.Items.{Item, calls_in_items, sent_from_items, received_by_items}
 use Rattle.theorems_lists.specs.Claims.{
   ComesToCalls,
@@ -104,7 +102,7 @@ run-bound-mixed rule is-rule p r picks place items =
 pub stands-mixed : EveryProblem StandsMixed
 unfolding slots_of
 stands-mixed rule is-rule p r picks place items =
-    record { rest = sound-mixed rule is-rule p r picks place items; verdict = complete-mixed rule is-rule p r picks place items }
+    record { rest = sound-mixed rule is-rule p r picks place items; unsolvable = complete-mixed rule is-rule p r picks place items }
 
 pub run-tells-mixed : EveryProblem RunTellsMixed
 unfolding above

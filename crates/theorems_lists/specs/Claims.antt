@@ -1,13 +1,13 @@
 -- The claims. Each is proved elsewhere against the type that stands here.
 use Rattle.std.specs.Prelude.{ℕ, ◌+◌, ◌≤◌, ◌≡◌, true, false, List, [], map}
-use Rattle.base.specs.Lists.{All}
-use Rattle.problem.specs.Problem.{Problem, Obeys}
-use Rattle.agent_rules.specs.Sorts.{IsAddLink, Not, OneLink}
-use Rattle.agent_rules.specs.Counts.{Sort, number, raised}
-use Rattle.protocol.specs.Network.{start}
-use Rattle.protocol.specs.Shape.{in_shape}
-use Rattle.protocol.specs.Run.{Line, idle, run}
-use Rattle.theorems.specs.Calls.{
+use Rattle.model_base.specs.Lists.{All}
+use Rattle.model_sheet.specs.Problem.{Problem, Obeys}
+use Rattle.model_agent.specs.Sorts.{IsAddLink, Not, OneLink}
+use Rattle.model_agent.specs.Traffic.{Sort, number, raised}
+use Rattle.model_network.specs.Network.{start}
+use Rattle.model_network.specs.Shape.{in_shape}
+use Rattle.model_network.specs.Run.{Line, idle, run}
+use Rattle.theorems_network.specs.Calls.{
   tries_of,
   left_by_all,
   tried_by_all,
@@ -19,15 +19,15 @@ use Rattle.theorems.specs.Calls.{
   ExactlyFull,
   round_stretch,
 }
-use Rattle.theorems.specs.Marking.{parts_of_all, stretch_of, AllMarkedRightly}
-use Rattle.theorems.specs.Deeds.{handed_in, posts_in}
-use Rattle.theorems.specs.Figures.{BelowTop, total_of, total_sent, total_received, waiting_of, total_waiting}
-use Rattle.theorems.specs.Claims.{most_rounds, slots_of, Tells, StandsFor}
-use Rattle.tenants.specs.Tenants.{Alike}
-use Rattle.image_format.specs.Plain.{Plain}
-use Rattle.dispatch_rules.specs.Dispatch.{Dispatcher}
-use Rattle.dispatch_laws.specs.Steps.{left_by_steps, calls_in}
-use Rattle.dispatch_laws.specs.Claims.{above}
+use Rattle.theorems_network.specs.Marking.{parts_of_all, stretch_of, AllMarkedRightly}
+use Rattle.theorems_network.specs.Deeds.{handed_in, posts_in}
+use Rattle.theorems_network.specs.Figures.{BelowTop, total_of, total_sent, total_received, waiting_of, total_waiting}
+use Rattle.theorems_network.specs.Claims.{most_rounds, slots_of, Tells, StandsFor}
+use Rattle.theorems_isolation.specs.Tenants.{Alike}
+use Rattle.model_image.specs.Plain.{Plain}
+use Rattle.model_dispatch.specs.Dispatch.{Dispatcher}
+use Rattle.theorems_dispatch.specs.Steps.{left_by_steps, calls_in}
+use Rattle.theorems_dispatch.specs.Claims.{above}
 use Rattle.theorems_lists.specs.Items.{
   Item,
   left_by_items,
@@ -75,13 +75,13 @@ ComesToCalls rule p = FromStart rule p Comes
 abbrev pub SoundMixed : ℕ → Problem → Type 0
 SoundMixed rule p =
     FromStart rule p (λ items d.
-    (left_by_items items d).network.verdict ≡ false → idle (left_by_items items d).network ≡ true
+    (left_by_items items d).network.unsolvable ≡ false → idle (left_by_items items d).network ≡ true
     → Obeys p (λ i. ((left_by_items items d).network.agents i).value))
 
 -- The verdict comes only where no choice of values obeys all bans.
 abbrev pub CompleteMixed : ℕ → Problem → Type 0
 CompleteMixed rule p =
-    FromStart rule p (λ items d. (left_by_items items d).network.verdict ≡ true → (σ : ℕ → ℕ) → Obeys p σ → ⊥)
+    FromStart rule p (λ items d. (left_by_items items d).network.unsolvable ≡ true → (σ : ℕ → ℕ) → Obeys p σ → ⊥)
 
 -- Every network reached is in shape and holds nothing outside its arrays.
 abbrev pub ReachedMixed : ℕ → Problem → Type 0

@@ -1,18 +1,19 @@
--- Lists that mix deliveries, runs, picks, and writes and reads of the network, on one network with a dispatcher above it. docs/RULES.md: 'Rounds and
--- the run', "A list of calls"; 'The image', "the list with writes and reads of the rail between its calls"; 'The dispatcher', "a list with picks in it".
+-- Lists that mix deliveries, runs, picks, and writes and reads of the network, on one network with a dispatcher above it. docs/RULES.md, 'Rounds and
+-- the run': "A list of calls"; 'The dispatcher': "a list with picks in it". docs/FORMATS.md, 'The image': "the list with writes and reads of the rail
+-- between its calls".
 use Rattle.std.specs.Prelude.{ℕ, ◌+◌, List, [], ◌∷◌, ◌++◌, map}
-use Rattle.problem.specs.Problem.{Problem}
-use Rattle.agent_rules.specs.Message.{Message, Post}
-use Rattle.agent_rules.specs.Counts.{messages_in}
-use Rattle.protocol.specs.Run.{Line}
-use Rattle.theorems.specs.Calls.{Call, tried_by_all, made_by_all}
-use Rattle.theorems.specs.Marking.{Part, parts_of_all}
-use Rattle.theorems.specs.Deeds.{Handed, handed_in, posts_in}
-use Rattle.theorems.specs.Figures.{start_posts, message_of}
-use Rattle.image_forms.specs.Forms.{Form}
-use Rattle.image_laws.specs.Entries.{Stored, left_by_entry, read_by}
-use Rattle.dispatch_rules.specs.Dispatch.{Dispatcher, with_network}
-use Rattle.dispatch_laws.specs.Steps.{Step, left_by_step, calls_by}
+use Rattle.model_sheet.specs.Problem.{Problem}
+use Rattle.model_agent.specs.Message.{Message, Post}
+use Rattle.model_agent.specs.Traffic.{messages_in}
+use Rattle.model_network.specs.Run.{Line}
+use Rattle.theorems_network.specs.Calls.{Call, tried_by_all, made_by_all}
+use Rattle.theorems_network.specs.Marking.{Part, parts_of_all}
+use Rattle.theorems_network.specs.Deeds.{Handed, handed_in, posts_in}
+use Rattle.theorems_network.specs.Figures.{start_posts, message_of}
+use Rattle.model_image_forms.specs.Forms.{Form}
+use Rattle.theorems_image.specs.Entries.{Stored, left_by_entry, read_by}
+use Rattle.model_dispatch.specs.Dispatch.{Dispatcher, with_network}
+use Rattle.theorems_dispatch.specs.Steps.{Step, left_by_step, calls_by}
 
 pub data Item : Type 0 where
   Stepped : Step → Item  -- a delivery, a run or a pick

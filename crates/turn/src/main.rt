@@ -1,4 +1,6 @@
-// Turns a sheet on standard input into one of the other edition, on standard output: `turn bans`, `turn gaps`.
+//! The program `turn`: turns a sheet on standard input into one of the other edition on standard
+//! output, `turn bans` or `turn gaps`. A thin `main` over `sheet_cli_turn::turn`; start there.
+//! docs/PROGRAMS.md, 'turn'.
 #![tactic(auto)]
 
 use std::process::ExitCode;
@@ -6,6 +8,6 @@ use support_cli::launch;
 
 fn main(rt: HostRuntime) -> ExitCode {
     launch(&rt, |words, input, output, errors| {
-        cli_turn::turn(words, input, output, errors)
+        sheet_cli_turn::turn(words, input, output, errors)
     })
 }

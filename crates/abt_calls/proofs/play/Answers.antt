@@ -2,9 +2,9 @@
 -- What the calls still to come lead to from here is what all lead to from the beginning; at the end none is to come, and of the definitions' list of steps
 -- all is proved that is promised.
 use Rattle.std.proofs.Common.{◌≡◌, List, [], map}
-use Rattle.dispatch_laws.specs.Steps.{Step, left_by_steps}
-use Rattle.dispatch.specs.Abstract.{dispatcher_of}
-use Rattle.dispatch_rules.proofs.Theorems.{served-in-time}
+use Rattle.theorems_dispatch.specs.Steps.{Step, left_by_steps}
+use Rattle.abt_dispatch.specs.Abstract.{dispatcher_of}
+use Rattle.model_dispatch.proofs.Theorems.{served-in-time}
 use Rattle.abt_calls.specs.Abstract.{step_of}
 use Rattle.abt_calls.proofs.Playing.{Here, here-first, here-at, here-last, all-left, all-came}
 use Rattle.abt_calls.proofs.Keeping.{by-the-calls, reaches-further, promised-further, promised-from-start, acts-alike-further, named-acts-alike-further}

@@ -10,4 +10,4 @@ returns-in-None c = rw c.in-None.is (sym (not_refused (came_of c.args.accepted))
 
 pub returns-in-Some : goal.returns-in-Some
 unfolding came_of
-returns-in-Some c = rw c.in-Some.is (sym (refused_with c.in-Some.refusal (came_of c.args.accepted)))
+returns-in-Some c = rw c.in-Some.is (sym (refused_with c.in-Some.rejection (came_of c.args.accepted)))

@@ -1,8 +1,5 @@
 -- The agent's record after the run is the definition's.
-use mathlib.Core.Path.{◌≡◌, ◌∙◌}
-use native.Mathlib.Omega.{arith}
-use lib.ListN.{length}
-use borrow.Author.Rules.{rules}
+use Rattle.std.proofs.Common.{◌≡◌, ◌∙◌, arith, length, rules}
 use Rattle.bench_entry.proofs.Giving.{counts-given, nobody-given}
 use Rattle.bench_entry.proofs.bench_entry_counts.Goals as goal
 

@@ -1,9 +1,7 @@
 -- All calls, and then value by value.
-use mathlib.Core.Path.{refl, ◌∙◌}
-use native.Mathlib.Omega.{arith}
-use native.Mathlib.Numerals.{add-one}
-use Rattle.protocol.specs.Network.{start_sheet}
-use Rattle.network.proofs.Asked.{value-or}
+use Rattle.std.proofs.Common.{refl, ◌∙◌, arith, add-one}
+use Rattle.model_network.specs.Network.{start_sheet}
+use Rattle.abt_record.proofs.Asked.{value-or}
 use Rattle.bench_entry.specs.Giving.{mixed, asked_to}
 use Rattle.bench_entry.proofs.Playing.{number-given, one-asked, all_asked}
 use Rattle.bench_entry.proofs.bench_entry_deliver.Goals as goal

@@ -1,6 +1,6 @@
 -- All calls, and then value by value.
-use mathlib.Core.Path.{◌≡◌}
-use Rattle.network.specs.Abstract.{network_of}
+use Rattle.std.proofs.Common.{◌≡◌}
+use Rattle.abt_record.specs.Abstract.{network_of}
 use Rattle.bench_entry.specs.Giving.{asked_to}
 use Rattle.bench_entry.proofs.bench_entry_deliver.Given as goal
 

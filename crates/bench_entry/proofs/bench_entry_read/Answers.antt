@@ -1,9 +1,5 @@
 -- Agent by agent, the number so far is the definition's.
-use mathlib.Core.Path.{◌≡◌, refl, ◌∙◌}
-use native.Mathlib.Omega.{arith}
-use native.Mathlib.Numerals.{add-one}
-use lib.ListN.{length}
-use borrow.Author.Rules.{rules}
+use Rattle.std.proofs.Common.{◌≡◌, refl, ◌∙◌, arith, add-one, length, rules}
 use Rattle.bench_entry.proofs.Images.{loaded-network, loaded-number, none_read, one-read, all_read}
 use Rattle.bench_entry.proofs.Playing.{number-given}
 use Rattle.bench_entry.proofs.bench_entry_read.Goals as goal

@@ -1,7 +1,7 @@
 -- Agent by agent, the number so far is the definition's.
-use mathlib.Core.Path.{◌≡◌}
-use Rattle.network.specs.declared.Network.{Network}
-use Rattle.network.specs.Abstract.{network_of}
+use Rattle.std.proofs.Common.{◌≡◌}
+use Rattle.abt_record.specs.declared.Network.{Network}
+use Rattle.abt_record.specs.Abstract.{network_of}
 use Rattle.bench_entry.specs.Giving.{read_to}
 use Rattle.bench_entry.proofs.bench_entry_read.Given as goal
 

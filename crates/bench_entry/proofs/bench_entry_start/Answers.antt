@@ -1,6 +1,5 @@
 -- The refusal's number, or the sender's row less what is no channel's.
-use mathlib.Core.Path.{◌∙◌}
-use native.Mathlib.Numerals.{add-one}
+use Rattle.std.proofs.Common.{◌∙◌, add-one}
 use Rattle.bench_entry.proofs.Giving.{row-given, row-held, none-held}
 use Rattle.bench_entry.proofs.bench_entry_start.Goals as goal
 

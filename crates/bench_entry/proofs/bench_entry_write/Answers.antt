@@ -1,7 +1,5 @@
 -- Write by write, the answer and the buffer are the definition's.
-use mathlib.Core.Path.{◌≡◌, ◌∙◌}
-use native.Mathlib.Omega.{arith}
-use native.Mathlib.Numerals.{add-one}
+use Rattle.std.proofs.Common.{◌≡◌, ◌∙◌, arith, add-one}
 use Rattle.bench_entry.proofs.Images.{loaded-network, none_written, one_written, writes}
 use Rattle.bench_entry.proofs.bench_entry_write.Goals as goal
 

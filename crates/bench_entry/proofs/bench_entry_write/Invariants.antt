@@ -1,7 +1,7 @@
 -- Write by write, the answer and the buffer are the definition's.
-use mathlib.Core.Path.{◌≡◌}
-use Rattle.network.specs.Abstract.{network_of}
-use Rattle.lent.specs.Abstract.{written_of}
+use Rattle.std.proofs.Common.{◌≡◌}
+use Rattle.abt_record.specs.Abstract.{network_of}
+use Rattle.support_buffer.specs.Abstract.{written_of}
 use Rattle.bench_entry.specs.Giving.{form_for, written_to}
 use Rattle.bench_entry.proofs.bench_entry_write.Given as goal
 

@@ -1,6 +1,5 @@
 -- Call by call, network and sum are the definition's.
-use mathlib.Core.Path.{◌∙◌}
-use native.Mathlib.Numerals.{add-one}
+use Rattle.std.proofs.Common.{◌∙◌, add-one}
 use Rattle.bench_entry.specs.Giving.{mixed}
 use Rattle.bench_entry.proofs.Playing.{none-played, one-played}
 use Rattle.bench_entry.proofs.play.Goals as goal

@@ -1,10 +1,6 @@
 -- Agent by agent, the number so far is the definition's, and fits a word.
-use mathlib.Core.Path.{◌≡◌, refl}
-use native.Mathlib.Omega.{arith}
-use native.Mathlib.Numerals.{add-one}
-use lib.ListN.{length}
-use borrow.Author.Rules.{rules}
-use Rattle.network.specs.Abstract.{network_of}
+use Rattle.std.proofs.Common.{◌≡◌, refl, arith, add-one, length, rules}
+use Rattle.abt_record.specs.Abstract.{network_of}
 use Rattle.bench_entry.specs.Giving.{values_to}
 use Rattle.bench_entry.proofs.Giving.{values-fit, one_value}
 use Rattle.bench_entry.proofs.values_of.Goals as goal

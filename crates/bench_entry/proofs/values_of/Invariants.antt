@@ -1,6 +1,6 @@
 -- Agent by agent, the number so far is the definition's.
-use mathlib.Core.Path.{◌≡◌}
-use Rattle.network.specs.Abstract.{network_of}
+use Rattle.std.proofs.Common.{◌≡◌}
+use Rattle.abt_record.specs.Abstract.{network_of}
 use Rattle.bench_entry.specs.Giving.{values_to}
 use Rattle.bench_entry.proofs.values_of.Given as goal
 

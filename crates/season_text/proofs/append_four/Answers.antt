@@ -1,7 +1,6 @@
 -- Four numbers one behind the other. Assumes nothing.
-use native.Mathlib.Omega.{arith}
-use lib.ListN.{length-append}
-use Rattle.lent.proofs.Puts.{adds_then}
+use Rattle.std.proofs.Common.{arith, length-append}
+use Rattle.support_buffer.proofs.Puts.{adds_then}
 use Rattle.season_figures.specs.Abstract.{kinds}
 use Rattle.season_text.specs.Text.{blank, four_line}
 use Rattle.season_text.proofs.append_four.Goals as goal

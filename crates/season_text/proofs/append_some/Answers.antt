@@ -1,5 +1,5 @@
 -- Four lines one behind the other. Assumes nothing.
-use Rattle.lent.proofs.Puts.{adds_then}
+use Rattle.support_buffer.proofs.Puts.{adds_then}
 use Rattle.season_figures.specs.Abstract.{rounds_from}
 use Rattle.season_text.specs.Text.{fewest, most, sum, rounds_lines}
 use Rattle.season_text.proofs.append_some.Goals as goal

@@ -1,8 +1,8 @@
 -- The eight lines one behind the other. Assumes nothing.
-use mathlib.Core.Path.{refl, ap, ◌∙◌}
+use Rattle.std.proofs.Common.{refl, ap, ◌∙◌}
 use Rattle.std.specs.Int.{from_bool}
-use Rattle.lent.proofs.Puts.{adds_then}
-use Rattle.text.proofs.Appending.{from-start, behind-start}
+use Rattle.support_buffer.proofs.Puts.{adds_then}
+use Rattle.support_buffer.proofs.Appending.{from-start, behind-start}
 use Rattle.season_figures.specs.Abstract.{figures_of}
 use Rattle.season_figures.specs.Pieces.{season_of}
 use Rattle.season_text.specs.Text.{sheets, refused, words, cut, season_text}

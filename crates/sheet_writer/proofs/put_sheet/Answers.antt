@@ -1,11 +1,10 @@
 -- `put_sheet` writes the sheet, where there is room.
 -- The header, and the records behind it.
-use mathlib.Core.Path.{◌≡◌, sym}
-use native.Mathlib.Omega.{arith}
-use lib.ListN.{length, length-map}
-use Rattle.base.specs.Lent.{short_buffer}
-use Rattle.sheet.specs.Abstract.{problem_of}
-use Rattle.lent.specs.Abstract.{written_of}
+use Rattle.std.proofs.Common.{◌≡◌, sym, arith, length}
+use lib.ListN.{length-map}
+use Rattle.model_base.specs.Lent.{short_buffer}
+use Rattle.sheet_reader.specs.Abstract.{problem_of}
+use Rattle.support_buffer.specs.Abstract.{written_of}
 use Rattle.sheet_writer.specs.Rows.{row_of, rows_of}
 use Rattle.sheet_writer.proofs.Sheets.{sheet-short, sheet-put}
 use Rattle.sheet_writer.proofs.put_sheet.Goals as goal

@@ -1,5 +1,5 @@
 -- Each clause is proved where its claim is stated; these are the proofs. Assumes nothing.
-use Rattle.theorems.proofs.Theorems.{sheet-sound, sound-at-rest, sheet-complete, complete-verdict}
+use Rattle.theorems_network.proofs.Theorems.{sheet-sound, sound-at-rest, sheet-complete, complete-verdict}
 use Rattle.promises.proofs.calls.accuracy.Goals as goal
 
 pub returns-clause-sound : goal.returns-clause-sound

@@ -1,5 +1,5 @@
 -- Each clause is proved where its claim is stated; these are the proofs. Assumes nothing.
-use Rattle.theorems.proofs.Theorems.{sheet-run-tells, run-tells, sheet-delivery-tells, delivery-tells}
+use Rattle.theorems_network.proofs.Theorems.{sheet-run-tells, run-tells, sheet-delivery-tells, delivery-tells}
 use Rattle.promises.proofs.calls.answers.Goals as goal
 
 pub returns-clause-run : goal.returns-clause-run

@@ -1,5 +1,5 @@
 -- Each clause is proved where its claim is stated; these are the proofs. Assumes nothing.
-use Rattle.theorems.proofs.Theorems.{sheet-runs-count, runs-count, sheet-runs-mark, runs-mark}
+use Rattle.theorems_network.proofs.Theorems.{sheet-runs-count, runs-count, sheet-runs-mark, runs-mark}
 use Rattle.promises.proofs.calls.counted_rounds.Goals as goal
 
 pub returns-clause-exact : goal.returns-clause-exact

@@ -1,5 +1,5 @@
 -- Each clause is proved where its claim is stated; these are the proofs. Assumes nothing.
-use Rattle.theorems.proofs.Theorems.{jammed-exactly, none-after-nothing, rounds-used}
+use Rattle.theorems_network.proofs.Theorems.{jammed-exactly, none-after-nothing, rounds-used}
 use Rattle.promises.proofs.calls.endings.Goals as goal
 
 pub returns-clause-jammed : goal.returns-clause-jammed

@@ -1,5 +1,5 @@
 -- Each clause is proved where its claim is stated; these are the proofs. Assumes nothing.
-use Rattle.theorems.proofs.Theorems.{sheet-counts-exact, counts-exact, sheet-counts-capped, counts-capped, sheet-sent-is-received-and-waiting, sent-is-received-and-waiting, sheet-sent-is-received-and-waiting-of, sent-is-received-and-waiting-of, counts-never-fall}
+use Rattle.theorems_network.proofs.Theorems.{sheet-counts-exact, counts-exact, sheet-counts-capped, counts-capped, sheet-sent-is-received-and-waiting, sent-is-received-and-waiting, sheet-sent-is-received-and-waiting-of, sent-is-received-and-waiting-of, counts-never-fall}
 use Rattle.promises.proofs.calls.figures.Goals as goal
 
 pub returns-clause-exact : goal.returns-clause-exact

@@ -1,5 +1,5 @@
 -- Each clause is proved where its claim is stated; these are the proofs. Assumes nothing.
-use Rattle.theorems.proofs.Theorems.{sheet-asked-once, asked-once}
+use Rattle.theorems_network.proofs.Theorems.{sheet-asked-once, asked-once}
 use Rattle.promises.proofs.calls.links.Goals as goal
 
 pub returns-clause-asked_once : goal.returns-clause-asked_once

@@ -1,5 +1,5 @@
 -- Each clause is proved where its claim is stated; these are the proofs. Assumes nothing.
-use Rattle.theorems.proofs.Theorems.{replays}
+use Rattle.theorems_network.proofs.Theorems.{replays}
 use Rattle.promises.proofs.Beside.{waits-as-held}
 use Rattle.promises.proofs.calls.replayed.Goals as goal
 

@@ -1,5 +1,5 @@
 -- Each clause is proved where its claim is stated; these are the proofs. Assumes nothing.
-use Rattle.theorems.proofs.Theorems.{sheet-round-bound, round-bound, sheet-run-bound, run-bound}
+use Rattle.theorems_network.proofs.Theorems.{sheet-round-bound, round-bound, sheet-run-bound, run-bound}
 use Rattle.promises.proofs.calls.round_limit.Goals as goal
 
 pub returns-clause-bounded : goal.returns-clause-bounded

@@ -1,5 +1,5 @@
 -- Each clause is proved where its claim is stated; these are the proofs. Assumes nothing.
-use Rattle.theorems.proofs.Theorems.{sheet-stays-in-shape, stays-in-shape, deliver-keeps, run-keeps, rule-kept}
+use Rattle.theorems_network.proofs.Theorems.{sheet-stays-in-shape, stays-in-shape, deliver-keeps, run-keeps, rule-kept}
 use Rattle.promises.proofs.calls.shape.Goals as goal
 
 pub returns-clause-reached : goal.returns-clause-reached

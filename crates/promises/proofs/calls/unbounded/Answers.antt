@@ -1,5 +1,5 @@
 -- Each clause is proved where its claim is stated; these are the proofs. Assumes nothing.
-use Rattle.spinning.proofs.Theorems.{of-a-sheet, spins, never-full, passes-the-bound, deliveries-unbounded}
+use Rattle.theorems_spinning.proofs.Theorems.{of-a-sheet, spins, never-full, passes-the-bound, deliveries-unbounded}
 use Rattle.promises.proofs.calls.unbounded.Goals as goal
 
 pub returns-clause-sheet : goal.returns-clause-sheet

@@ -1,5 +1,5 @@
 -- Each clause is proved where its claim is stated; these are the proofs. Assumes nothing.
-use Rattle.turn_theorems.proofs.Theorems.{bans-kept, gaps-kept}
+use Rattle.theorems_editions.proofs.Theorems.{bans-kept, gaps-kept}
 use Rattle.promises.proofs.editions.kept.Goals as goal
 
 pub returns-clause-bans : goal.returns-clause-bans

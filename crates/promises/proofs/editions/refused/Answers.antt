@@ -1,5 +1,5 @@
 -- Each clause is proved where its claim is stated; these are the proofs. Assumes nothing.
-use Rattle.turn_theorems.proofs.Theorems.{refused-as-said}
+use Rattle.theorems_editions.proofs.Theorems.{refused-as-said}
 use Rattle.promises.proofs.editions.refused.Goals as goal
 
 pub returns : goal.returns

@@ -1,5 +1,5 @@
 -- Each clause is proved where its claim is stated; these are the proofs. Assumes nothing.
-use Rattle.turn_theorems.proofs.Theorems.{back-again, twice-from-gaps, twice-from-bans}
+use Rattle.theorems_editions.proofs.Theorems.{back-again, twice-from-gaps, twice-from-bans}
 use Rattle.promises.proofs.editions.there_and_back.Goals as goal
 
 pub returns-clause-back_again : goal.returns-clause-back_again

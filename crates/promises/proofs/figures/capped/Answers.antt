@@ -1,5 +1,5 @@
 -- Each clause is proved where its claim is stated; these are the proofs. Assumes nothing.
-use Rattle.season_rules.proofs.Theorems.{capped-in-turn, never-capped}
+use Rattle.model_season.proofs.Theorems.{capped-in-turn, never-capped}
 use Rattle.promises.proofs.figures.capped.Goals as goal
 
 pub returns-clause-in_turn : goal.returns-clause-in_turn

@@ -1,5 +1,5 @@
 -- Each clause is proved where its claim is stated; these are the proofs. Assumes nothing.
-use Rattle.season_rules.proofs.Theorems.{each-known, add-up, one-more-sheet, mean-over, sum_bound}
+use Rattle.model_season.proofs.Theorems.{each-known, add-up, one-more-sheet, mean-over, sum_bound}
 use Rattle.promises.proofs.figures.counted.Goals as goal
 
 pub returns-clause-known : goal.returns-clause-known

@@ -1,5 +1,5 @@
 -- Each clause is proved where its claim is stated; these are the proofs. Assumes nothing.
-use Rattle.season_rules.proofs.Theorems.{any_order, streams-in-any-order}
+use Rattle.model_season.proofs.Theorems.{any_order, streams-in-any-order}
 use Rattle.promises.proofs.figures.ordered.Goals as goal
 
 pub returns-clause-sheets : goal.returns-clause-sheets

@@ -1,5 +1,5 @@
 -- Each clause is proved where its claim is stated; these are the proofs. Assumes nothing.
-use Rattle.season_rules.proofs.Theorems.{reads-stream, reads-no-more}
+use Rattle.model_season.proofs.Theorems.{reads-stream, reads-no-more}
 use Rattle.promises.proofs.figures.streams.Goals as goal
 
 pub returns-clause-read : goal.returns-clause-read

@@ -1,5 +1,5 @@
 -- Each clause is proved where its claim is stated; these are the proofs. Assumes nothing.
-use Rattle.tenants.proofs.Theorems.{named-acts-alike, acts-alike}
+use Rattle.theorems_isolation.proofs.Theorems.{named-acts-alike, acts-alike}
 use Rattle.promises.proofs.isolation.acts_alike.Goals as goal
 
 pub returns-clause-named : goal.returns-clause-named

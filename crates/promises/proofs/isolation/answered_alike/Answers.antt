@@ -1,5 +1,5 @@
 -- Each clause is proved where its claim is stated; these are the proofs. Assumes nothing.
-use Rattle.tenants.proofs.Theorems.{named-answered-alike, answered-alike}
+use Rattle.theorems_isolation.proofs.Theorems.{named-answered-alike, answered-alike}
 use Rattle.promises.proofs.isolation.answered_alike.Goals as goal
 
 pub returns-clause-named : goal.returns-clause-named

@@ -1,5 +1,5 @@
 -- Each clause is proved where its claim is stated; these are the proofs. Assumes nothing.
-use Rattle.little_rules.proofs.Theorems.{counted, accepted, starts, found, once, exactly-one}
+use Rattle.model_little.proofs.Theorems.{counted, accepted, starts, found, once, exactly-one}
 use Rattle.promises.proofs.little.all_of_them.Goals as goal
 
 pub returns-clause-counted : goal.returns-clause-counted

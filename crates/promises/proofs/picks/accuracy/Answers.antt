@@ -1,5 +1,5 @@
 -- Each clause is proved where its claim is stated; these are the proofs. Assumes nothing.
-use Rattle.dispatch_laws.proofs.Theorems.{sheet-sound-with-picks, sound-with-picks, sheet-complete-with-picks, complete-with-picks}
+use Rattle.theorems_dispatch.proofs.Theorems.{sheet-sound-with-picks, sound-with-picks, sheet-complete-with-picks, complete-with-picks}
 use Rattle.promises.proofs.picks.accuracy.Goals as goal
 
 pub returns-clause-sound : goal.returns-clause-sound

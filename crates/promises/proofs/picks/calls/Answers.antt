@@ -1,5 +1,5 @@
 -- Each clause is proved where its claim is stated; these are the proofs. Assumes nothing.
-use Rattle.dispatch_laws.proofs.Theorems.{picks-are-calls, sheet-in-shape-with-picks, in-shape-with-picks}
+use Rattle.theorems_dispatch.proofs.Theorems.{picks-are-calls, sheet-in-shape-with-picks, in-shape-with-picks}
 use Rattle.promises.proofs.picks.calls.Goals as goal
 
 pub returns-clause-calls : goal.returns-clause-calls

@@ -1,5 +1,5 @@
 -- Each clause is proved where its claim is stated; these are the proofs. Assumes nothing.
-use Rattle.dispatch_rules.proofs.Theorems.{picks-counted, picks-deliver}
+use Rattle.model_dispatch.proofs.Theorems.{picks-counted, picks-deliver}
 use Rattle.promises.proofs.picks.counted.Goals as goal
 
 pub returns-clause-counted : goal.returns-clause-counted

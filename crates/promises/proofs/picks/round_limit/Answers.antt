@@ -1,5 +1,5 @@
 -- Each clause is proved where its claim is stated; these are the proofs. Assumes nothing.
-use Rattle.dispatch_laws.proofs.Theorems.{sheet-round-bound-with-picks, round-bound-with-picks, sheet-run-bound-with-picks, run-bound-with-picks}
+use Rattle.theorems_dispatch.proofs.Theorems.{sheet-round-bound-with-picks, round-bound-with-picks, sheet-run-bound-with-picks, run-bound-with-picks}
 use Rattle.promises.proofs.picks.round_limit.Goals as goal
 
 pub returns-clause-bounded : goal.returns-clause-bounded

@@ -1,5 +1,5 @@
 -- Each clause is proved where its claim is stated; these are the proofs. Assumes nothing.
-use Rattle.dispatch_rules.proofs.Theorems.{served-in-time, heads-stay}
+use Rattle.model_dispatch.proofs.Theorems.{served-in-time, heads-stay}
 use Rattle.promises.proofs.picks.served.Goals as goal
 
 pub returns-clause-in_time : goal.returns-clause-in_time

@@ -1,5 +1,5 @@
 -- Each clause is proved where its claim is stated; these are the proofs. Assumes nothing.
-use Rattle.problem.proofs.Sheet.{decode-in-range, bans-as-said, links-as-banned}
+use Rattle.model_sheet.proofs.Sheet.{decode-in-range, bans-as-said, links-as-banned}
 use Rattle.promises.proofs.Beside.{cut-decodes}
 use Rattle.promises.proofs.sheets.reading.Goals as goal
 

@@ -1,5 +1,5 @@
 -- Each clause is proved where its claim is stated; these are the proofs. Assumes nothing.
-use Rattle.image_laws.proofs.Theorems.{sheet-sound-across, sound-across, sheet-complete-across, complete-across}
+use Rattle.theorems_image.proofs.Theorems.{sheet-sound-across, sound-across, sheet-complete-across, complete-across}
 use Rattle.promises.proofs.storage.accuracy.Goals as goal
 
 pub returns-clause-sound : goal.returns-clause-sound

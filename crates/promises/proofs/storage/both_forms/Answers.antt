@@ -1,5 +1,5 @@
 -- Each clause is proved where its claim is stated; these are the proofs. Assumes nothing.
-use Rattle.image_forms.proofs.Theorems.{reads-back, one-rail, reads-only-images, image-length}
+use Rattle.model_image_forms.proofs.Theorems.{reads-back, one-rail, reads-only-images, image-length}
 use Rattle.promises.proofs.storage.both_forms.Goals as goal
 
 pub returns-clause-reads : goal.returns-clause-reads

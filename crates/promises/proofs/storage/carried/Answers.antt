@@ -1,5 +1,5 @@
 -- Each clause is proved where its claim is stated; these are the proofs. Assumes nothing.
-use Rattle.image_laws.proofs.Theorems.{sheet-carries-across, carries-across, carries-across-anywhere, reads-with-room}
+use Rattle.theorems_image.proofs.Theorems.{sheet-carries-across, carries-across, carries-across-anywhere, reads-with-room}
 use Rattle.promises.proofs.storage.carried.Goals as goal
 
 pub returns-clause-across : goal.returns-clause-across

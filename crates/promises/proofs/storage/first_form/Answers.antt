@@ -1,6 +1,6 @@
 -- Each clause is proved where its claim is stated; these are the proofs. Assumes nothing.
-use Rattle.image_format.proofs.Theorems.{reads_first, one-first, reads-only-first}
-use Rattle.image_format.proofs.Lengths.{image-length}
+use Rattle.model_image.proofs.Theorems.{reads_first, one-first, reads-only-first}
+use Rattle.model_image.proofs.Lengths.{image-length}
 use Rattle.promises.proofs.storage.first_form.Goals as goal
 
 pub returns-clause-reads : goal.returns-clause-reads

@@ -1,5 +1,5 @@
 -- Each clause is proved where its claim is stated; these are the proofs. Assumes nothing.
-use Rattle.image_forms.proofs.Theorems.{moves-back, moves-through}
+use Rattle.model_image_forms.proofs.Theorems.{moves-back, moves-through}
 use Rattle.promises.proofs.Beside.{moved-form}
 use Rattle.promises.proofs.storage.moved.Goals as goal
 

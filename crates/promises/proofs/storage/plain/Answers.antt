@@ -1,5 +1,5 @@
 -- Each clause is proved where its claim is stated; these are the proofs. Assumes nothing.
-use Rattle.image_laws.proofs.Theorems.{sheet-reached-plain, reached-plain, stays_plain}
+use Rattle.theorems_image.proofs.Theorems.{sheet-reached-plain, reached-plain, stays_plain}
 use Rattle.promises.proofs.storage.plain.Goals as goal
 
 pub returns-clause-reached : goal.returns-clause-reached

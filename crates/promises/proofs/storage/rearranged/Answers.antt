@@ -1,5 +1,5 @@
 -- Each clause is proved where its claim is stated; these are the proofs. Assumes nothing.
-use Rattle.image_forms.proofs.Places.{laid-back}
+use Rattle.model_image_forms.proofs.Places.{laid-back}
 use Rattle.promises.proofs.Beside.{large-of-small}
 use Rattle.promises.proofs.storage.rearranged.Goals as goal
 

@@ -1,5 +1,5 @@
 -- Each clause is proved where its claim is stated; these are the proofs. Assumes nothing.
-use Rattle.image_laws.proofs.Theorems.{sheet-round-bound-across, round-bound-across, sheet-run-bound-across, run-bound-across}
+use Rattle.theorems_image.proofs.Theorems.{sheet-round-bound-across, round-bound-across, sheet-run-bound-across, run-bound-across}
 use Rattle.promises.proofs.storage.round_limit.Goals as goal
 
 pub returns-clause-bounded : goal.returns-clause-bounded

@@ -1,5 +1,5 @@
 -- Each clause is proved where its claim is stated; these are the proofs. Assumes nothing.
-use Rattle.scribe_theorems.proofs.Theorems.{sheets-accepted, slots-as-written, bans-as-written, judged-by-front}
+use Rattle.theorems_text.proofs.Theorems.{sheets-accepted, slots-as-written, bans-as-written, judged-by-front}
 use Rattle.promises.proofs.texts.reading.Goals as goal
 
 pub returns-clause-accepted : goal.returns-clause-accepted

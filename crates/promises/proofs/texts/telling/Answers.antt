@@ -1,5 +1,5 @@
 -- Each clause is proved where its claim is stated; these are the proofs. Assumes nothing.
-use Rattle.scribe_theorems.proofs.Theorems.{texts-read-again, texts-short}
+use Rattle.theorems_text.proofs.Theorems.{texts-read-again, texts-short}
 use Rattle.promises.proofs.texts.telling.Goals as goal
 
 pub returns-clause-again : goal.returns-clause-again

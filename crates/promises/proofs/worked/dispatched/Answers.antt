@@ -1,6 +1,6 @@
 -- Each clause is proved where its claim is stated; these are the proofs. Assumes nothing.
-use Rattle.dispatch_rules.proofs.Nights.{nights-hold}
-use Rattle.nights.proofs.Dispatched.{dispatched-nights-hold}
+use Rattle.model_dispatch.proofs.Nights.{nights-hold}
+use Rattle.model_cases.proofs.Dispatched.{dispatched-nights-hold}
 use Rattle.promises.proofs.worked.dispatched.Goals as goal
 
 pub returns-clause-first : goal.returns-clause-first

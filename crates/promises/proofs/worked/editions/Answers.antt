@@ -1,5 +1,5 @@
 -- Each clause is proved where its claim is stated; these are the proofs. Assumes nothing.
-use Rattle.turn_rules.proofs.Cases.{cases-hold, puts-hold}
+use Rattle.model_editions.proofs.Cases.{cases-hold, puts-hold}
 use Rattle.promises.proofs.worked.editions.Goals as goal
 
 pub returns-clause-turned : goal.returns-clause-turned

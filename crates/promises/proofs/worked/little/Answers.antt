@@ -1,5 +1,5 @@
 -- Each clause is proved where its claim is stated; these are the proofs. Assumes nothing.
-use Rattle.little_rules.proofs.Cases.{cases-hold, puts-hold}
+use Rattle.model_little.proofs.Cases.{cases-hold, puts-hold}
 use Rattle.promises.proofs.worked.little.Goals as goal
 
 pub returns-clause-sheets : goal.returns-clause-sheets

@@ -1,8 +1,8 @@
 -- Each clause is proved where its claim is stated; these are the proofs. Assumes nothing.
 use Rattle.promises.proofs.Nights.{marked-nights}
-use Rattle.protocol.proofs.Nights.{nights-hold}
-use Rattle.nights.proofs.Further.{further-nights-hold}
-use Rattle.nights.proofs.Quiet.{quiet-nights-hold}
+use Rattle.model_network.proofs.Nights.{nights-hold}
+use Rattle.model_cases.proofs.Further.{further-nights-hold}
+use Rattle.model_cases.proofs.Quiet.{quiet-nights-hold}
 use Rattle.promises.proofs.worked.nights.Goals as goal
 
 pub returns-clause-marked : goal.returns-clause-marked

@@ -1,5 +1,5 @@
 -- Each clause is proved where its claim is stated; these are the proofs. Assumes nothing.
-use Rattle.season_rules.proofs.Cases.{nights-end}
+use Rattle.model_season.proofs.Cases.{nights-end}
 use Rattle.season_text.proofs.Cases.{all-print}
 use Rattle.promises.proofs.worked.seasons.Goals as goal
 

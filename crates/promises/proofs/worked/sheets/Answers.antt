@@ -1,5 +1,5 @@
 -- Each clause is proved where its claim is stated; these are the proofs. Assumes nothing.
-use Rattle.problem.proofs.Cases.{cases-hold}
+use Rattle.model_sheet.proofs.Cases.{cases-hold}
 use Rattle.promises.proofs.worked.sheets.Goals as goal
 
 pub returns : goal.returns

@@ -1,5 +1,5 @@
 -- Each clause is proved where its claim is stated; these are the proofs. Assumes nothing.
-use Rattle.scribe_rules.proofs.Cases.{texts-read, records-end, faults-said, sheets-told, all-printed}
+use Rattle.model_text.proofs.Cases.{texts-read, records-end, faults-said, sheets-told, all-printed}
 use Rattle.promises.proofs.worked.texts.Goals as goal
 
 pub returns-clause-read : goal.returns-clause-read

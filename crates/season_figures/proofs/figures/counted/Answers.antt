@@ -1,6 +1,5 @@
 -- The place of the kind is one more, or stays at the greatest number; the others stay. Assumes nothing.
-use Prim.Native.Nat.{ℕ}
-use Rattle.std.proofs.Common.{rules, get_or, Fits, w64}
+use Rattle.std.proofs.Common.{rules, get_or, Fits, w64, ℕ}
 use Rattle.season_figures.proofs.Counting.{counts_one}
 use Rattle.season_figures.proofs.figures.counted.Goals as goal
 

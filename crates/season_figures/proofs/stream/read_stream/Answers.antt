@@ -1,6 +1,5 @@
 -- Piece by piece, what is read so far and what is left are the season of the stream. Assumes nothing.
-use mathlib.Core.Path.{sym, ◌∙◌}
-use native.Mathlib.Omega.{arith}
+use Rattle.std.proofs.Common.{sym, ◌∙◌, arith}
 use Rattle.season_figures.proofs.Promised.{all-tell}
 use Rattle.season_figures.proofs.Reading.{over_season, last_season, over_reading, last_reading, season_tells}
 use Rattle.season_figures.proofs.Streams.{in-any-order, whole-sheets}

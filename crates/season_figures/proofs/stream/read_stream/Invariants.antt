@@ -1,5 +1,5 @@
 -- Piece by piece, what is read so far and what is left are the season of the stream. Assumes nothing.
-use Prim.Native.Nat.{◌-◌}
+use Rattle.std.proofs.Common.{◌-◌}
 use Rattle.season_figures.proofs.Reading.{Here}
 use Rattle.season_figures.proofs.stream.read_stream.Given as goal
 

@@ -1,10 +1,6 @@
 -- `put_header` writes the header.
 -- Its front, the slot counts and the zeros, one behind the other.
-use mathlib.Core.Path.{◌≡◌, ◌∙◌}
-use Prim.Native.Nat.{◌/◌, ◌%◌}
-use native.Mathlib.Omega.{arith}
-use lib.Dec.{ltb}
-use lib.ListN.{length}
+use Rattle.std.proofs.Common.{◌≡◌, ◌∙◌, ◌/◌, ◌%◌, arith, ltb, length}
 use Rattle.sheet_writer.proofs.Sheets.{one_or_none, header-put}
 use Rattle.sheet_writer.proofs.writing.put_header.Goals as goal
 

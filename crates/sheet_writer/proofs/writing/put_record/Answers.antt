@@ -1,8 +1,6 @@
 -- `put_record` writes one record.
 -- The row's four bytes and the index that leads on.
-use mathlib.Core.Path.{◌≡◌, sym, ◌∙◌}
-use Prim.Native.Nat.{suc, ◌+◌, ◌*◌, ◌/◌, ◌%◌}
-use native.Mathlib.Omega.{arith}
+use Rattle.std.proofs.Common.{◌≡◌, sym, ◌∙◌, suc, ◌+◌, ◌*◌, ◌/◌, ◌%◌, arith}
 use Rattle.sheet_writer.specs.Rows.{row_of, next_index}
 use Rattle.sheet_writer.proofs.Sheets.{next-on, next-none, next_small, row-bytes}
 use Rattle.sheet_writer.proofs.writing.put_record.Goals as goal

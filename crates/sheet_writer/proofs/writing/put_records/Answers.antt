@@ -1,10 +1,7 @@
 -- `put_records` writes the records, one behind the other.
 -- What is left to put leaves what putting all would have left.
-use mathlib.Core.Path.{◌≡◌}
-use native.Mathlib.Numerals.{add-one}
-use native.Mathlib.Omega.{arith}
-use lib.ListN.{length, length-map, get_or-map}
-use borrow.Author.Rules.{rules}
+use Rattle.std.proofs.Common.{◌≡◌, add-one, arith, length, rules}
+use lib.ListN.{length-map, get_or-map}
 use Rattle.sheet_writer.specs.Rows.{row_of, rows_of}
 use Rattle.sheet_writer.proofs.Sheets.{less-left, none_left}
 use Rattle.sheet_writer.proofs.writing.put_records.Goals as goal

@@ -11,4 +11,4 @@ returns-in-Ok g c =
     rw (c.in-Ok.is, hands-written n buffer) (rw same at c.print.ensures)
 
 pub returns-in-Err : goal.returns-in-Err
-returns-in-Err g c = rw (c.in-Err.is, hands-refused c.in-Err.refusal c.args.buffer.now) c.refuse.ensures
+returns-in-Err g c = rw (c.in-Err.is, hands-refused c.in-Err.rejection c.args.buffer.now) c.refuse.ensures

@@ -1,5 +1,5 @@
 use Rattle.std.proofs.Common.{refl}
-use Rattle.text.proofs.Appending.{from-start}
+use Rattle.support_buffer.proofs.Appending.{from-start}
 use Rattle.support_cli.proofs.finish.refusal_line.Goals as goal
 
 pub returns-clause-text : goal.returns-clause-text

@@ -1,5 +1,5 @@
 use Rattle.std.proofs.Common.{[], ◌∷◌}
-use Rattle.text.specs.Text.{newline}
+use Rattle.model_base.specs.Decimal.{newline}
 use Rattle.support_cli.proofs.Putting.{puts_three}
 use Rattle.support_cli.proofs.finish.say.Goals as goal
 

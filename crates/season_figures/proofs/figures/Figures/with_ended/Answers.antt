@@ -1,21 +1,16 @@
 -- Each word has its place, and two of them have rounds. Assumes nothing.
-use Prim.Native.Nat.{ℕ, ◌≤◌}
-use mathlib.Core.Path.{◌≡◌, refl, sym, ap, ◌∙◌}
-use mathlib.Core.Logic.{◌⊎◌, inl, inr}
-use mathlib.Core.Option.{Option}
-use native.Mathlib.Omega.{arith}
-use Rattle.std.proofs.Common.{rules, Fits, w64}
-use Rattle.engine.specs.declared.Ending.{Ending}
-use Rattle.engine.specs.Answers.{ending_of}
-use Rattle.season_rules.specs.Season.{Rounds, place, has_rounds, with_rounds, counting}
-use Rattle.season_rules.specs.Capped.{capped_rounds}
+use Rattle.std.proofs.Common.{rules, Fits, w64, Option, ℕ, ◌≤◌, ◌≡◌, refl, sym, ap, ◌∙◌, ◌⊎◌, inl, inr, arith}
+use Rattle.abt_engine.specs.declared.Ending.{Ending}
+use Rattle.abt_engine.specs.Answers.{ending_of}
+use Rattle.model_season.specs.Season.{Rounds, place, has_rounds, with_rounds, counting}
+use Rattle.model_season.specs.Capped.{capped_rounds}
 use Rattle.season_figures.specs.Abstract.{figures_of}
 use Rattle.season_figures.proofs.Counting.{SmallRounds, kept_rounds}
 use Rattle.season_figures.proofs.Adding.{ended_more}
 use Rattle.season_figures.proofs.figures.Figures.with_ended.Goals as goal
 
 module _ (e : Ending) (n : ℕ) (r : Option Rounds) where
-  counted : (e ≡ Ending.None) ⊎ (e ≡ Ending.Plan) → with_rounds n r ≡ counting (ending_of e) n r
+  counted : (e ≡ Ending.Unsolvable) ⊎ (e ≡ Ending.Plan) → with_rounds n r ≡ counting (ending_of e) n r
   unfolding ending_of has_rounds counting
   counted (inl q) = rw q refl
   counted (inr q) = rw q refl
@@ -25,10 +20,10 @@ module _ (e : Ending) (n : ℕ) (r : Option Rounds) where
   left (inl q) = rw q refl
   left (inr q) = rw q refl
 
-pub returns-in-None : goal.returns-in-None
+pub returns-in-Unsolvable : goal.returns-in-Unsolvable
 unfolding figures_of
-returns-in-None c =
-    ended_more _ _ (ending_of c.args.e) _ _ c.with_word.ensures (c.with_rounds.ensures ∙ ap capped_rounds (counted c.args.e c.args.n _ c.in-None.is))
+returns-in-Unsolvable c =
+    ended_more _ _ (ending_of c.args.e) _ _ c.with_word.ensures (c.with_rounds.ensures ∙ ap capped_rounds (counted c.args.e c.args.n _ c.in-Unsolvable.is))
 
 pub returns-in-Jammed : goal.returns-in-Jammed
 unfolding figures_of

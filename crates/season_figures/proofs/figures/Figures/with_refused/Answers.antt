@@ -1,6 +1,5 @@
 -- The sheets and one of the refused are counted; words and rounds stay. Assumes nothing.
-use Prim.Native.Nat.{ℕ}
-use Rattle.std.proofs.Common.{rules, get_or, Fits, w64}
+use Rattle.std.proofs.Common.{rules, get_or, Fits, w64, ℕ}
 use Rattle.season_figures.proofs.Counting.{SmallRounds, kept_rounds}
 use Rattle.season_figures.proofs.Adding.{refused_more}
 use Rattle.season_figures.proofs.figures.Figures.with_refused.Goals as goal

@@ -1,0 +1,4 @@
+pub mod Following
+pub mod Shaping
+pub mod Answering
+pub mod Picking

@@ -1,0 +1,5 @@
+pub mod Numbers
+pub mod Abstract
+pub mod Histories
+pub mod Images
+pub mod Picks

@@ -1,0 +1,10 @@
+pub mod Known
+pub mod Fields
+pub mod Digits
+pub mod Sets
+pub mod Ends
+pub mod Bitwise
+pub mod Wordwise
+pub mod Compared
+pub mod Naming
+pub mod Gathering

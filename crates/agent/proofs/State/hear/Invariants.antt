@@ -1,8 +1,0 @@
--- `hear` tells whether a left side holds, and what it brings.
--- A walk along the agents that it names. The invariant: what those passed have brought.
-use Rattle.packed.specs.Packed.{assignment}
-use Rattle.agent.proofs.Hearing.{Hearing}
-use Rattle.agent.proofs.State.hear.Given as goal
-
-abbrev pub invariant-loop-k : goal.invariant-loop-k
-invariant-loop-k l = Hearing l.self (assignment l.lhs) l.bans (assignment l.k-iterator.0) l.h

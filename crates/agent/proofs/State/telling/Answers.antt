@@ -1,8 +1,0 @@
--- `telling` is the step that sends news and does not choose.
-use Rattle.agent.proofs.Steps.{steps-quiet}
-use Rattle.agent.proofs.State.telling.Goals as goal
-
-pub returns : goal.returns
-returns c =
-    λ own bans nogoods backs fits long below barring.
-    steps-quiet own bans c.args.self nogoods backs c.args.told fits long below barring

@@ -1,2 +1,0 @@
-// The agent facts: theorems about the agent's rules; no code.
-#![tactic(auto)]

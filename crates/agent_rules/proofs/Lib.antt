@@ -1,4 +1,0 @@
-pub mod Messages
-pub mod Assignments
-pub mod Cases
-pub mod Counts

@@ -1,5 +1,0 @@
-pub mod Finite
-pub mod Bits
-pub mod Lists
-pub mod Lent
-pub mod Same

@@ -1,2 +1,0 @@
-// Definitions and laws; no code.
-#![tactic(auto)]

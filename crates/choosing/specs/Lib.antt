@@ -1,2 +1,0 @@
-pub mod Barring
-pub mod Choosing

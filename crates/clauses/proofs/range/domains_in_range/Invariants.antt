@@ -1,9 +1,0 @@
--- From the first agent up. The invariant: those before the k-th pass.
-use mathlib.Core.Path.{◌≡◌}
-use mathlib.Core.Bool.{true}
-use Rattle.base.specs.Finite.{all_to}
-use Rattle.problem.specs.Problem.{Problem, domain_in_range}
-use Rattle.clauses.proofs.range.domains_in_range.Given as goal
-
-abbrev pub invariant-loop-k : goal.invariant-loop-k
-invariant-loop-k l = (p : Problem) → p.count ≡ l.count → p.domains ≡ l.domains → all_to l.k (domain_in_range p) ≡ true

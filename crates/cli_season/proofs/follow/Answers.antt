@@ -1,5 +1,0 @@
-use Rattle.cli_season.proofs.Words.{serves_stream}
-use Rattle.cli_season.proofs.follow.Goals as goal
-
-pub returns : goal.returns
-returns g c = serves_stream _ _ c.read_stream-s.ensures c.put_season.ensures

@@ -1,7 +1,0 @@
-use Rattle.support_cli.proofs.Answering.{printed}
-use Rattle.cli_season.specs.Answers.{wrong_answer}
-use Rattle.cli_season.proofs.put_wrong.Goals as goal
-
-pub returns : goal.returns
-unfolding wrong_answer
-returns g c = printed _ _ _ _ _ _ _ (rw c.wrong_what.ensures at c.say.ensures) c.end.ensures.said c.end.ensures.status

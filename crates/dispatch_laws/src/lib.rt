@@ -1,2 +1,0 @@
-// Lists of picks, deliveries and runs together; no code.
-#![tactic(auto)]

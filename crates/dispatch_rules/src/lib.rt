@@ -1,2 +1,0 @@
-// The dispatcher as rules, and what is claimed of it; no code.
-#![tactic(auto)]

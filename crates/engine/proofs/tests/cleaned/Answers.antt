@@ -1,9 +1,0 @@
--- The rows before the next one are clean.
-use Rattle.engine.proofs.Held.{one-cleaned, all-cleaned}
-use Rattle.engine.proofs.tests.cleaned.Goals as goal
-
-pub loop-i-preserved : goal.loop-i-preserved
-loop-i-preserved c = one-cleaned _ _ _ c.lines_of.result c.loop-i.invariant c.loop-i-test.true c.lines_of.ensures
-
-pub returns : goal.returns
-returns c = (c.loop-i.invariant.width, all-cleaned _ _ _ c.loop-i.invariant c.loop-i-test.false)

@@ -1,2 +1,0 @@
-// The image of a network as a format, and its laws; no code.
-#![tactic(auto)]

@@ -1,2 +1,0 @@
-// The two forms of a rail's image: definitions and theorems, no code.
-#![tactic(auto)]

@@ -1,2 +1,0 @@
-// Networks across a write and a read; no code.
-#![tactic(auto)]

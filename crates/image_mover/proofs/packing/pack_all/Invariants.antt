@@ -1,9 +1,0 @@
--- `pack_all` puts the messages one by one, each packed: so many of them are put.
-use Rattle.std.proofs.Common.{◌*◌}
-use Rattle.image_format.specs.Bytes.{stretch}
-use Rattle.image_forms.specs.Packing.{packed}
-use Rattle.lent.proofs.Puts.{Gathered}
-use Rattle.image_mover.proofs.packing.pack_all.Given as goal
-
-abbrev pub invariant-loop-r : goal.invariant-loop-r
-invariant-loop-r l = Gathered l.initial.next (10 * l.r) (λ r. packed (stretch (16 * r) 16 l.s)) 0 l.r l.next

@@ -1,9 +1,0 @@
--- `put_all_unpacked` puts the messages one by one, each unpacked: so many of them are put.
-use Rattle.std.proofs.Common.{◌*◌}
-use Rattle.image_format.specs.Bytes.{stretch}
-use Rattle.image_forms.specs.Packing.{unpacked}
-use Rattle.lent.proofs.Puts.{Gathered}
-use Rattle.image_mover.proofs.packing.put_all_unpacked.Given as goal
-
-abbrev pub invariant-loop-r : goal.invariant-loop-r
-invariant-loop-r l = Gathered l.initial.out (16 * l.r) (λ r. unpacked (stretch (10 * r) 10 l.s)) 0 l.r l.out

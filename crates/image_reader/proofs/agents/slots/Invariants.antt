@@ -1,6 +1,0 @@
--- `slots` packs twelve slots, from the last down: what was packed so far.
-use Rattle.image_reader.proofs.Digits.{Packing}
-use Rattle.image_reader.proofs.agents.slots.Given as goal
-
-abbrev pub invariant-loop-i : goal.invariant-loop-i
-invariant-loop-i l = Packing l.s l.i l.word

@@ -1,9 +1,0 @@
--- `places` puts each line's messages into its ring.
--- The invariant: the places below p are filled.
-use mathlib.Core.Path.{◌≡◌}
-use lib.ListN.{length}
-use Rattle.image_reader.proofs.Placing.{Placed}
-use Rattle.image_reader.proofs.lines.places.Given as goal
-
-abbrev pub invariant-loop-p : goal.invariant-loop-p
-invariant-loop-p l = record { long : length l.places ≡ 1056; placed : Placed l.s l.lines l.places l.p }

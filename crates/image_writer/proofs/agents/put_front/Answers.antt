@@ -1,8 +1,0 @@
--- `put_front` puts its five parts one behind the other.
-use Rattle.agent.specs.Abstract.{assigned}
-use Rattle.lent.proofs.Puts.{puts_then}
-use Rattle.image_writer.proofs.agents.put_front.Goals as goal
-
-pub returns : goal.returns
-unfolding assigned
-returns c = puts_then (puts_then (puts_then (puts_then c.put.ensures c.put-2.ensures) c.put_mask.ensures) c.put_mask-2.ensures) c.put_slots.ensures

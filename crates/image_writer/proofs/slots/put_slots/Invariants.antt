@@ -1,8 +1,0 @@
--- `put_slots` puts the digits of agents 1 to 12, upward: those below k are put.
-use Rattle.std.proofs.Common.{[], ◌∷◌, ◌-◌}
-use Rattle.packed.specs.Packed.{assignment}
-use Rattle.lent.proofs.Puts.{Gathered}
-use Rattle.image_writer.proofs.slots.put_slots.Given as goal
-
-abbrev pub invariant-loop-k : goal.invariant-loop-k
-invariant-loop-k l = Gathered l.initial.out (l.k - 1) (λ k. assignment l.word k ∷ []) 1 (l.k - 1) l.out

@@ -1,3 +1,0 @@
-pub mod Over
-pub mod Within
-pub mod Puts

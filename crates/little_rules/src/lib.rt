@@ -1,2 +1,0 @@
-// Definitions and theorems of the little sheets; no code.
-#![tactic(auto)]

@@ -1,0 +1,4 @@
+pub mod Messages
+pub mod Assignments
+pub mod Cases
+pub mod Traffic

@@ -1,0 +1,9 @@
+pub mod Message
+pub mod Sorts
+pub mod Traffic
+pub mod Agent
+pub mod Choosing
+pub mod Receiving
+pub mod Shape
+pub mod Plain
+pub mod Cases

@@ -1,0 +1,16 @@
+pub mod Tests
+pub mod Same
+pub mod Search
+pub mod Lists
+pub mod Counting
+pub mod Splits
+pub mod Loops
+pub mod Bits
+pub mod Peeling
+pub mod Arrays
+pub mod Searches
+pub mod Zeros
+pub mod Gathers
+pub mod Sums
+pub mod Masks
+pub mod Decimal

@@ -1,0 +1,26 @@
+-- The nights P1, P2 and P3 come to what they come to, by computation.
+-- The line `unfolding` names what the definitions reach.
+use Rattle.std.proofs.Common.{refl}
+use Rattle.model_base.specs.Finite.{at, within, lowest, highest, all_to, every, any, gather, is_some, each}
+use Rattle.model_base.specs.Bits.{bit, with_bit}
+use Rattle.model_sheet.specs.Problem.{max_agents, max_domain, max_pairs, domain, owns, pairs_before, word_at, bit_at, is_pair, banned, linked, no_bans, count_in_range, domain_in_range, word_owned, bans_owned, sized, in_range, empty_problem, with_table, with_bits, with_bans}
+use Rattle.model_sheet.specs.Sheet.{fault_number, header_length, record_length, max_records, byte_at, word_from, agents_in, first_in, records_in, domains_in, without_bans, header_good, record_start, next_of, record_good, walk, decode, row_at, row_of, edition_in}
+use Rattle.model_agent.specs.Message.{known, nobody, sent_to}
+use Rattle.model_agent.specs.Traffic.{no_counts, each_sort, each_count, of_sort, number, message_in, messages_in, top, raised, counting}
+use Rattle.model_agent.specs.Agent.{no_nogoods, unused_agent, above, agrees}
+use Rattle.model_agent.specs.Choosing.{bars, blame, only, blaming, reason_of, reason, choose, choice, quiet_rule, no_refuser, tells, info_to, infos, chosen, took, join, lhs_of, union, failed, refusing, drop_if, without, forget, after, settle, check_view}
+use Rattle.model_agent.specs.Receiving.{quiet, answer, keep_if, agreeing, updated, conflicts, on_info, matches, holds, unheard, add_link_to, add_links, accepting, outdated, on_back, informing, on_add_link, react, counted, receive, fresh, begin}
+use Rattle.model_agent.specs.Shape.{max_named}
+use Rattle.model_network.specs.Network.{empty_network, self_of, bans_of, posted, with_step, with_channel, step_on, handed, begun, start_agent, start_channel, start, is_rule, bad_rule, started_on, start_sheet}
+use Rattle.model_network.specs.Shape.{capacity, each_named, each_in, holds_value, last_fits, listens_upward, informs_downward, linked_listen, informed_listen, view_listened, nogood_fits, nogoods_fit, counts_fit, unused, agent_in_shape, lhs_fits, message_fits, has_room, one_request, channel_in_shape, in_shape}
+use Rattle.model_network.specs.Delivery.{rejection_number, rejecting, numbers_good, fits, deliver_head, deliver}
+use Rattle.model_network.specs.Run.{is_line, is_empty, idle, visits, begin_round, stopped, is_no_room, passed_by, passed_over, counts, tally, skipped, attempt, sweep, round, is_full, ending_at, finish, is_stuck, one_if, run_from, max_rounds, allowed, run}
+use Rattle.model_network.specs.Nights.{padded, sheet, sheet1, sheet2, sheet3, sheet_of}
+use Rattle.model_sheet.specs.Writing.{two_bytes, header_bytes, row_bytes, index_after, chained, written}
+use Rattle.model_sheet.specs.Row.{agents_good, values_good, signed, between, gaps_good, fields_good, row_good, gap, hits, with_row}
+use Rattle.model_season.specs.Season.{season_rule, season_rounds, outcome_by, outcome}
+use Rattle.model_season.specs.Cases.{NightsEnd}
+
+pub nights-end : NightsEnd
+unfolding at within lowest highest all_to every any gather is_some bit with_bit max_agents max_domain max_pairs domain owns pairs_before word_at bit_at is_pair banned linked no_bans count_in_range domain_in_range word_owned bans_owned sized in_range empty_problem fault_number header_length record_length max_records byte_at word_from agents_in first_in records_in domains_in without_bans header_good record_start next_of record_good walk decode two_bytes known nobody sent_to no_nogoods unused_agent above agrees bars blame only blaming reason_of reason choose choice quiet_rule no_refuser tells info_to infos chosen took join lhs_of union failed refusing drop_if without forget after settle check_view quiet answer keep_if agreeing updated conflicts on_info matches holds unheard add_link_to add_links accepting outdated on_back informing on_add_link receive fresh begin max_named empty_network self_of bans_of posted with_step with_channel step_on handed begun start_agent start_channel start is_rule bad_rule started_on start_sheet capacity each_named each_in holds_value last_fits listens_upward informs_downward linked_listen informed_listen view_listened nogood_fits nogoods_fit unused agent_in_shape lhs_fits message_fits has_room one_request channel_in_shape in_shape rejection_number rejecting numbers_good fits deliver_head deliver is_line is_empty idle visits begin_round stopped is_no_room passed_by passed_over counts tally skipped attempt sweep round is_full ending_at finish is_stuck one_if run_from max_rounds allowed run padded sheet sheet1 sheet2 sheet3 with_table row_at row_of agents_good values_good row_good with_row header_bytes row_bytes index_after chained written each with_bits with_bans edition_in signed between gaps_good fields_good gap hits sheet_of no_counts each_sort each_count of_sort number message_in messages_in top raised counting react counted counts_fit season_rule season_rounds outcome_by outcome
+nights-end = (refl, refl, refl, refl)

@@ -1,6 +1,0 @@
--- The rule and the problem are in range, and the agents before the k-th pass.
-use Rattle.network.proofs.Whole.{AgentsFit}
-use Rattle.network.proofs.Network.framed.Given as goal
-
-abbrev pub invariant-loop-k : goal.invariant-loop-k
-invariant-loop-k l = AgentsFit l.self l.k

@@ -1,7 +1,0 @@
--- `has` is whether an agent is in a set.
--- Its bit.
-use Rattle.packed.proofs.Sets.{member-at}
-use Rattle.packed.proofs.has.Goals as goal
-
-pub returns : goal.returns
-returns c = member-at _ _ c.requires.0

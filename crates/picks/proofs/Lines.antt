@@ -1,4 +1,0 @@
--- Two different agents of 1 to 12 have a channel. (`to-channel` under a name that the source can cite.)
-use Rattle.clauses.proofs.Numbering.{to-channel}
-
-pub ruleset channel = (to-channel)

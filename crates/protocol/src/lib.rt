@@ -1,2 +1,0 @@
-// Definitions, the claims and the worked nights; no code.
-#![tactic(auto)]

@@ -1,8 +1,0 @@
--- The lines are looked at one by one, from this one on and round: nothing waits on those that were passed.
-use Prim.Native.Nat.{ℕ, ◌+◌, ◌%◌, ◌<◌}
-use mathlib.Core.Path.{◌≡◌}
-use Rattle.random_rails.specs.Lines.{held_on}
-use Rattle.random_rails.proofs.rails.waiting_line.Given as goal
-
-abbrev pub invariant-loop-k : goal.invariant-loop-k
-invariant-loop-k l = ((q : ℕ) → q < l.k → held_on l.counts ((l.first % 132 + q) % 132) ≡ 0)

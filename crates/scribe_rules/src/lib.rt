@@ -1,2 +1,0 @@
-// Definitions of sheets as text; no code.
-#![tactic(auto)]

@@ -1,2 +1,0 @@
-// Theorems about sheets as text; no code.
-#![tactic(auto)]

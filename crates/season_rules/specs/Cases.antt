@@ -1,8 +1,0 @@
--- Worked outcomes and figures: the nights P1, P2, P3, and a sheet of no bytes.
-use Rattle.std.specs.Prelude.{◌≡◌, []}
-use Rattle.protocol.specs.Run.{None, Plan}
-use Rattle.protocol.specs.Nights.{sheet1, sheet2, sheet3}
-use Rattle.season_rules.specs.Season.{Refused, Ended, outcome}
-
-abbrev pub NightsEnd : Type 0
-NightsEnd = (outcome sheet1 ≡ Ended Plan 0) × (outcome sheet2 ≡ Ended None 2) × (outcome sheet3 ≡ Ended Plan 1) × (outcome [] ≡ Refused 1)

@@ -1,2 +1,0 @@
-// Definitions and theorems alone: there are no functions here.
-#![tactic(auto)]

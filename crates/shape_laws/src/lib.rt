@@ -1,2 +1,0 @@
-// Every step keeps the shape, forged networks included; no code.
-#![tactic(auto)]

@@ -1,2 +1,0 @@
-// A list of deliveries without end and without a full round; no code.
-#![tactic(auto)]

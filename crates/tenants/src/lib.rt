@@ -1,2 +1,0 @@
-// Theorems about two networks that are alike in one agent; no code.
-#![tactic(auto)]

@@ -1,2 +1,0 @@
-pub mod Appending
-mod Digits

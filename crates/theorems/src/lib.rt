@@ -1,2 +1,0 @@
-// Theorems about the network and lists of calls; no code.
-#![tactic(auto)]

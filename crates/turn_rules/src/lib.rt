@@ -1,2 +1,0 @@
-// Definitions of turning one edition of the sheet into the other; no code.
-#![tactic(auto)]

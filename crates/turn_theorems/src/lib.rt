@@ -1,2 +1,0 @@
-// Theorems about turning one edition of the sheet into the other; no code.
-#![tactic(auto)]

@@ -1,9 +1,0 @@
--- `Accepted::is_sayable_with` tests the pairs of agent j.
--- Those with the agents before i are sayable.
-use Rattle.sheet.specs.Abstract.{problem_of}
-use Rattle.sheet_parts.proofs.Tests.{Passed}
-use Rattle.turning.proofs.Words.{unmixed}
-use Rattle.turning.proofs.accepted.Accepted.is_sayable_with.Given as goal
-
-abbrev pub invariant-loop-i : goal.invariant-loop-i
-invariant-loop-i l = Passed (unmixed (problem_of l.self.problem) l.j) l.i

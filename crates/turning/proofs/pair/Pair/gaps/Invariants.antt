@@ -1,9 +1,0 @@
--- `Pair::gaps` marks the gaps of all pairs that the word has.
--- Before turn v those of 1 to v - 1 of the lower.
-use Prim.Native.Nat.{◌+◌, ◌-◌, ◌≤◌}
-use Rattle.turn_rules.specs.Gaps.{some_to}
-use Rattle.turning.specs.Rows.{Marked, gap_with}
-use Rattle.turning.proofs.pair.Pair.gaps.Given as goal
-
-abbrev pub invariant-loop-v : goal.invariant-loop-v
-invariant-loop-v l = (l.v ≤ l.self.slots + 1) × Marked 0 l.gaps.bits (λ k. some_to (l.v - 1) (λ v. gap_with l.self.others l.self.word v k))

@@ -1,9 +1,0 @@
--- What stands before, the number and the newline, one behind the other. Assumes nothing.
-use Rattle.std.proofs.Common.{[], ◌∷◌}
-use Rattle.text.specs.Text.{decimal, newline}
-use Rattle.support_cli.proofs.Putting.{puts_three}
-use Rattle.words.proofs.printing.Out.line.Goals as goal
-
-pub returns : goal.returns
-unfolding newline
-returns g c = puts_three c.args.before.now (decimal c.args.n) (10 ∷ []) _ _ _ _ c.put.ensures c.number.ensures c.put-2.ensures
