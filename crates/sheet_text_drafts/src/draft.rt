@@ -7,7 +7,7 @@ use sheet_writer::{Edition, Rows};
 
 /// The draft of a sheet: what the statements so far say. Equals `Draft` of
 /// model_text/specs/Drafts.antt by `draft_in` of specs/Drafting.antt.
-#[derive(Drop)]
+#[derive(Clone, Copy)]
 pub struct Draft {
     /// n and the domains, without bans; n is zero before `slots` says them.
     pub problem: Problem,

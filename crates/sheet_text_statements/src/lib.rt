@@ -56,7 +56,7 @@ pub fn ban_in(args: &[u8]) -> Option<Ban>
 {
     let (first, rest) = next_word(args)?;
     let (second, rest) = next_word(rest)?;
-    if has_word(rest) {
+    if has_word(rest, 0) {
         return None;
     }
     let first = read_place(first)?;
@@ -78,7 +78,7 @@ pub fn gap_in(args: &[u8]) -> Option<Gap>
     let (b, rest) = next_word(rest)?;
     let (least, rest) = next_word(rest)?;
     let (greatest, rest) = next_word(rest)?;
-    if has_word(rest) {
+    if has_word(rest, 0) {
         return None;
     }
     Some(Gap {

@@ -38,9 +38,16 @@ pub fn next_word(s: &[u8]) -> Option<(&[u8], &[u8])>
     Some(word.split_at(word_length(word)))
 }
 
-/// Returns whether there is a word in `s`.
-pub fn has_word(s: &[u8]) -> bool
-    ensures { result ≡ ltb 0 (length (words_in s.now)) }
+/// Returns whether there is a word `k` in `s`, counted from 0.
+pub fn has_word(s: &[u8], k: usize) -> bool
+    ensures { result ≡ ltb k (length (words_in s.now)) }
 {
-    next_word(s).is_some()
+    let mut rest = s;
+    for _ in 0..k {
+        match next_word(rest) {
+            Some((_, behind)) => rest = behind,
+            None => return false,
+        }
+    }
+    next_word(rest).is_some()
 }

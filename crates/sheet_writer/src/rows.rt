@@ -7,24 +7,32 @@ use std::marker::Model;
 
 /// Records one behind the other, at most `N`; `N` is at most 4,224, the most that a sheet has. A
 /// clause sees them as a list.
-#[derive(Drop)]
+#[derive(Clone, Copy)]
 pub struct Rows<const N: usize> {
     rows: [Row; N],
     count: usize,
 }
 
-// Clauses see the records that are listed, in their order.
+// Clauses see the records that are listed, in their order. Behind them all is zero, so they say the
+// fields too.
 impl<const N: usize> Model for Rows<N> {
-    ghost use Rattle.std.specs.Prelude.{◌≤◌, List, take};
+    ghost use Rattle.std.specs.Prelude.{◌≡◌, ◌≤◌, ◌-◌, List, length, take, drop, replicate};
     ghost use Rattle.model_sheet.specs.Row.{Row as Record};
+    ghost use Rattle.sheet_writer.specs.Rows.{rows_of, no_row, padded};
+    ghost use Rattle.sheet_writer.specs.Listed.{length-listed, padded-listed};
 
     ghost Value = { List Record };
 
-    ghost use Rattle.sheet_writer.specs.Rows.{rows_of};
-
     ghost view = { λ r. rows_of (take r.count r.rows) };
 
-    ghost invariant = { (λ r. (r.count ≤ N) × (N ≤ 4224)) };
+    ghost invariant = { λ r. (r.count ≤ N) × (N ≤ 4224) × (length r.rows ≡ N) × (drop r.count r.rows ≡ replicate (N - r.count) no_row) };
+
+    ghost inverse = { λ records. record { rows = padded N records; count = length records } };
+
+    ghost inverse_ok = { λ r h i. record {
+      rows = padded-listed N r.count r.rows h.0 h.2 h.3 i;
+      count = length-listed N r.count r.rows h.0 h.2 i;
+    } };
 }
 
 impl<const N: usize> Rows<N> {
