@@ -49,6 +49,15 @@ named-range x (suc k) h e =
     (λ t. (omega arith, leb-true (suc k) 16 t))
     (λ t. absurd (omega (arith, known-true (assignment x (suc k)) e, assignment-above x (suc k) h (leb-false (suc k) 16 t))))
 
+-- and where the word is short, of twelve
+pub named-short : (x k : ℕ) → x < 281474976710656 → known (assignment x k) ≡ true → k ≤ 12
+unfolding assignment from_one
+named-short x zero h e = omega arith
+named-short x (suc k) h e =
+    test (leb (suc k) 12)
+    (λ t. leb-true (suc k) 12 t)
+    (λ t. absurd (omega (arith, known-true (digit x k) e, digit-above 12 x k h (omega (arith, leb-false (suc k) 12 t)))))
+
 -- ---- nobody from some agent on
 
 -- a short word is short with an agent's name taken off

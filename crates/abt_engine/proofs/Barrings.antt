@@ -51,3 +51,11 @@ module _ (bans : List ℕ) (j a : ℕ) (lo : 1 ≤ j) (hi : j ≤ 12) (e : a ≡
       (λ z. rw (z, get_or-set_same bars (j - 1) (Some b) None (rw wide (omega arith)), get_or-set_same agents (j - 1) agent no_agent (rw long (omega arith)), ← e) f)
       (λ n. rw (get_or-set_other bars (j - 1) (x - 1) (Some b) None (λ z. n (omega arith)), get_or-set_other agents (j - 1) (x - 1) agent no_agent (λ z. n (omega arith)))
       (h x l u))
+
+  -- its bars stored, and the agent as it stands
+  pub bars-kept : (agents : List Agent) (bars : List (Option Conflicts)) → length bars ≡ 12 → Barred bans agents bars → (b : Conflicts)
+      → BarsOf bans j a (get_or agents (j - 1) no_agent) b → Barred bans agents (set bars (j - 1) (Some b))
+  bars-kept agents bars wide h b f x l u =
+      eq_test x j
+      (λ z. rw (z, get_or-set_same bars (j - 1) (Some b) None (rw wide (omega arith)), ← e) f)
+      (λ n. rw (get_or-set_other bars (j - 1) (x - 1) (Some b) None (λ z. n (omega arith))) (h x l u))

@@ -133,6 +133,9 @@ pub fn work(r: Network, task: Task) -> Answer
                     Some(known) => known,
                     None => Conflicts::of(agent.view.digits, own, mine),
                 };
+                // stored before the step, so that it is not worked out again where the step finds no
+                // room
+                conflicts[at] = Some(barred);
                 let step = agent.receive(own, mine, barred, from, message);
                 // half of the steps of a long run are still: they send nothing, and their Backs
                 // are not moved

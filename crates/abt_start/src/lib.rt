@@ -8,11 +8,11 @@ ghost use Rattle.std.specs.Prelude.{◌≡◌, false, ℕ, ◌≤◌, ◌<◌, I
 ghost use Rattle.model_sheet.specs.Problem.{Problem as Problem', linked};
 ghost use Rattle.model_network.specs.Network.{start_sheet};
 ghost use Rattle.model_base.specs.Sets.{members};
-ghost use Rattle.abt_record.specs.Abstract.{network_of};
-ghost use Rattle.abt_record.specs.Empty.{empty_record};
+ghost use Rattle.abt_record.specs.Abstract.{network_of, no_place};
+ghost use Rattle.abt_record.specs.Empty.{empty_agent, empty_record};
 ghost use Rattle.abt_start.specs.Started.{StartsAs, started_network};
 
-use abt_agent::{Agent, Message};
+use abt_agent::{Agent, Assignment, Message, Traffic};
 use abt_choosing::AgentConfig;
 use abt_packed::{Members, with_digit};
 use abt_record::{Network, Place, is_rule};
@@ -52,6 +52,39 @@ fn informs(bans: &[u64; 66], n: u8, i: u8) -> u16
 
 // ---- the start
 
+// The agent at a place that no agent has.
+#[tactic(auto, unfolding(abt_record::specs::Empty::empty_agent, abt_agent::specs::Abstract::none_counted))]
+fn nobody() -> Agent
+    ensures { result ≡ empty_agent }
+{
+    let none = Traffic {
+        infos: 0,
+        backs: 0,
+        links: 0,
+    };
+    Agent {
+        value: 0,
+        last: 0,
+        nogood_mask: 0,
+        listens: 0,
+        informs: 0,
+        view: Assignment { digits: 0 },
+        nogoods: [0; 8],
+        sent: none,
+        received: none,
+    }
+}
+
+// What stands in a place of a channel where nothing waits.
+#[tactic(auto, unfolding(abt_record::specs::Abstract::no_place))]
+fn nothing() -> Place
+    ensures { result ≡ no_place }
+{
+    Place {
+        message: Message::Info(0),
+    }
+}
+
 /// Starts a network: every agent of the sheet's problem begins, and what it sends waits on its
 /// channels. `rule` is 1 or 2; `sheet` may be any bytes.
 ///
@@ -69,12 +102,17 @@ pub fn start(rule: u8, sheet: &[u8]) -> Result<Network, Rejection>
         domains,
         bans,
     } = sheet_reader::decode(sheet)?;
+    // all of it is made here: what is left of the empty network would be made apart, and moved
     let mut r = Network {
         count,
         rule,
         domains,
         bans,
-        ..abt_record::empty()
+        unsolvable: false,
+        agents: [nobody(); 12],
+        heads: [0; 12],
+        counts: [0; 12],
+        places: [nothing(); 1056],
     };
     // by number: an agent changes two arrays at its place, and places of its channels in a third
     for at in 0..count as usize {

@@ -1,5 +1,5 @@
 -- The work on a network: each goal by the laws that the invariants are built on.
-use Rattle.std.proofs.Common.{ℕ, ◌+◌, ◌-◌, ◌≤◌, Bool, false, not, cond, ◌&&◌, ◌≡◌, refl, sym, ap, ◌∙◌, arith, length, get_or, set, rules, Some}
+use Rattle.std.proofs.Common.{ℕ, ◌+◌, ◌-◌, ◌≤◌, Bool, false, not, cond, ◌&&◌, ◌≡◌, refl, sym, ap, ◌∙◌, arith, length, length-set, get_or, set, rules, Some}
 use mathlib.Core.Bool.{false≢true}
 use Rattle.model_base.specs.Finite.{at}
 use Rattle.abt_packed.specs.Packed.{assignment}
@@ -16,7 +16,7 @@ use Rattle.abt_engine.specs.Working.{ends_by}
 use Rattle.abt_engine.specs.Tasks.{work_by}
 use Rattle.abt_engine.proofs.After.{told-ten, told-goes, told-run, told-not-five, jams-run, jams-never}
 use Rattle.abt_engine.proofs.Ahead.{ahead_none, none-less, passed-less}
-use Rattle.abt_engine.proofs.Barrings.{no_agent, BarsOf, bars-had}
+use Rattle.abt_engine.proofs.Barrings.{no_agent, BarsOf, Barred, bars-had, bars-kept}
 use Rattle.abt_engine.proofs.Testing.{fresh-line, never-five}
 use Rattle.abt_engine.proofs.Here.{Here}
 use Rattle.abt_engine.proofs.Starting.{Began, running, found, breaks, refused, begins}
@@ -63,6 +63,14 @@ bars-now c =
       | in-None a ↦ rw a.barred-is a.of-barred.ensures
     ]
 
+-- .. and stored before the step
+barred-now : (c : Joined-conflicts-at)
+    → Barred c.args.r.bans c.visits.o.agents (set c.visits.conflicts (c.in-Some-next_visit.visit.to - 1) (Some c.match-conflicts-at.barred))
+barred-now c =
+    let e = line-ends c.visits.invariant.0 c.in-Some-next_visit.visit c.in-Some-next_visit.ensures in
+    let live = c.visits.invariant.0.live in
+    bars-kept _ _ _ e.to_low e.to_high c.words_before-words.ensures.0 _ _ live.beside live.barred _ (bars-now c)
+
 -- the agent has made its step
 stepped : (c : After-receive-step) → Stepped c.visits.o c.in-Some-next_visit.visit.from c.in-Some-next_visit.visit.to c.place_at.result c.receive-step.result
 stepped c =
@@ -101,11 +109,12 @@ unpassed c =
 gone : (c : After-one_less) (step : Stepped c.visits.o c.in-Some-next_visit.visit.from c.in-Some-next_visit.visit.to c.place_at.result c.receive-step.result)
     → Sent c.visits.o c.in-Some-next_visit.visit.to (posts_left c.receive-step.result.outbox c.receive-step.result.backs) c.if-not-step.o
     → (c.if-not-step.rest ≡ c.in-Some-next_visit.visit.rest) × (c.if-not-step.missed ≡ c.visits.missed)
-    → Here c.match-task.once.0 (work_by c.args.task (network_of c.args.r)) (arrived c.if-not-step.o c.in-Some-next_visit.visit.from c.in-Some-next_visit.visit.to c.one_further.result c.one_less.result c.put.new.place c.receive-step.result.unsolvable) c.args.r.count c.args.r.domains c.args.r.bans (set c.visits.conflicts (c.in-Some-next_visit.visit.to - 1) (Some c.receive-step.result.conflicts)) c.rounds.quota c.if-not-step.missed c.rounds.left c.rounds.made false c.in-Some-next_visit.visit.from c.if-not-step.rest
-gone c step sent unpassed =
+    → Barred c.args.r.bans c.visits.o.agents (set c.visits.conflicts (c.in-Some-next_visit.visit.to - 1) (Some c.match-conflicts-at.barred))
+    → Here c.match-task.once.0 (work_by c.args.task (network_of c.args.r)) (arrived c.if-not-step.o c.in-Some-next_visit.visit.from c.in-Some-next_visit.visit.to c.one_further.result c.one_less.result c.put.new.place c.receive-step.result.unsolvable) c.args.r.count c.args.r.domains c.args.r.bans (set (set c.visits.conflicts (c.in-Some-next_visit.visit.to - 1) (Some c.match-conflicts-at.barred)) (c.in-Some-next_visit.visit.to - 1) (Some c.receive-step.result.conflicts)) c.rounds.quota c.if-not-step.missed c.rounds.left c.rounds.made false c.in-Some-next_visit.visit.from c.if-not-step.rest
+gone c step sent unpassed barred =
     let h = c.visits.invariant.0 in
     rw (unpassed.0, unpassed.1, c.put.ensures)
-    (sent-goes h c.in-Some-next_visit.visit c.in-Some-next_visit.ensures (no-verdict h c.in-Some-next_visit.visit c.in-Some-next_visit.ensures c.visits.invariant.1) c.visits.conflicts h.live.beside h.live.barred step
+    (sent-goes h c.in-Some-next_visit.visit c.in-Some-next_visit.ensures (no-verdict h c.in-Some-next_visit.visit c.in-Some-next_visit.ensures c.visits.invariant.1) _ (rw length-set h.live.beside) barred step
     sent (record { head = c.one_further.ensures; count = c.one_less.ensures.0 }) _ c.words_before-words.ensures.0 c.receive-step.ensures.steps_as.conflicts_of)
 
 -- the rounds made, this one counted if it was full
@@ -202,6 +211,10 @@ bounds-conflicts-at c = let b = (visited (goal.at.bounds-conflicts-at c).In-Some
 pub bounds-conflicts-at-in-Some-next_visit : goal.bounds-conflicts-at-in-Some-next_visit
 bounds-conflicts-at-in-Some-next_visit c = let b = (visited (goal.at.bounds-conflicts-at-in-Some-next_visit c).In-Some-next_visit) in let z = c.visits.invariant.0.live.beside in search rules
 
+pub bounds-conflicts-at-in-Some-next_visit-2 : goal.bounds-conflicts-at-in-Some-next_visit-2
+bounds-conflicts-at-in-Some-next_visit-2 c =
+    let b = (visited (goal.at.bounds-conflicts-at-in-Some-next_visit-2 c).In-Some-next_visit) in omega (arith, b.to_low, b.to_high)
+
 pub receive-step-requires-clause-able : goal.receive-step-requires-clause-able
 receive-step-requires-clause-able c = (step-asks (finding (goal.at.receive-step-requires-clause-able c).After-place_at) no_agent _ _ c.words_before-words.result c.visits.invariant.0.live.owned c.visits.invariant.0.live.table c.words_before-words.ensures.0).0
 
@@ -234,7 +247,7 @@ pub visits-preserved-then-waiting-ge8 : goal.visits-preserved-then-waiting-ge8
 visits-preserved-then-waiting-ge8 c =
     let live = c.visits.invariant.0.live in
     let none = going (goal.at.visits-preserved-then-waiting-ge8 c).In-Some-next_visit in (
-      stored-jams c.visits.invariant.0 c.in-Some-next_visit.visit c.in-Some-next_visit.ensures none c.visits.conflicts live.beside live.barred (stepped (goal.at.visits-preserved-then-waiting-ge8 c).After-receive-step) (rw (ap envelopes_left c.into_iter-post-iterator.ensures.into_iter_gives) at c.posts.invariant.0)
+      stored-jams c.visits.invariant.0 c.in-Some-next_visit.visit c.in-Some-next_visit.ensures none _ (rw length-set live.beside) (barred-now (goal.at.visits-preserved-then-waiting-ge8 c).Joined-conflicts-at) (stepped (goal.at.visits-preserved-then-waiting-ge8 c).After-receive-step) (rw (ap envelopes_left c.into_iter-post-iterator.ensures.into_iter_gives) at c.posts.invariant.0)
           (turn-full (rw (ap envelopes_left c.into_iter-post-iterator.ensures.into_iter_gives) at c.posts.invariant.0) c.in-Some-post.post c.in-Some-post.ensures.steps _ c.digit-waiting.ensures.0 c.if-waiting-ge8.true) (c.with_digit-rest.ensures ∙ ap (λ (rest : ℕ). at (assignment rest) c.in-Some-next_visit.visit.to 0) c.posts.invariant.1),
       λ t. absurd (false≢true (sym none ∙ sym c.posts.invariant.0.kept.unsolvable ∙ t)),
     )
@@ -287,10 +300,10 @@ pub visits-smaller-then-step : goal.visits-smaller-then-step
 visits-smaller-then-step c = none-less _ _ c.in-Some-next_visit.ensures
 
 pub visits-preserved-then-step : goal.visits-preserved-then-step
-visits-preserved-then-step c = (passes-all (let at = goal.at.visits-preserved-then-step c in gone at.After-one_less (stepped at.After-receive-step) (sent at.Joined-not-step (stepped at.After-receive-step)) (unpassed at.Joined-not-step)) c.next_visit-then-step.result c.next_visit-then-step.ensures c.is_some.result c.is_some.ensures c.if-step.true, λ _. ahead_none c.rounds.quota c.args.r.count c.args.r.count 0 refl (omega arith))
+visits-preserved-then-step c = (passes-all (let at = goal.at.visits-preserved-then-step c in gone at.After-one_less (stepped at.After-receive-step) (sent at.Joined-not-step (stepped at.After-receive-step)) (unpassed at.Joined-not-step) (barred-now at.Joined-conflicts-at)) c.next_visit-then-step.result c.next_visit-then-step.ensures c.is_some.result c.is_some.ensures c.if-step.true, λ _. ahead_none c.rounds.quota c.args.r.count c.args.r.count 0 refl (omega arith))
 
 pub visits-preserved : goal.visits-preserved
-visits-preserved c = ((let at = goal.at.visits-preserved c in gone at.After-one_less (stepped at.After-receive-step) (sent at.Joined-not-step (stepped at.After-receive-step)) (unpassed at.Joined-not-step)), λ t. absurd (false≢true (sym c.if-step.false ∙ t)))
+visits-preserved c = ((let at = goal.at.visits-preserved c in gone at.After-one_less (stepped at.After-receive-step) (sent at.Joined-not-step (stepped at.After-receive-step)) (unpassed at.Joined-not-step) (barred-now at.Joined-conflicts-at)), λ t. absurd (false≢true (sym c.if-step.false ∙ t)))
 
 pub returns-after-not-once : goal.returns-after-not-once
 returns-after-not-once c =

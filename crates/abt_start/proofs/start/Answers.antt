@@ -9,6 +9,7 @@ use Rattle.abt_choosing.specs.Conflicts.{self_of as own_of}
 use Rattle.abt_agent.specs.Abstract.{message_of}
 use Rattle.abt_agent.specs.Entries.{BeginsAs}
 use Rattle.abt_record.specs.Abstract.{is_channel, channel_at, place_of}
+use Rattle.abt_record.specs.Empty.{empty_record}
 use Rattle.sheet_reader.specs.Abstract.{problem_of}
 use Rattle.abt_start.proofs.Telling.{telling-begins, telling-goes}
 use Rattle.abt_start.proofs.Beginning.{begun-by, not_beyond, informs-below}
@@ -16,10 +17,10 @@ use Rattle.abt_start.proofs.Turns.{none-begun, told-channel, one_more}
 use Rattle.abt_start.proofs.Opened.{opened, all-opened}
 use Rattle.abt_start.proofs.Sheets.{bad_ruled, refused, in-range, few-agents, starts}
 use Rattle.abt_start.proofs.start.Goals as goal
-use Rattle.abt_start.proofs.start.Goals.{After-begin-agent, After-empty, In-loop-at}
+use Rattle.abt_start.proofs.start.Goals.{After-begin-agent, After-nothing, In-loop-at}
 
 -- the problem is in range, and has twelve agents at the most
-ranged : (c : After-empty) → Ranged (problem_of c.in_ok-count.field-0)
+ranged : (c : After-nothing) → Ranged (problem_of c.in_ok-count.field-0)
 ranged c = in-range c.args.rule c.args.sheet.now (sym c.if-not-is_rule.ensures) c.in_ok-count.field-0 c.in_ok-count.ensures
 
 few : (c : In-loop-at) → c.loop-at.at < 12
@@ -52,7 +53,8 @@ returns-in_err-count c =
     rw (p.1, p.2) (refused _ _ (sym c.if-not-is_rule.ensures) c.in_err-count.field-0.0 c.in_err-count.ensures)
 
 pub loop-at-init : goal.loop-at-init
-loop-at-init c = none-begun _ _ c.empty.result c.empty.ensures.0
+unfolding empty_record
+loop-at-init c = rw (c.nobody.ensures, c.nothing.ensures) (none-begun _ _ empty_record refl)
 
 pub bounds-domains-at : goal.bounds-domains-at
 bounds-domains-at c =
@@ -68,7 +70,7 @@ informs-requires c =
 pub begin-agent-requires-clause-own_fits : goal.begin-agent-requires-clause-own_fits
 unfolding max_domain problem_of domain
 begin-agent-requires-clause-own_fits c =
-    let r = ranged (goal.at.begin-agent-requires-clause-own_fits c).After-empty in
+    let r = ranged (goal.at.begin-agent-requires-clause-own_fits c).After-nothing in
     let v = r.domained (suc c.loop-at.at) (omega arith) (omega (arith, c.loop-at-test.true)) in
     record { first = omega arith; last = omega (arith, few (goal.at.begin-agent-requires-clause-own_fits c).In-loop-at); some = v.0; few = v.1 }
 
@@ -76,7 +78,7 @@ pub begin-agent-requires-clause-below : goal.begin-agent-requires-clause-below
 unfolding problem_of
 begin-agent-requires-clause-below c =
     let p = problem_of c.in_ok-count.field-0 in
-    let r = ranged (goal.at.begin-agent-requires-clause-below c).After-empty in
+    let r = ranged (goal.at.begin-agent-requires-clause-below c).After-nothing in
     λ j l u e. let q = linked-pair p (c.loop-at.at + 1) j (rw (c.informs.ensures p refl (not_beyond p r (c.loop-at.at + 1))) at e) in (q.1, q.2)
 
 pub bounds-r-at : goal.bounds-r-at
