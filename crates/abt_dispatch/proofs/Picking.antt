@@ -29,9 +29,8 @@ use Rattle.abt_record.specs.Abstract.{network_of}
 use Rattle.abt_dispatch.specs.declared.Line.{Line}
 use Rattle.abt_dispatch.specs.declared.Dispatcher.{Dispatcher}
 use Rattle.abt_dispatch.specs.declared.Picked.{Picked}
-use Rattle.abt_dispatch.specs.declared.turns.Found.{Found}
 use Rattle.abt_dispatch.specs.Abstract.{line_of, dispatcher_of, tested_by, nothing_by, PicksAs}
-use Rattle.abt_dispatch.specs.Walking.{SearchedAs}
+use Rattle.abt_dispatch.specs.Walking.{SearchedAs, Found}
 use Rattle.abt_dispatch.proofs.Standing.{running}
 use Rattle.abt_dispatch.proofs.Turning.{found_is, none-is}
 

@@ -10,9 +10,8 @@ use Rattle.model_dispatch.specs.Dispatch.{up_to, turn, first_of}
 use Rattle.abt_record.specs.declared.Network.{Network}
 use Rattle.abt_record.specs.Abstract.{problem_of, network_of}
 use Rattle.abt_dispatch.specs.declared.Line.{Line}
-use Rattle.abt_dispatch.specs.declared.turns.Found.{Found}
 use Rattle.abt_dispatch.specs.Abstract.{line, line_of}
-use Rattle.abt_dispatch.specs.Walking.{ahead, ahead_of, last_line, SearchedAs}
+use Rattle.abt_dispatch.specs.Walking.{ahead, ahead_of, last_line, SearchedAs, Found, found_in}
 use Rattle.abt_dispatch.proofs.Searching.{turn-start, turn-parts, first-early, first-late}
 
 -- ---- what a search answers
@@ -113,3 +112,8 @@ module _ (r : Network) (i j : ℕ) where
         let e = none-is r (Ahead None o) x in
         subst (λ (p : Option Line'). SearchedAs r p t) (sym (parts ∙ first-late (network_of r) late early (first ∙ e))) y
     before (Some f) n x t y = absurd (false≢true (sym n))
+
+-- something is found where a line is
+pub found-some : (o : Option Line) (left : Network) → is_some (found_in o left) ≡ is_some o
+found-some None left = refl
+found-some (Some l) left = refl

@@ -1,13 +1,12 @@
 -- What the dispatcher's record means, and what an answer does. A primed name is the definitions'.
-use Rattle.std.specs.Prelude.{ℕ, ◌≡◌, true, false, Option, MatchOption, Result, Ok, Err, None, Some}
+use Rattle.std.specs.Prelude.{ℕ, ◌≡◌, true, false, Option, Result, Ok, Err, None, Some}
 use Rattle.support_rejection.specs.Rejections.{rejection_number}
 use Rattle.support_rejection.specs.declared.Rejection.{Rejection}
 use Rattle.model_network.specs.Network.{Network}
 use Rattle.model_network.specs.Shape.{in_shape}
-use Rattle.model_network.specs.Delivery.{BadShape, VerdictStands, EmptyChannel, NoRoom, rejection_number as rejection_number', answer_number, deliver}
+use Rattle.model_network.specs.Delivery.{BadShape, VerdictStands, EmptyChannel, NoRoom, rejection_number as rejection_number', answer_number}
 use Rattle.model_network.specs.Run.{Line as Line', idle}
-use Rattle.model_dispatch.specs.Dispatch.{deliverable, Dispatcher as Dispatcher', Pick}
-use Rattle.abt_record.specs.declared.Network.{Network as Record}
+use Rattle.model_dispatch.specs.Dispatch.{Dispatcher as Dispatcher', Pick}
 use Rattle.abt_record.specs.Abstract.{network_of}
 use Rattle.abt_dispatch.specs.declared.Line.{Line}
 use Rattle.abt_dispatch.specs.declared.Dispatcher.{Dispatcher}
@@ -33,11 +32,6 @@ tested_by w =
 -- "When no line can be delivered: 8 with nothing waiting, 10 otherwise"
 unfoldable pub nothing_by : Network → ℕ
 nothing_by w = elim (idle w) [ true ↦ rejection_number' EmptyChannel | false ↦ rejection_number' NoRoom ]
-
--- a delivery on this line, where it is accepted, leaves this network
-abbrev pub DeliveredAs : Network → Line' → Option Record → Type 0
-DeliveredAs w l o =
-    MatchOption o (deliverable w l ≡ false) (λ r. (deliverable w l ≡ true) × (network_of r ≡ (deliver w l.from l.to).network))
 
 -- number 0 and the line served, or the refusal's number and no line
 abbrev pub answered_number : Result Line Rejection → ℕ

@@ -7,7 +7,6 @@ use Rattle.model_dispatch.specs.Dispatch.{lines_from}
 use Rattle.abt_record.specs.declared.Network.{Network}
 use Rattle.abt_record.specs.Abstract.{network_of}
 use Rattle.abt_dispatch.specs.declared.Line.{Line}
-use Rattle.abt_dispatch.specs.declared.turns.Found.{Found}
 use Rattle.abt_dispatch.specs.Abstract.{line, line_of}
 
 -- the line from i to j, where it is one
@@ -43,6 +42,15 @@ pub record NextOf (n : ℕ) (l : Line) (o : Option Line) : Type 0 where
   pub same : ahead n l.from (suc l.to) ≡ ahead_of n o
   pub stands : IfSome o (Stands n)
   pub further : IfSome o (λ m. order l < order m)
+
+-- what a search found: the line served, and the network after its delivery
+pub record Found : Type 0 where
+  pub line : Line
+  pub network : Network
+
+abbrev pub found_in : Option Line → Network → Option Found
+found_in None left = None
+found_in (Some l) left = Some (record { line = l; network = left })
 
 -- a search on r that finds this line, or none: the line is served
 abbrev pub SearchedAs : Network → Option Line' → Option Found → Type 0

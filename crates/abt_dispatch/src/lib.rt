@@ -10,14 +10,14 @@ ghost use Rattle.model_agent.specs.Traffic.{raised};
 ghost use Rattle.model_dispatch.specs.Dispatch.{turn, first_of, is_odd, evenly, pick as pick_by, dispatcher};
 ghost use Rattle.abt_record.specs.Abstract.{network_of};
 ghost use Rattle.abt_engine.specs.Refused.{rejected_number};
-ghost use Rattle.abt_dispatch.specs.Abstract.{line_of, dispatcher_of, tested_by, nothing_by, DeliveredAs, PicksAs};
+ghost use Rattle.abt_dispatch.specs.Abstract.{line_of, dispatcher_of, tested_by, nothing_by, PicksAs};
 
 mod turns;
 
 use abt_engine::Ending;
 use abt_record::Network;
 use support_rejection::Rejection;
-use turns::{Found, next_in_turn};
+use turns::next_in_turn;
 
 /// A channel (line), by its ends. Any two numbers may stand here, as a host may wish or store them.
 #[derive(Clone, Copy, Debug, PartialEq, Eq)]
@@ -84,8 +84,8 @@ fn one_more(picks: u64) -> u64
 
 // The first of 5 and 7 that a pick meets, if it meets one.
 #[tactic(auto, unfolding(crate::specs::Abstract::tested_by, model_network::specs::Delivery::rejection_number, abt_record::specs::Abstract::network_of))]
-fn first_rejection(r: Network) -> Option<Rejection>
-    ensures { rejected_number result ≡ tested_by (network_of r) }
+fn first_rejection(r: &Network) -> Option<Rejection>
+    ensures { rejected_number result ≡ tested_by (network_of r.now) }
 {
     if !r.is_in_shape() {
         Some(Rejection::BadShape)
@@ -97,35 +97,25 @@ fn first_rejection(r: Network) -> Option<Rejection>
 }
 
 // 8 where nothing waits, 10 where something does. A run that may use no round tells which.
-fn none_deliverable(r: Network) -> Rejection
-    requires { tested_by (network_of r) ≡ 0 }
-    ensures { rejection_number result ≡ nothing_by (network_of r) }
+fn none_deliverable(r: &Network) -> Rejection
+    requires { tested_by (network_of r.now) ≡ 0 }
+    ensures { rejection_number result ≡ nothing_by (network_of r.now) }
 {
-    match abt::run(r, 0).ending {
+    match abt::run(*r, 0).ending {
         Ending::Plan => Rejection::EmptyChannel,
         _ => Rejection::NoRoom,
     }
 }
 
-// The network after a delivery on this channel, where it is accepted.
-fn delivered(r: Network, line: Line) -> Option<Network>
-    ensures { DeliveredAs (network_of r) (line_of line) result }
-{
-    let a = abt::deliver(r, line.from, line.to);
-    match a.rejection {
-        None => Some(a.network),
-        Some(_) => None,
-    }
-}
-
 // An even pick, past 5 and 7: the first channel in turn that can be delivered is served, and is the
 // place from then on.
-fn pick_in_turn(d: Dispatcher) -> Picked
-    requires { tested_by (network_of d.network) ≡ 0 }
-    ensures { PicksAs d (evenly (dispatcher_of d) (first_of (network_of d.network) (turn (network_of d.network) (line_of d.place)))) result }
+fn pick_in_turn(d: &Dispatcher) -> Picked
+    requires { tested_by (network_of d.now.network) ≡ 0 }
+    ensures { PicksAs d.now (evenly (dispatcher_of d.now) (first_of (network_of d.now.network) (turn (network_of d.now.network) (line_of d.now.place)))) result }
 {
-    match next_in_turn(d.network, d.place) {
-        Some(Found { line, network }) => Picked {
+    let mut network = d.network;
+    match next_in_turn(&d.network, d.place, &mut network) {
+        Some(line) => Picked {
             answer: Ok(line),
             state: Dispatcher {
                 network,
@@ -134,8 +124,8 @@ fn pick_in_turn(d: Dispatcher) -> Picked
             },
         },
         None => Picked {
-            answer: Err(none_deliverable(d.network)),
-            state: d,
+            answer: Err(none_deliverable(&d.network)),
+            state: *d,
         },
     }
 }
@@ -152,23 +142,24 @@ fn pick_in_turn(d: Dispatcher) -> Picked
 pub fn pick(d: Dispatcher, wish: Line) -> Picked
     ensures { PicksAs d (pick_by (dispatcher_of d) (line_of wish)) result }
 {
-    if let Some(rejection) = first_rejection(d.network) {
+    if let Some(rejection) = first_rejection(&d.network) {
         return Picked {
             answer: Err(rejection),
             state: d,
         };
     }
     if is_odd(d.picks) {
-        if let Some(network) = delivered(d.network, wish) {
+        let answer = abt::deliver(d.network, wish.from, wish.to);
+        if answer.rejection.is_none() {
             return Picked {
                 answer: Ok(wish),
                 state: Dispatcher {
-                    network,
+                    network: answer.network,
                     picks: one_more(d.picks),
                     ..d
                 },
             };
         }
     }
-    pick_in_turn(d)
+    pick_in_turn(&d)
 }

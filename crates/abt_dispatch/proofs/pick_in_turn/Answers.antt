@@ -9,7 +9,7 @@ unfolding network_of problem_of
 next_in_turn-requires c = sized _ c.requires
 
 pub returns-in-Some : goal.returns-in-Some
-returns-in-Some c = in-turn _ _ c.in-Some.ensures _ c.one_more.ensures
+returns-in-Some c = in-turn _ _ (rw c.in-Some.is at c.next_in_turn.ensures) _ c.one_more.ensures
 
 pub returns-in-None : goal.returns-in-None
-returns-in-None c = nothing _ c.in-None.ensures _ c.none_deliverable.ensures
+returns-in-None c = nothing _ (rw c.in-None.is at c.next_in_turn.ensures) _ c.none_deliverable.ensures
