@@ -121,7 +121,7 @@ fn write_told<R: Read, W: Write, E: Write>(
     hand_over(output, errors, length, text)
 }
 
-// ---- the command line
+// ---- the room that each command takes
 
 // Room for the longest text, and one byte more.
 fn room() -> [u8; 1048577]
@@ -129,6 +129,30 @@ fn room() -> [u8; 1048577]
 {
     [0; 1048577]
 }
+
+// Each command's room is made here, and not where the command is chosen: there the room of both
+// would be cleared, whichever it is.
+fn sheet_of_input<R: Read, W: Write, E: Write>(
+    input: &mut Input<R>,
+    output: &mut Output<W>,
+    errors: &mut Output<E>,
+) -> Status
+    ensures { Behaves (suc longest_text) sheet_answer (input_of R.remaining input.old) (input_of R.remaining input.new) (output_of W.contents output.old) (output_of W.contents output.new) (output_of E.contents errors.old) (output_of E.contents errors.new) (status_code result) }
+{
+    write_sheet(&mut room(), &mut [0; 33816], input, output, errors)
+}
+
+fn text_of_input<R: Read, W: Write, E: Write>(
+    input: &mut Input<R>,
+    output: &mut Output<W>,
+    errors: &mut Output<E>,
+) -> Status
+    ensures { Behaves (suc longest_sheet) text_answer (input_of R.remaining input.old) (input_of R.remaining input.new) (output_of W.contents output.old) (output_of W.contents output.new) (output_of E.contents errors.old) (output_of E.contents errors.new) (status_code result) }
+{
+    write_told(&mut [0; 33817], &mut [0; 67614], input, output, errors)
+}
+
+// ---- the command line
 
 /// Runs `scribe sheet` or `scribe text`: reads a text on `input` and writes its sheet on `output`,
 /// or the other way round, or writes one line on `errors` that says why there is none; returns the
@@ -155,7 +179,7 @@ pub fn scribe<R: Read, W: Write, E: Write>(
         return complain(output, errors, surplus_is, surplus, Status::NotUnderstood);
     }
     match command {
-        Command::Sheet => write_sheet(&mut room(), &mut [0; 33816], input, output, errors),
-        Command::Text => write_told(&mut [0; 33817], &mut [0; 67614], input, output, errors),
+        Command::Sheet => sheet_of_input(input, output, errors),
+        Command::Text => text_of_input(input, output, errors),
     }
 }

@@ -19,7 +19,10 @@ pub fn put(out: &mut [u8], at: usize, s: &[u8])
     requires { at + length s.now ≤ length out.old }
     ensures { out.new ≡ take at out.old ++ s.now ++ drop (at + length s.now) out.old }
 {
-    out[at..at + s.len()].copy_from_slice(s);
+    // byte by byte: `copy_from_slice` would have an archive for C ask for `memmove`
+    for (i, byte) in s.iter().enumerate() {
+        out[at + i] = *byte;
+    }
 }
 
 /// Appends `n` in decimal without leading zeros, at most 20 bytes. The buffer must have room for as

@@ -14,14 +14,27 @@ fn is_given(rt: &impl Env, i: usize) -> bool {
     !matches!(rt.arg(i, &mut first), Err(FillError::NotPresent))
 }
 
-// Returns a copy of word i. A word that is absent, or longer than the system passes, is copied as
-// the empty word.
-fn copied(rt: &impl Env, i: usize, alloc: Global) -> Result<Vec<u8>, AllocError>
+// Returns a copy of word i, by way of `space`. A word that is absent, or longer than the system
+// passes, is copied as the empty word.
+fn copied(rt: &impl Env, i: usize, space: &mut [u8], alloc: Global) -> Result<Vec<u8>, AllocError>
     ensures { IfOk result (λ word. vec_len word ≤ 131072) }
 {
-    let mut word = [0u8; LONGEST_WORD];
-    let count = rt.arg(i, &mut word).unwrap_or(0);
-    word[..count].to_vec(alloc)
+    let count = rt.arg(i, space).unwrap_or(0).min(LONGEST_WORD);
+    space[..count].to_vec(alloc)
+}
+
+// The words from word 1 on, each copied by way of `space`.
+fn words_by(rt: &impl Env, space: &mut [u8], alloc: Global) -> Result<Vec<Vec<u8>>, AllocError>
+    ensures { IfOk result (λ words. All (λ word. vec_len word ≤ 131072) words.items) }
+{
+    let mut words = Vec::new(alloc);
+    for i in 1..usize::MAX {
+        if !is_given(rt, i) {
+            break;
+        }
+        words.push(copied(rt, i, space, alloc)?)?;
+    }
+    Ok(words)
 }
 
 /// Returns the words of the command line without the program's name, as they were given: any bytes,
@@ -32,14 +45,13 @@ fn copied(rt: &impl Env, i: usize, alloc: Global) -> Result<Vec<u8>, AllocError>
 pub fn words_of(rt: &impl Env, alloc: Global) -> Result<Vec<Vec<u8>>, AllocError>
     ensures { IfOk result (λ words. All (λ word. vec_len word ≤ 131072) words.items) }
 {
-    let mut words = Vec::new(alloc);
-    for i in 1..usize::MAX {
-        if !is_given(rt, i) {
-            break;
-        }
-        words.push(copied(rt, i, alloc)?)?;
+    if !is_given(rt, 1) {
+        return Ok(Vec::new(alloc));
     }
-    Ok(words)
+    // one for all words, since to clear one for each takes longer than to copy a short word; and on
+    // the heap, so that no program needs more of the stack for its words
+    let mut space = vec![in alloc; 0u8; LONGEST_WORD]?;
+    words_by(rt, &mut space, alloc)
 }
 
 /// Returns the first word and those behind it, or `None` where there is none.

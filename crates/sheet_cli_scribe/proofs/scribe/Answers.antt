@@ -21,10 +21,10 @@ pub returns-in-Sheet : goal.returns-in-Sheet
 returns-in-Sheet g c =
     let known = sym c.command_of.ensures ∙ c.in-Some-command_of.is ∙ ap Some c.in-Sheet.is in
     let alone = c.in_default-first_word.ensures in
-    behaves_so _ _ _ _ (taken_whole _ _ _ c.in-Some.ensures _ known alone) (answered _ _ _ c.in-Some.ensures _ known alone) c.write_sheet.ensures
+    behaves_so _ _ _ _ (taken_whole _ _ _ c.in-Some.ensures _ known alone) (answered _ _ _ c.in-Some.ensures _ known alone) c.sheet_of_input.ensures
 
 pub returns-in-Text : goal.returns-in-Text
 returns-in-Text g c =
     let known = sym c.command_of.ensures ∙ c.in-Some-command_of.is ∙ ap Some c.in-Text.is in
     let alone = c.in_default-first_word.ensures in
-    behaves_so _ _ _ _ (taken_whole _ _ _ c.in-Some.ensures _ known alone) (answered _ _ _ c.in-Some.ensures _ known alone) c.write_told.ensures
+    behaves_so _ _ _ _ (taken_whole _ _ _ c.in-Some.ensures _ known alone) (answered _ _ _ c.in-Some.ensures _ known alone) c.text_of_input.ensures
