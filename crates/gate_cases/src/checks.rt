@@ -46,9 +46,10 @@ fn channel_in(n: Numbers) -> Option<Channel> {
 
 // ---- run and delivery
 
-// The line names the word for how a run ended, behind `run`: the first letter tells.
+// The line names the word for how a run ended, behind `run`: the first letter tells. A run on a
+// network out of shape has no word, and a blank stands for it.
 fn names(text: &[u8], e: Ending) -> bool {
-    text.len() > 4 && word_for(e).first() == Some(&text[4])
+    text.len() > 4 && *word_for(e).first().unwrap_or(&b' ') == text[4]
 }
 
 fn number_of(rejection: Rejection) -> u64 {

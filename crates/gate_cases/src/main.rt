@@ -79,18 +79,20 @@ impl Tally {
         }
     }
 
-    // Prints a line that did not find what it must, with the number that it found.
+    // Prints a line that did not find what it must, with the number that it found. No number is as
+    // good as 0: `refused 0` is a sheet, or a delivery, that is accepted.
     fn judge(&mut self, out: Screen, line: Line<'_>, found: Found) -> Screen {
         if let Some(kind) = line.kind {
             self.count(kind);
         }
-        if found.right && found.number == expected(line) {
+        let number = found.number.unwrap_or(0);
+        if found.right && number == expected(line).unwrap_or(0) {
             return out;
         }
         self.failed = self.failed.saturating_add(1);
         out.put(b"failed: ")
             .put(line.text)
-            .line(b", but found ", found.number.unwrap_or(0))
+            .line(b", but found ", number)
     }
 
     // Prints how many checks of each sort were made; none at all is a failure.

@@ -45,6 +45,11 @@ fn try_run(t: &mut Tally, rail: Network, sheet: Sheet, ordinal: u64) {
     }
 }
 
+// Up to three scanners with one slot or two, as all little sheets have.
+fn is_little(rail: &Network) -> bool {
+    rail.count <= 3 && rail.domains.iter().all(|d| *d <= 2)
+}
+
 fn try_sheet(
     t: &mut Tally,
     seen: &mut Problems,
@@ -63,6 +68,7 @@ fn try_sheet(
             t.different.add(1);
         }
         t.judge(ordinal, new, b"a problem that was met before");
+        t.judge(ordinal, is_little(&rail), b"no little problem");
         try_run(t, rail, sheet, ordinal);
     }
     Ok(())

@@ -8,6 +8,8 @@
 //! all                    all the little sheets go onto the stream
 //! season                 what `season` prints of the stream; the next one is empty
 //! ```
+//!
+//! A stream holds 524,288 bytes. What does not fit is left out.
 #![tactic(auto)]
 
 use abt_words::printing::{Out, Screen};
@@ -20,11 +22,22 @@ use support_cli::Input;
 
 // ---- the stream
 
+// The most bytes that a stream holds: room for all the little sheets.
+const ROOM: usize = 524288;
+
+// Adds bytes, if there is room; else the stream stays.
+fn add(stream: &mut Vec<u8>, bytes: &[u8]) -> Result<(), AllocError> {
+    if ROOM.saturating_sub(stream.len()) < bytes.len() {
+        return Ok(());
+    }
+    stream.extend_from_slice(bytes)
+}
+
 // Adds a sheet behind its length.
 fn add_framed(stream: &mut Vec<u8>, sheet: &[u8]) -> Result<(), AllocError> {
     let n = (sheet.len() % 65536) as u16;
-    stream.extend_from_slice(&n.to_le_bytes())?;
-    stream.extend_from_slice(sheet)
+    add(stream, &n.to_le_bytes())?;
+    add(stream, sheet)
 }
 
 fn add_little_sheets(stream: &mut Vec<u8>) -> Result<(), AllocError> {
@@ -69,7 +82,7 @@ impl Desk {
     fn follow(&mut self, line: Line<'_>) -> Result<(), AllocError> {
         match line.kind {
             Some(Kind::Add) => add_framed(&mut self.stream, self.sheet.as_bytes())?,
-            Some(Kind::Raw) => self.stream.extend_from_slice(self.sheet.as_bytes())?,
+            Some(Kind::Raw) => add(&mut self.stream, self.sheet.as_bytes())?,
             Some(Kind::All) => add_little_sheets(&mut self.stream)?,
             Some(Kind::Season) => self.put_season(),
             Some(Kind::Case) | None => self.out = self.out.put(line.text).put(b"\n"),
